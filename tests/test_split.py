@@ -1,5 +1,5 @@
-"""Sessions in parts by mte_split, and by tools/batch with it: they make the report of mte_host, byte
-for byte, and a part that is missing, there twice, damaged or of another session is refused."""
+"""Sessions in parts by mte_split, and by tools/batch with it: they make the report of mte_host,
+byte for byte, and a part that is missing, there twice, damaged or of another session is refused."""
 
 import hashlib
 import os
@@ -424,10 +424,11 @@ def test_batch_over_dask(made: Batch, split: pathlib.Path) -> None:
 
 def test_batch_usage(made: Batch) -> None:
     """Without mte_split nothing is run."""
-    for options, extra, said in (
-            (("--sample", "3", "--elsewhere", "true"), {}, "--split takes no --sample"),
-            ((), {"TOMBOLOPAN_SPLIT": "/absent"}, "mte_split is not found")):
-        ran = Batch(made.sessions, {**made.extra, **extra}, made.options).run(*options)
+    for options, path, said in (
+            (("--sample", "3", "--elsewhere", "true"), "", "--split takes no --sample"),
+            ((), "/absent", "mte_split is not found")):
+        extra = {"TOMBOLOPAN_SPLIT": path or made.extra["TOMBOLOPAN_SPLIT"]}
+        ran = Batch(made.sessions, extra, made.options).run(*options)
         assert (ran.status, ran.output) == (2, "") and said in ran.errors
 
 

@@ -47,15 +47,15 @@ def output_of(answer: Answer) -> bytes:
 def is_part(text: bytes) -> bool:
     """Whether a text is a part of a session as it was made: its last line has the sum of it."""
     found = PART.fullmatch(text)
-    return found is not None and hashlib.sha256(
-        text[:-LAST_LINE]).hexdigest().encode() == found[1]
+    total = hashlib.sha256(text[:-LAST_LINE]).hexdigest()
+    return found is not None and total.encode() == found[1]
 
 
 def is_of_bytes(answer: Answer) -> bool:
     """Whether a session that is read, or a part of one, may be answered so: a report or a part
-    without a word on standard error, or a faulty line without a report. All else, as want of memory, a full disk, a signal or the
-    status of a program that is not mte_host, says something of a machine and nothing of a session.
-    """
+    without a word on standard error, or a faulty line without a report. All else, as want of
+    memory, a full disk, a signal or the status of a program that is not mte_host, says something of
+    a machine and nothing of a session."""
     if answer.status == OK:
         is_report = REPORT.fullmatch(answer.out) is not None
         return not answer.err and (is_report or is_part(answer.out))

@@ -86,7 +86,8 @@ def parse(words: Sequence[str] | None) -> argparse.Namespace:
         help="run over the scheduler of Dask at ADDRESS; without it over one on this machine")
     add("--split", action="store_true",
         help="run each session by its tenants, with mte_split, which --program then names too")
-    add("--share", type=share, metavar="I/N", help="take the Ith of N shares of the sessions alone; with --split, of their parts")
+    add("--share", type=share, metavar="I/N",
+        help="take the Ith of N shares of the sessions alone; with --split, of their parts")
     add("--sample", type=between(0, 100), metavar="PERCENT",
         help="run so many of a hundred once more by --elsewhere, and compare")
     add("--elsewhere", action="append", default=[], metavar="COMMAND",

@@ -130,7 +130,8 @@ def process_answer(job: Job, command: Sequence[str], seconds: float | None) -> R
 def find_split() -> str:
     """The path of mte_split: what the variable names, or that of this checkout, or of the prefix in
     which this is installed, or of the PATH; empty where there is none."""
-    near = pathlib.Path(__file__).resolve().parents[2] / "crates" / "mte_split" / "out" / "mte_split"
+    top = pathlib.Path(__file__).resolve().parents[2]
+    near = top / "crates" / "mte_split" / "out" / "mte_split"
     there = str(near) if near.is_file() else shutil.which("mte_split") or ""
     named = os.environ.get(SPLIT) or there
     return str(pathlib.Path(named).resolve()) if os.path.isfile(named) else ""

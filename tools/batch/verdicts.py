@@ -36,8 +36,8 @@ class Verdict:
 @dataclass
 class Work:
     """What a run did beside its verdicts: the sum of its program, how often sessions were lost and
-    tried again, how many parts of sessions were run and kept, how many answers could not be kept and why, how many were run elsewhere too, and
-    how many of these were lost there."""
+    tried again, how many parts of sessions were run and kept, how many answers could not be kept
+    and why, how many were run elsewhere too, and how many of these were lost there."""
 
     program: str = ""
     retries: int = 0

@@ -1,6 +1,6 @@
 //! The command line.
 
-use crate::request::{Request, Wanted};
+use crate::request::{SplitRequest, Wanted};
 use clap::error::ErrorKind;
 use clap::{Arg, ArgAction, ArgGroup, ArgMatches, Command, Error, value_parser};
 use mte_program::collect_words;
@@ -11,7 +11,7 @@ use std::{env, io};
 #[derive(Drop)]
 pub enum SplitInvocation {
     /// A part, or the whole report.
-    Run(Request),
+    Run(SplitRequest),
     /// Nothing more: help or a usage fault was printed. The exit status.
     Exit(u8),
     /// An allocation failed.
@@ -53,7 +53,7 @@ fn print_text(rt: &HostRuntime, error: &Error) -> SplitInvocation {
 }
 
 /// Reads the words of a command line; `None` where an allocation failed.
-fn parse(alloc: Global, words: &[String]) -> Result<Option<Request>, Error> {
+fn parse(alloc: Global, words: &[String]) -> Result<Option<SplitRequest>, Error> {
     let matches = command(alloc)?.try_get_matches_from(words)?;
     Ok(request_of(alloc, &matches).ok())
 }
@@ -115,8 +115,8 @@ fn files<'a>(alloc: Global) -> Arg<'a> {
 }
 
 /// The values of a command line that `clap` accepted.
-fn request_of(alloc: Global, matches: &ArgMatches<'_>) -> Result<Request, AllocError> {
-    Ok(Request {
+fn request_of(alloc: Global, matches: &ArgMatches<'_>) -> Result<SplitRequest, AllocError> {
+    Ok(SplitRequest {
         wanted: wanted_of(matches),
         frames: matches.get_one::<u32>("frames").unwrap_or(1),
         names: names_of(alloc, matches)?,

@@ -1,12 +1,13 @@
 //! Why the program has no whole answer.
 
-use mte_session::{Ending, ScriptFault, WriteFault};
+use mte_session::{ScriptFault, WriteFault};
 use session_split::{MergeFault, PartFault, SplitFault};
+use std::alloc::AllocFailed;
 use std::fmt;
 
 /// Why the program has no whole answer.
 #[derive(Clone, Copy)]
-pub enum Failure<'a> {
+pub enum SplitFailure<'a> {
     /// The script's first faulty line, counted from 1, and what is wrong with it.
     Script(u64, ScriptFault),
     /// An allocation failed.
@@ -25,46 +26,38 @@ pub enum Failure<'a> {
     NotAdmitted(u16),
 }
 
-impl<'a> Failure<'a> {
-    /// The failure of files that were not all read.
-    pub fn of_reading(ending: &Ending<'a>) -> Failure<'a> {
-        match *ending {
-            Ending::Read(name) => Failure::Read(name),
-            _ => Failure::Memory,
-        }
-    }
-
+impl<'a> SplitFailure<'a> {
     /// The failure of a part that could not be made, of a tenant if there is one.
-    pub fn of_making(fault: SplitFault, id: u16) -> Failure<'a> {
+    pub fn of_making(fault: SplitFault, id: u16) -> SplitFailure<'a> {
         match fault {
-            SplitFault::Script(line, fault) => Failure::Script(line, fault),
-            SplitFault::NotAdmitted => Failure::NotAdmitted(id),
-            SplitFault::OutOfMemory => Failure::Memory,
+            SplitFault::Script(line, fault) => SplitFailure::Script(line, fault),
+            SplitFault::NotAdmitted => SplitFailure::NotAdmitted(id),
+            SplitFault::OutOfMemory => SplitFailure::Memory,
         }
     }
 
     /// The failure of parts with these names that make no report.
-    pub fn of_merging(fault: MergeFault, names: &'a [String]) -> Failure<'a> {
+    pub fn of_merging(fault: MergeFault, names: &'a [String]) -> SplitFailure<'a> {
         match fault {
-            MergeFault::Part(index, fault) => Failure::Part(name_at(names, index), fault),
-            MergeFault::NoLedger => Failure::NoLedger,
-            MergeFault::NoTenant(id) => Failure::NoTenant(id),
-            MergeFault::OutOfMemory => Failure::Memory,
+            MergeFault::Part(index, fault) => SplitFailure::Part(name_at(names, index), fault),
+            MergeFault::NoLedger => SplitFailure::NoLedger,
+            MergeFault::NoTenant(id) => SplitFailure::NoTenant(id),
+            MergeFault::OutOfMemory => SplitFailure::Memory,
         }
     }
 
     /// The exit status.
     fn status(&self) -> u8 {
         match self {
-            Failure::Script(_, _) => 3,
-            Failure::Memory => 4,
-            Failure::Read(_) => 5,
-            Failure::Write => 6,
-            Failure::Part(_, PartFault::Damaged) => 7,
-            Failure::Part(_, PartFault::OtherSession) => 8,
-            Failure::Part(_, PartFault::Twice) => 9,
-            Failure::NoLedger | Failure::NoTenant(_) => 10,
-            Failure::NotAdmitted(_) => 11,
+            SplitFailure::Script(_, _) => 3,
+            SplitFailure::Memory => 4,
+            SplitFailure::Read(_) => 5,
+            SplitFailure::Write => 6,
+            SplitFailure::Part(_, PartFault::Damaged) => 7,
+            SplitFailure::Part(_, PartFault::OtherSession) => 8,
+            SplitFailure::Part(_, PartFault::Twice) => 9,
+            SplitFailure::NoLedger | SplitFailure::NoTenant(_) => 10,
+            SplitFailure::NotAdmitted(_) => 11,
         }
     }
 }
@@ -86,30 +79,36 @@ fn word_for(fault: PartFault) -> &'static str {
     }
 }
 
-impl<'a> fmt::Display for Failure<'a> {
+impl<'a> fmt::Display for SplitFailure<'a> {
     fn fmt<W: fmt::Write>(&self, f: &mut fmt::Formatter<W>) -> fmt::Result {
         match self {
-            Failure::Script(line, fault) => write!(f, "script line {line}: {fault}"),
-            Failure::Memory => f.write_str("out of memory"),
-            Failure::Read(name) => write!(f, "cannot read {name}"),
-            Failure::Write => f.write_str("cannot write"),
-            Failure::Part(name, fault) => write!(f, "part {name}: {}", word_for(*fault)),
-            Failure::NoLedger => f.write_str("part of the ledger: Missing"),
-            Failure::NoTenant(id) => write!(f, "part of tenant {id}: Missing"),
-            Failure::NotAdmitted(id) => write!(f, "tenant {id}: NotAdmitted"),
+            SplitFailure::Script(line, fault) => write!(f, "script line {line}: {fault}"),
+            SplitFailure::Memory => f.write_str("out of memory"),
+            SplitFailure::Read(name) => write!(f, "cannot read {name}"),
+            SplitFailure::Write => f.write_str("cannot write"),
+            SplitFailure::Part(name, fault) => write!(f, "part {name}: {}", word_for(*fault)),
+            SplitFailure::NoLedger => f.write_str("part of the ledger: Missing"),
+            SplitFailure::NoTenant(id) => write!(f, "part of tenant {id}: Missing"),
+            SplitFailure::NotAdmitted(id) => write!(f, "tenant {id}: NotAdmitted"),
         }
     }
 }
 
-impl<'a> From<WriteFault> for Failure<'a> {
-    fn from(_error: WriteFault) -> Failure<'a> {
-        Failure::Write
+impl<'a> From<WriteFault> for SplitFailure<'a> {
+    fn from(_error: WriteFault) -> SplitFailure<'a> {
+        SplitFailure::Write
+    }
+}
+
+impl<'a, T: Drop> From<AllocFailed<T>> for SplitFailure<'a> {
+    fn from(_error: AllocFailed<T>) -> SplitFailure<'a> {
+        SplitFailure::Memory
     }
 }
 
 /// Writes the line for standard error, and returns the exit status, whether or not the line could
 /// be written.
-pub fn report(rt: &HostRuntime, failure: &Failure<'_>) -> u8 {
+pub fn report(rt: &HostRuntime, failure: &SplitFailure<'_>) -> u8 {
     let _ = eprintln!(rt; "mte_split: {failure}");
     failure.status()
 }

@@ -4,12 +4,12 @@
 
 mod command_line;
 mod failure;
+mod files;
 mod request;
 mod splitting;
-mod system;
 
 use command_line::{SplitInvocation, read_command_line};
-use failure::{Failure, report};
+use failure::{SplitFailure, report};
 use splitting::run_request;
 use std::process::ExitCode;
 
@@ -20,7 +20,7 @@ fn main(rt: HostRuntime) -> ExitCode {
             Err(failure) => report(&rt, &failure),
         },
         SplitInvocation::Exit(status) => *status,
-        SplitInvocation::OutOfMemory => report(&rt, &Failure::Memory),
+        SplitInvocation::OutOfMemory => report(&rt, &SplitFailure::Memory),
     };
     ExitCode::from(status)
 }

@@ -13,7 +13,7 @@ pub enum Wanted {
 
 /// What the program is run on.
 #[derive(Drop)]
-pub struct Request {
+pub struct SplitRequest {
     /// What is wanted.
     pub wanted: Wanted,
     /// The frames of the session's host, 1 to 65536; of no meaning to parts.

@@ -1,19 +1,19 @@
 //! A run of the program: files are read, and what is wanted is written.
 
-use crate::failure::Failure;
-use crate::request::{Request, Wanted};
-use crate::system::SystemFiles;
-use mte_program::{StreamSink, read_files};
+use crate::failure::SplitFailure;
+use crate::files::read_files;
+use crate::request::{SplitRequest, Wanted};
+use mte_program::StreamSink;
 use mte_session::{Session, write_all};
 use session_split::{ledger_part, merge, tenant_part};
 
 /// Reads the files in order, and writes what is wanted. Nothing is written before all is known.
-pub fn run_request<'a>(rt: &HostRuntime, request: &'a Request) -> Result<(), Failure<'a>> {
+pub fn run_request<'a>(
+    rt: &HostRuntime,
+    request: &'a SplitRequest,
+) -> Result<(), SplitFailure<'a>> {
     let names = request.names.as_slice();
-    let whole = match read_files(rt.alloc(), &mut SystemFiles(rt), names) {
-        Ok(whole) => whole,
-        Err(ending) => return Err(Failure::of_reading(&ending)),
-    };
+    let whole = read_files(rt, names)?;
     let files = whole.as_slice();
     match request.wanted {
         Wanted::Ledger => write_ledger(rt, &session_of(request.frames, files)),
@@ -39,17 +39,21 @@ fn session_of(frames: u32, whole: &[Vec<u8>]) -> Session<'_> {
     }
 }
 
-fn write_ledger<'a>(rt: &HostRuntime, session: &Session<'_>) -> Result<(), Failure<'a>> {
+fn write_ledger<'a>(rt: &HostRuntime, session: &Session<'_>) -> Result<(), SplitFailure<'a>> {
     match ledger_part(rt.alloc(), session) {
         Ok(text) => write_text(rt, text.as_slice()),
-        Err(fault) => Err(Failure::of_making(fault, 0)),
+        Err(fault) => Err(SplitFailure::of_making(fault, 0)),
     }
 }
 
-fn write_tenant<'a>(rt: &HostRuntime, session: &Session<'_>, id: u16) -> Result<(), Failure<'a>> {
+fn write_tenant<'a>(
+    rt: &HostRuntime,
+    session: &Session<'_>,
+    id: u16,
+) -> Result<(), SplitFailure<'a>> {
     match tenant_part(rt.alloc(), session, id) {
         Ok(text) => write_text(rt, text.as_slice()),
-        Err(fault) => Err(Failure::of_making(fault, id)),
+        Err(fault) => Err(SplitFailure::of_making(fault, id)),
     }
 }
 
@@ -58,10 +62,10 @@ fn write_whole<'a>(
     rt: &HostRuntime,
     names: &'a [String],
     parts: &[Vec<u8>],
-) -> Result<(), Failure<'a>> {
+) -> Result<(), SplitFailure<'a>> {
     let pieces = match merge(rt.alloc(), parts) {
         Ok(pieces) => pieces,
-        Err(fault) => return Err(Failure::of_merging(fault, names)),
+        Err(fault) => return Err(SplitFailure::of_merging(fault, names)),
     };
     for piece in &pieces {
         write_text(rt, piece)?;
@@ -69,6 +73,6 @@ fn write_whole<'a>(
     Ok(())
 }
 
-fn write_text<'a>(rt: &HostRuntime, text: &[u8]) -> Result<(), Failure<'a>> {
+fn write_text<'a>(rt: &HostRuntime, text: &[u8]) -> Result<(), SplitFailure<'a>> {
     Ok(write_all(&mut StreamSink(rt.stdout()), text)?)
 }

@@ -9,7 +9,7 @@ use std::alloc::{AllocError, Global};
 
 /// A tenant that was admitted.
 #[derive(Clone, Copy)]
-pub(crate) struct Entry {
+pub(crate) struct LedgerTenant {
     /// Its number.
     pub(crate) id: u16,
     /// The pages of its reservation.
@@ -30,7 +30,7 @@ pub(crate) struct Ledger {
     /// How many tenants are live.
     live: usize,
     /// The tenants, in the order of their admissions.
-    pub(crate) tenants: Vec<Entry>,
+    pub(crate) tenants: Vec<LedgerTenant>,
     /// For each event whether it is accepted.
     pub(crate) accepted: Vec<bool>,
     /// The events that are refused.
@@ -65,7 +65,7 @@ impl Ledger {
     }
 
     /// The tenant that was admitted with a number; `None` where none was.
-    pub(crate) fn tenant(&self, id: u16) -> Option<Entry> {
+    pub(crate) fn tenant(&self, id: u16) -> Option<LedgerTenant> {
         let position = self.positions.get(id)?;
         self.tenants.get(usize::from(position)).copied()
     }
@@ -120,7 +120,7 @@ impl Ledger {
     /// Enters a tenant that is accepted. A session has fewer than there are numbers.
     fn enter(&mut self, id: u16, pages: u32) -> Result<(), Obstacle<Refusal>> {
         let position = u16::try_from(self.tenants.len()).ok();
-        self.tenants.push(Entry {
+        self.tenants.push(LedgerTenant {
             id,
             pages,
             steps: 0,
@@ -151,7 +151,7 @@ impl Ledger {
     }
 
     /// The live tenant with a number.
-    fn live_tenant(&self, id: u16) -> Result<Entry, Obstacle<Refusal>> {
+    fn live_tenant(&self, id: u16) -> Result<LedgerTenant, Obstacle<Refusal>> {
         match self.tenant(id) {
             Some(entry) if entry.is_live => Ok(entry),
             _ => Err(Obstacle::Refused(Refusal::NotLive)),
@@ -159,7 +159,7 @@ impl Ledger {
     }
 
     /// Puts a tenant in the place of the one with its number.
-    fn put(&mut self, entry: Entry) {
+    fn put(&mut self, entry: LedgerTenant) {
         if let Some(position) = self.positions.get(entry.id)
             && let Some(place) = self.tenants.get_mut(usize::from(position))
         {

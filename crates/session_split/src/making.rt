@@ -3,9 +3,9 @@
 ghost use Rattle.std.specs.Prelude.{◌≤◌};
 
 use crate::held_text::HeldText;
-use crate::ledger::{Entry, Ledger};
+use crate::ledger::{Ledger, LedgerTenant};
 use crate::own_script::own_script;
-use crate::part::{Piece, begin_part, end_part};
+use crate::part::{PartKind, begin_part, end_part};
 use crate::split_fault::SplitFault;
 use itoa::Buffer;
 use mte_session::{Session, parse_script, run_session, write_refusal};
@@ -20,7 +20,7 @@ const MOST_PAGES: u32 = 4096;
 pub fn ledger_part(alloc: Global, session: &Session<'_>) -> Result<Vec<u8>, SplitFault> {
     let events = parse_script(alloc, session.script, session.files)?;
     let ledger = Ledger::of(alloc, session.frames, events.as_slice(), session.files)?;
-    let text = begin_part(alloc, session, Piece::Ledger)?;
+    let text = begin_part(alloc, session, PartKind::Ledger)?;
     let text = with_admitted(text, &ledger)?;
     let text = with_refused(text, &ledger)?;
     Ok(end_part(text)?)
@@ -35,7 +35,7 @@ fn with_admitted(mut text: Vec<u8>, ledger: &Ledger) -> Result<Vec<u8>, AllocErr
 }
 
 /// Appends the line of a tenant that is admitted.
-fn append_admitted(text: &mut Vec<u8>, tenant: &Entry) -> Result<(), AllocError> {
+fn append_admitted(text: &mut Vec<u8>, tenant: &LedgerTenant) -> Result<(), AllocError> {
     let mut digits = Buffer::new();
     text.extend_from_slice(b"admitted ")?;
     text.extend_from_slice(digits.format(tenant.id).as_bytes())?;
@@ -62,13 +62,8 @@ pub fn tenant_part(alloc: Global, session: &Session<'_>, id: u16) -> Result<Vec<
         return Err(SplitFault::NotAdmitted);
     };
     let own = own_script(alloc, session.script, events.as_slice(), &ledger, id)?;
-    let alone = Session {
-        frames: charge(tenant.pages),
-        script: own.as_slice(),
-        files: session.files,
-    };
-    let text = begin_part(alloc, session, Piece::Tenant(id))?;
-    let text = with_report(alloc, text, &alone)?;
+    let text = begin_part(alloc, session, PartKind::Tenant(id))?;
+    let text = with_report(alloc, text, own.as_slice(), session.files, tenant.pages)?;
     Ok(end_part(text)?)
 }
 
@@ -81,18 +76,15 @@ fn charge(pages: u32) -> u32
     2 * pages.min(MOST_PAGES) + 1
 }
 
-/// A text with the report of a session.
-fn with_report(alloc: Global, text: Vec<u8>, session: &Session<'_>) -> Result<Vec<u8>, SplitFault>
-    requires some { 1 ≤ session.now.frames }
-    requires few { session.now.frames ≤ 65536 }
-{
+/// A text with the report of a tenant's own script, on frames for its reservation.
+fn with_report(
+    alloc: Global,
+    text: Vec<u8>,
+    script: &[u8],
+    files: &[Vec<u8>],
+    pages: u32,
+) -> Result<Vec<u8>, SplitFault> {
     let mut held = HeldText { bytes: text };
-    run_session(
-        alloc,
-        session.frames,
-        session.script,
-        session.files,
-        &mut held,
-    )?;
+    run_session(alloc, charge(pages), script, files, &mut held)?;
     Ok(held.bytes)
 }

@@ -1,7 +1,7 @@
 //! The whole report that parts make.
 
 use crate::by_number::ByNumber;
-use crate::part::{Part, PartFault, Piece, number_of};
+use crate::part::{PartFault, PartKind, SessionPart, number_of};
 use std::alloc::{AllocError, AllocFailed, Global};
 
 /// Why parts do not make a report.
@@ -37,10 +37,10 @@ pub fn merge<'a>(alloc: Global, texts: &'a [Vec<u8>]) -> Result<Vec<&'a [u8]>, M
 }
 
 /// Reads each part.
-fn read_parts<'a>(alloc: Global, texts: &'a [Vec<u8>]) -> Result<Vec<Part<'a>>, MergeFault> {
+fn read_parts<'a>(alloc: Global, texts: &'a [Vec<u8>]) -> Result<Vec<SessionPart<'a>>, MergeFault> {
     let mut parts = Vec::new(alloc);
     for (index, text) in texts.iter().enumerate() {
-        match Part::read(text.as_slice()) {
+        match SessionPart::read(text.as_slice()) {
             Ok(part) => parts.push(part)?,
             Err(fault) => return Err(MergeFault::Part(index, fault)),
         }
@@ -49,17 +49,17 @@ fn read_parts<'a>(alloc: Global, texts: &'a [Vec<u8>]) -> Result<Vec<Part<'a>>, 
 }
 
 /// The first part that has the ledger.
-fn find_ledger<'a>(parts: &[Part<'a>]) -> Option<Part<'a>> {
+fn find_ledger<'a>(parts: &[SessionPart<'a>]) -> Option<SessionPart<'a>> {
     parts
         .iter()
-        .find(|part| part.piece == Piece::Ledger)
+        .find(|part| part.kind == PartKind::Ledger)
         .copied()
 }
 
 /// Where the part of each tenant is. All parts are of the session, and none is there twice.
 fn enter_parts(
     alloc: Global,
-    parts: &[Part<'_>],
+    parts: &[SessionPart<'_>],
     session: &[u8],
 ) -> Result<ByNumber<Option<usize>>, MergeFault> {
     let mut places = ByNumber::new(alloc, None)?;
@@ -68,16 +68,16 @@ fn enter_parts(
         if part.session != session {
             return Err(MergeFault::Part(index, PartFault::OtherSession));
         }
-        let was_there = match part.piece {
-            Piece::Ledger => has_ledger,
-            Piece::Tenant(id) => places.get(id).is_some(),
+        let was_there = match part.kind {
+            PartKind::Ledger => has_ledger,
+            PartKind::Tenant(id) => places.get(id).is_some(),
         };
         if was_there {
             return Err(MergeFault::Part(index, PartFault::Twice));
         }
-        match part.piece {
-            Piece::Ledger => has_ledger = true,
-            Piece::Tenant(id) => places.set(id, Some(index)),
+        match part.kind {
+            PartKind::Ledger => has_ledger = true,
+            PartKind::Tenant(id) => places.set(id, Some(index)),
         }
     }
     Ok(places)
@@ -102,7 +102,7 @@ fn admitted_in(line: &[u8]) -> Option<u16> {
 
 /// The lines of a tenant, whose part is left out from then on.
 fn take_body<'a>(
-    parts: &[Part<'a>],
+    parts: &[SessionPart<'a>],
     places: &mut ByNumber<Option<usize>>,
     id: u16,
 ) -> Result<&'a [u8], MergeFault> {
@@ -115,10 +115,13 @@ fn take_body<'a>(
 }
 
 /// Refuses the part of a tenant that the ledger does not admit, which was made of another session.
-fn refuse_others(parts: &[Part<'_>], places: &ByNumber<Option<usize>>) -> Result<(), MergeFault> {
+fn refuse_others(
+    parts: &[SessionPart<'_>],
+    places: &ByNumber<Option<usize>>,
+) -> Result<(), MergeFault> {
     for (index, part) in parts.iter().enumerate() {
-        match part.piece {
-            Piece::Tenant(id) if places.get(id).is_some() => {
+        match part.kind {
+            PartKind::Tenant(id) if places.get(id).is_some() => {
                 return Err(MergeFault::Part(index, PartFault::OtherSession));
             }
             _ => {}

@@ -27,7 +27,7 @@ pub enum PartFault {
 
 /// Which part of a session it is.
 #[derive(Clone, Copy, PartialEq, Eq)]
-pub(crate) enum Piece {
+pub(crate) enum PartKind {
     /// Who is admitted, and the lines of refused events.
     Ledger,
     /// The lines of a tenant.
@@ -36,35 +36,35 @@ pub(crate) enum Piece {
 
 /// A part that was read.
 #[derive(Clone, Copy)]
-pub(crate) struct Part<'a> {
+pub(crate) struct SessionPart<'a> {
     /// The session's sum.
     pub(crate) session: &'a [u8],
     /// Which part it is.
-    pub(crate) piece: Piece,
+    pub(crate) kind: PartKind,
     /// The lines between its head and its sum.
     pub(crate) body: &'a [u8],
 }
 
-impl<'a> Part<'a> {
+impl<'a> SessionPart<'a> {
     /// Reads a part.
-    pub(crate) fn read(text: &'a [u8]) -> Result<Part<'a>, PartFault> {
+    pub(crate) fn read(text: &'a [u8]) -> Result<SessionPart<'a>, PartFault> {
         let Some(whole) = without_sum(text) else {
             return Err(PartFault::Damaged);
         };
-        Part::without_head(whole).ok_or(PartFault::OtherSession)
+        SessionPart::without_head(whole).ok_or(PartFault::OtherSession)
     }
 
     /// Reads what is before the sum.
-    fn without_head(whole: &'a [u8]) -> Option<Part<'a>> {
+    fn without_head(whole: &'a [u8]) -> Option<SessionPart<'a>> {
         let rest = whole.strip_prefix(HEAD)?;
         let session = rest.get(..DIGITS)?;
         let rest = rest.get(DIGITS..)?;
         let end = rest.iter().position(|byte| *byte == b'\n')?;
-        let piece = piece_of(rest.get(..end)?)?;
+        let kind = kind_of(rest.get(..end)?)?;
         let body = rest.get(end + 1..)?;
-        Some(Part {
+        Some(SessionPart {
             session,
-            piece,
+            kind,
             body,
         })
     }
@@ -85,12 +85,12 @@ fn without_sum(text: &[u8]) -> Option<&[u8]> {
 }
 
 /// The part that the words behind the session's sum name.
-fn piece_of(words: &[u8]) -> Option<Piece> {
+fn kind_of(words: &[u8]) -> Option<PartKind> {
     if matches!(words, b" ledger") {
-        return Some(Piece::Ledger);
+        return Some(PartKind::Ledger);
     }
     let digits = words.strip_prefix(b" tenant ")?;
-    Some(Piece::Tenant(number_of(digits)?))
+    Some(PartKind::Tenant(number_of(digits)?))
 }
 
 /// The number of a tenant in digits.
@@ -103,13 +103,13 @@ pub(crate) fn number_of(digits: &[u8]) -> Option<u16> {
 pub(crate) fn begin_part(
     alloc: Global,
     session: &Session<'_>,
-    piece: Piece,
+    kind: PartKind,
 ) -> Result<Vec<u8>, AllocError> {
     let mut text = Vec::from_slice(alloc, HEAD)?;
     text.extend_from_slice(session_sum(HEAD, session).as_slice())?;
-    match piece {
-        Piece::Ledger => text.extend_from_slice(b" ledger\n")?,
-        Piece::Tenant(id) => append_tenant(&mut text, id)?,
+    match kind {
+        PartKind::Ledger => text.extend_from_slice(b" ledger\n")?,
+        PartKind::Tenant(id) => append_tenant(&mut text, id)?,
     }
     Ok(text)
 }
