@@ -1,6 +1,6 @@
 //! Which events of a session are refused, and why, without a step of any tenant.
 
-use crate::by_number::ByNumber;
+use crate::positions::Positions;
 use crate::split_fault::SplitFault;
 use mte_session::{Event, admission_of};
 use mte_tenant::{Admission, LedgerFacts, Refusal, Refused, accept, charge};
@@ -24,7 +24,7 @@ pub(crate) struct LedgerTenant {
 #[derive(Drop)]
 pub(crate) struct Ledger {
     /// Where each tenant is among all.
-    positions: ByNumber<Option<u16>>,
+    positions: Positions,
     /// The frames that live tenants leave.
     left: u64,
     /// How many tenants are live.
@@ -55,7 +55,7 @@ impl Ledger {
     /// The ledger of a host without tenants.
     fn new(alloc: Global, frames: u32) -> Result<Ledger, AllocError> {
         Ok(Ledger {
-            positions: ByNumber::new(alloc, None)?,
+            positions: Positions::new(alloc)?,
             left: u64::from(frames),
             live: 0,
             tenants: Vec::new(alloc),
@@ -67,7 +67,7 @@ impl Ledger {
     /// The tenant that was admitted with a number; `None` where none was.
     pub(crate) fn tenant(&self, id: u16) -> Option<LedgerTenant> {
         let position = self.positions.get(id)?;
-        self.tenants.get(usize::from(position)).copied()
+        self.tenants.get(position).copied()
     }
 
     /// Notes what is decided on the next event.
@@ -117,9 +117,9 @@ impl Ledger {
         }
     }
 
-    /// Enters a tenant that is accepted. A session has fewer than there are numbers.
+    /// Enters a tenant that is accepted.
     fn enter(&mut self, id: u16, pages: u32) -> Result<(), Obstacle<Refusal>> {
-        let position = u16::try_from(self.tenants.len()).ok();
+        let position = self.tenants.len();
         self.tenants.push(LedgerTenant {
             id,
             pages,
@@ -161,7 +161,7 @@ impl Ledger {
     /// Puts a tenant in the place of the one with its number.
     fn put(&mut self, entry: LedgerTenant) {
         if let Some(position) = self.positions.get(entry.id)
-            && let Some(place) = self.tenants.get_mut(usize::from(position))
+            && let Some(place) = self.tenants.get_mut(position)
         {
             *place = entry;
         }

@@ -2,13 +2,13 @@
 //! alone, and the whole report that these make.
 #![tactic(auto)]
 
-mod by_number;
 mod held_text;
 mod ledger;
 mod making;
 mod merging;
 mod own_script;
 mod part;
+mod positions;
 mod session_sum;
 mod split_fault;
 

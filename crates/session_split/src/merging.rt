@@ -1,7 +1,7 @@
 //! The whole report that parts make.
 
-use crate::by_number::ByNumber;
 use crate::part::{PartFault, PartKind, SessionPart, number_of};
+use crate::positions::Positions;
 use std::alloc::{AllocError, AllocFailed, Global};
 
 /// Why parts do not make a report.
@@ -61,8 +61,8 @@ fn enter_parts(
     alloc: Global,
     parts: &[SessionPart<'_>],
     session: &[u8],
-) -> Result<ByNumber<Option<usize>>, MergeFault> {
-    let mut places = ByNumber::new(alloc, None)?;
+) -> Result<Positions, MergeFault> {
+    let mut places = Positions::new(alloc)?;
     let mut has_ledger = false;
     for (index, part) in parts.iter().enumerate() {
         if part.session != session {
@@ -77,7 +77,7 @@ fn enter_parts(
         }
         match part.kind {
             PartKind::Ledger => has_ledger = true,
-            PartKind::Tenant(id) => places.set(id, Some(index)),
+            PartKind::Tenant(id) => places.set(id, index),
         }
     }
     Ok(places)
@@ -103,11 +103,11 @@ fn admitted_in(line: &[u8]) -> Option<u16> {
 /// The lines of a tenant, whose part is left out from then on.
 fn take_body<'a>(
     parts: &[SessionPart<'a>],
-    places: &mut ByNumber<Option<usize>>,
+    places: &mut Positions,
     id: u16,
 ) -> Result<&'a [u8], MergeFault> {
     let place = places.get(id);
-    places.set(id, None);
+    places.remove(id);
     match place.and_then(|index| parts.get(index)) {
         Some(part) => Ok(part.body),
         None => Err(MergeFault::NoTenant(id)),
@@ -115,10 +115,7 @@ fn take_body<'a>(
 }
 
 /// Refuses the part of a tenant that the ledger does not admit, which was made of another session.
-fn refuse_others(
-    parts: &[SessionPart<'_>],
-    places: &ByNumber<Option<usize>>,
-) -> Result<(), MergeFault> {
+fn refuse_others(parts: &[SessionPart<'_>], places: &Positions) -> Result<(), MergeFault> {
     for (index, part) in parts.iter().enumerate() {
         match part.kind {
             PartKind::Tenant(id) if places.get(id).is_some() => {
