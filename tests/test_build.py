@@ -14,7 +14,7 @@ import pytest
 from tests.support.checkout import copy_files, make_stub
 from tests.support.running import Ran, run
 
-PROGRAMS = ("disassemble", "mte_host", "mte_run")
+PROGRAMS = ("disassemble", "mte_host", "mte_run", "mte_split")
 LIBRARY = "libtombolopan_c.a"
 # Proves a crate: its lines, and its program or library.
 TOOLCHAIN = """\
@@ -51,8 +51,8 @@ class Clone:
 
     def __init__(self, folder: pathlib.Path) -> None:
         self.top = copy_files(folder / "clone", "crates/disassemble/", "crates/mte_host/",
-                              "crates/mte_run/", "crates/tombolopan_c/", "crates.txt",
-                              "tools/build.sh", "examples/libc/")
+                              "crates/mte_split/", "crates/mte_run/", "crates/tombolopan_c/",
+                              "crates.txt", "tools/build.sh", "examples/libc/")
         self.tried = folder / "tried"
         for name, text in (("tools/unproved.py", UNPROVED), ("tools/mark.py", MARK),
                            ("tools/install.sh", INSTALL), ("examples/libc/build.py", LIBC)):
@@ -84,7 +84,8 @@ def clone(tmp_path: pathlib.Path) -> Clone:
 
 
 PROOFS = ["disassemble: run -- 0", *(f"mark.py proved {it}" for it in (*PROGRAMS, LIBRARY)),
-          "mte_host: run -- --help", "mte_run: run -- --help", "tombolopan_c: lib --jobs 1"]
+          "mte_host: run -- --help", "mte_run: run -- --help", "mte_split: run -- --help",
+          "tombolopan_c: lib --jobs 1"]
 
 
 def without_proof(*names: str) -> list[str]:

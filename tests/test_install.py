@@ -26,10 +26,13 @@ SHARE, LIBC = "share/tombolopan", "share/tombolopan/examples/libc/out"
 # Those of examples/libc, by their comments, and those with options.
 TENANTS = {path.name: ast.get_docstring(ast.parse(path.read_text(encoding="utf-8"))) or ""
            for path in sorted((EXAMPLES / "libc").glob("tenant-*"))}
-COMPLETED = ("mte_host", "mte_run", "mte_why", *TENANTS)
+COMPLETED = ("mte_host", "mte_split", "mte_run", "mte_why", *TENANTS)
 PROGRAMS = (*COMPLETED, "disassemble")
+WITH_STATUSES = ("mte_host", "mte_split", "mte_run", "mte_why", "tenant-cc",
+                          "disassemble")
 FILES = {
-    "bin/mte_host": EXECUTABLE, "bin/mte_run": EXECUTABLE, "bin/disassemble": EXECUTABLE,
+    "bin/mte_host": EXECUTABLE, "bin/mte_split": EXECUTABLE, "bin/mte_run": EXECUTABLE,
+    "bin/disassemble": EXECUTABLE,
     "include/tombolopan.h": READABLE, "include/tenant.h": READABLE,
     "lib/libtombolopan.a": READABLE, "lib/libtombolopan.so.2": EXECUTABLE,
     "lib/pkgconfig/tombolopan.pc": READABLE,
@@ -52,7 +55,7 @@ LINKS = {
     "bin/mte_why": "../share/tombolopan/examples/why.sh",
     **{f"bin/{name}": f"../share/tombolopan/examples/libc/{name}" for name in TENANTS},
     **{f"{SHARE}/crates/{name}/out/{name}": f"../../../../../bin/{name}"
-       for name in ("mte_host", "mte_run", "disassemble")},
+       for name in ("mte_host", "mte_split", "mte_run", "disassemble")},
 }
 HEADER = ROOT / "include" / "tombolopan.h"
 FIRST = "breakpoint 1, x0 is 42\n"
@@ -342,7 +345,7 @@ def rendered(moved: pathlib.Path, page: str) -> str:
     return re.sub(r".\x08", "", ran.output)
 
 
-@pytest.mark.parametrize("name", ["mte_host", "mte_run"])
+@pytest.mark.parametrize("name", ["mte_host", "mte_split", "mte_run"])
 def test_manual_of_a_program(moved: pathlib.Path, name: str) -> None:
     """The page of a program has its usage, and each argument and option of its help."""
     shown = rendered(moved, f"man1/{name}.1")
@@ -367,7 +370,7 @@ def test_manual_of_the_library(moved: pathlib.Path) -> None:
     assert len(names) >= 25 and set(names) <= headings, set(names) - headings
 
 
-@pytest.mark.parametrize("name", ["mte_host", "mte_run", "mte_why", "tenant-cc", "disassemble"])
+@pytest.mark.parametrize("name", WITH_STATUSES)
 def test_manual_has_its_statuses(moved: pathlib.Path, name: str) -> None:
     """The page of a program says what its exit status means; of mte_run each one."""
     shown = rendered(moved, f"man1/{name}.1")
@@ -378,6 +381,9 @@ def test_manual_has_its_statuses(moved: pathlib.Path, name: str) -> None:
     if name == "mte_run":
         numbers = re.findall(r"^       (\d+)\b", statuses, re.M)
         assert [*map(int, numbers)] == [0, *range(129, 139), 2]
+    if name == "mte_split":
+        numbers = re.findall(r"^       (\d+)\b", statuses, re.M)
+        assert [*map(int, numbers)] == [0, *range(2, 12)]
 
 
 def test_manual_of_a_call(moved: pathlib.Path) -> None:

@@ -1,5 +1,5 @@
 #!/usr/bin/env bash
-# Builds mte_host, mte_run, disassemble, the library for C, and the C library of tenants.
+# Builds mte_host, mte_split, mte_run, disassemble, the library for C, and the C library of tenants.
 #     tools/build.sh [--unproved] [--only NAME] [--jobs N] [PREFIX]
 #
 # What is built and newer than all sources stays. Programs and the library are in crates/*/out, the
@@ -13,7 +13,7 @@ set -euo pipefail
 here=$(cd "$(dirname "$0")" && pwd)
 crates=$here/../crates
 libc=$here/../examples/libc
-every=(disassemble mte_host libtombolopan_c.a mte_run)
+every=(disassemble mte_host mte_split libtombolopan_c.a mte_run)
 
 leave() {
     echo "build.sh: $1" >&2

@@ -3,7 +3,7 @@
 
     mark.py [--unproved] FILE..
 
-A build leaves dashes in the lines that `mte_run --version` and tb_build_info give: they get the
+A build leaves dashes in the lines that `mte_run --version`, `mte_split --version` and tb_build_info give: they get the
 commit, whether files differ from it, the toolchain's sum, and proved or unproved, in as many bytes.
 A program or shared object gets the same lines as a note too, in a section that is not loaded:
 `readelf -p .note.tombolopan FILE`. Nothing else changes. What is marked already stays as it is.
@@ -22,7 +22,7 @@ from packing.release import git, is_changed, read_version
 
 SECTION, OWNER, KIND = ".note.tombolopan", b"tombolopan\0", 1
 # What gives the lines.
-SAYING = ("mte_run", "libtombolopan")
+SAYING = ("mte_run", "mte_split", "libtombolopan")
 LINES = """\
 {version}
 commit:    {commit:->40}

@@ -13,7 +13,7 @@ from tests.support.running import Ran, run
 from tests.support.tools import need
 
 INSTALLER = ROOT / "tools" / "install.sh"
-PROGRAMS = ("mte_host", "mte_run", "disassemble")
+PROGRAMS = ("mte_host", "mte_split", "mte_run", "disassemble")
 
 
 def built_folder(shared: pathlib.Path, folder: pathlib.Path) -> pathlib.Path:
