@@ -61,9 +61,9 @@ fn parse(alloc: Global, words: &[String]) -> Result<Option<SplitRequest>, Error>
 /// The command line's form. Each argument has a function of its own, so that few of them are alive
 /// at once: that makes the proof short.
 fn command<'a>(alloc: Global) -> Result<Command<'a>, Error> {
-    let command = Command::new(alloc, "mte_split").version(build_info::text()).about(
-        "Runs a session of mte_host in parts, one for each tenant, and makes its report of them",
-    );
+    let command = Command::new(alloc, "mte_split")
+        .version(build_info::text())
+        .about("Runs a session of mte_host in parts, one for each tenant, and makes its report");
     let command = with_wanted(alloc, command)?;
     let command = command.arg(frames(alloc)?)?;
     Ok(command.arg(files(alloc))?)
