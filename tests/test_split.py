@@ -26,7 +26,7 @@ from tests.support.split_sessions import LEDGER, SplitSession, admitted, reseale
 from tests.support.tools import give_up, need
 
 USAGE_WORDS = [
-    "", "--help", "--version", "--list", "--list hi.script hi.elf", "--list --frames 11",
+    "", "--help", "--list", "--list hi.script hi.elf", "--list --frames 11",
     "--list --frames 0 hi.script", "--list --frames 65537 hi.script", "--frames 11 hi.script",
     "--tenant --frames 11 hi.script", "--tenant 65536 --frames 11 hi.script",
     "--tenant -1 --frames 11 hi.script", "--list --tenant 1 --frames 11 hi.script",
