@@ -19,7 +19,7 @@ import subprocess
 import sys
 import tempfile
 
-from packing.release import git, is_changed, read_version
+from packing.release import ROOT, is_changed, read_version
 
 SECTION, OWNER, KIND = ".note.tombolopan", b"tombolopan\0", 1
 # What gives the lines.
@@ -35,10 +35,13 @@ UNKNOWN = {"commit": "", "changes": "", "toolchain": "", "build": ""}
 
 def commit_and_changes() -> dict[str, str]:
     """The commit of the checkout, and whether files differ from it."""
+    words = ["git", "-C", str(ROOT), "rev-parse", "--verify", "--quiet", "HEAD"]
     try:
-        return {"commit": git("rev-parse", "HEAD"), "changes": "some" if is_changed() else "none"}
+        ran = subprocess.run(words, stdout=subprocess.PIPE, stderr=subprocess.DEVNULL, text=True,
+                             check=True)
     except (OSError, subprocess.CalledProcessError):
         return {}
+    return {"commit": ran.stdout.strip(), "changes": "some" if is_changed() else "none"}
 
 
 def toolchain() -> dict[str, str]:

@@ -446,7 +446,8 @@ def build_info() -> str:
     """How the library was built: lines with the version of the release, the commit, whether files
     differed from it, the toolchain's sum, and proved or unproved."""
     lines = ctypes.create_string_buffer(160)
-    return lines.raw[: _library.tb_build_info(lines, len(lines))].decode()
+    length = _library.tb_build_info(lines, len(lines))
+    return lines.raw[:length].decode()
 
 
 def session(frames: int, script: bytes, files: Sequence[bytes]) -> bytes:
