@@ -76,8 +76,14 @@ fn with_wanted<'a>(alloc: Global, command: Command<'a>) -> Result<Command<'a>, E
     let command = command.arg(tenant(alloc))?;
     let help = "Writes the report that the part of --list and those of all its tenants make";
     let command = command.arg(flag(alloc, "merge", help))?;
-    let wanted = ArgGroup::new(alloc, "wanted").args(&["list", "tenant", "merge"])?;
-    Ok(command.group(wanted.required(true))?)
+    Ok(command.group(wanted(alloc)?)?)
+}
+
+/// One of three options, and no more.
+fn wanted<'a>(alloc: Global) -> Result<ArgGroup<'a>, AllocError> {
+    let group = ArgGroup::new(alloc, "wanted").arg("list")?;
+    let group = group.arg("tenant")?.arg("merge")?;
+    Ok(group.required(true))
 }
 
 fn flag<'a>(alloc: Global, name: &'a str, help: &'a str) -> Arg<'a> {
