@@ -297,6 +297,14 @@ TB_ASSERT(sizeof(tb_alone_end) == 88 && offsetof(tb_alone_end, status) == 32);
 uint32_t tb_version(void);
 
 /*
+ * How the library was built: copies as much as `text` holds of five lines with the version of the
+ * release, the commit, whether files differed from it (none, some), the toolchain's sum, and proved
+ * or unproved. Answers how many bytes they have, at most 160; a 0 is not written behind them. Lines
+ * of dashes are of a library that no tool of the release has marked.
+ */
+uint32_t tb_build_info(uint8_t *text, size_t room);
+
+/*
  * Runs a session: a script and the files that it refers to, from 1 on, on a host of `frames`
  * frames, 1 to 65536. Copies as much of its report as `report` holds, from its start. TB_OK where
  * it holds all. TB_NO_ROOM where it does not: end->length tells how long the whole report is, and

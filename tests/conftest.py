@@ -22,6 +22,12 @@ def host() -> pathlib.Path:
 
 
 @pytest.fixture(scope="session")
+def split() -> pathlib.Path:
+    """The program mte_split."""
+    return built("mte_split")
+
+
+@pytest.fixture(scope="session")
 def alone() -> pathlib.Path:
     """The program mte_run."""
     return built("mte_run")

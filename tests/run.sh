@@ -9,13 +9,31 @@ tests/install.sh
 python=/usr/bin/python3
 "$python" -c 'import pytest, xdist' 2> /dev/null || python=python3
 logs=$(mktemp -d)
-trap 'rm -rf "$logs"' EXIT
+trap 'put_back; rm -rf "$logs"' EXIT
 
 # As many at a time as there are processors, and 4 GB of memory for each.
 processors=$(nproc)
 room=$(awk '/^MemAvailable/ { print int($2 / 4000000) }' /proc/meminfo)
 RT_JOBS=$((room < 1 ? 1 : room < processors ? room : processors))
 export RT_JOBS
+
+# rt ci empties crates/*/out before it begins. What of the programs and of the library it has not
+# built anew, where it fails or is interrupted, is put back from copies.
+saved=$logs/saved
+save() {
+    local file
+    for file in crates/{mte_host,mte_run,disassemble}/out/{mte_host,mte_run,disassemble}{,.unproved} \
+        crates/tombolopan_c/out/libtombolopan_c.a{,.unproved}; do
+        [[ ! -f $file ]] || (mkdir -p "$saved/${file%/*}" && cp -p "$file" "$saved/$file")
+    done
+}
+put_back() {
+    local name
+    [[ -d $saved ]] || return 0
+    while read -r name; do
+        [[ -e ${name%.unproved} ]] || (mkdir -p "${name%/*}" && cp -p "$saved/$name" "$name")
+    done < <(cd "$saved" && find . -type f -printf '%P\n' | LC_ALL=C sort -r)
+}
 
 # Cases of the suite, with options of pytest; what they wrote stays in a file.
 run_cases() {
@@ -36,6 +54,7 @@ fi
 first=(tests/test_style.py tests/test_border.py tests/test_isa.py tests/test_believe.py
     tests/test_crates.py)
 run_cases first "${first[@]}"
+save
 rt ci | tee "$logs/proofs"
 run_cases suite tests "${first[@]/#/--ignore=}"
 

@@ -1,6 +1,7 @@
 """tools/build.sh: what it builds, by which commands, and the marks of what is built without proof.
 
-The toolchain, unproved.py, build.py and install.sh are stubs that say how they were called.
+The toolchain, unproved.py, mark.py, build.py and install.sh are stubs that say how they were
+called.
 """
 
 import os
@@ -13,7 +14,7 @@ import pytest
 from tests.support.checkout import copy_files, make_stub
 from tests.support.running import Ran, run
 
-PROGRAMS = ("disassemble", "mte_host", "mte_run")
+PROGRAMS = ("disassemble", "mte_host", "mte_run", "mte_split")
 LIBRARY = "libtombolopan_c.a"
 # Proves a crate: its lines, and its program or library.
 TOOLCHAIN = """\
@@ -29,6 +30,10 @@ echo proved >"out/$name"
 UNPROVED = """#!/usr/bin/env bash
 echo "unproved.py $(basename "$2") $3" >>"$TRIED"
 echo unproved >"$2"
+"""
+MARK = """#!/usr/bin/env bash
+[[ $1 == --unproved ]] || set -- proved "$1"
+echo "mark.py $1 $(basename "$2")" >>"$TRIED"
 """
 LIBC = """#!/usr/bin/env bash
 here=$(dirname "$0")
@@ -46,11 +51,11 @@ class Clone:
 
     def __init__(self, folder: pathlib.Path) -> None:
         self.top = copy_files(folder / "clone", "crates/disassemble/", "crates/mte_host/",
-                              "crates/mte_run/", "crates/tombolopan_c/", "crates.txt",
-                              "tools/build.sh", "examples/libc/")
+                              "crates/mte_split/", "crates/mte_run/", "crates/tombolopan_c/",
+                              "crates.txt", "tools/build.sh", "examples/libc/")
         self.tried = folder / "tried"
-        for name, text in (("tools/unproved.py", UNPROVED), ("tools/install.sh", INSTALL),
-                           ("examples/libc/build.py", LIBC)):
+        for name, text in (("tools/unproved.py", UNPROVED), ("tools/mark.py", MARK),
+                           ("tools/install.sh", INSTALL), ("examples/libc/build.py", LIBC)):
             (self.top / name).write_text(text, encoding="utf-8")
             (self.top / name).chmod(0o755)
         self.path = make_stub(folder / "stub", "rt", TOOLCHAIN)["PATH"]
@@ -78,18 +83,25 @@ def clone(tmp_path: pathlib.Path) -> Clone:
     return Clone(tmp_path)
 
 
-PROOFS = ["disassemble: run -- 0", "mte_host: run -- --help", "mte_run: run -- --help",
+PROOFS = ["disassemble: run -- 0", *(f"mark.py proved {it}" for it in (*PROGRAMS, LIBRARY)),
+          "mte_host: run -- --help", "mte_run: run -- --help", "mte_split: run -- --help",
           "tombolopan_c: lib --jobs 1"]
-NO_PROOFS = sorted(["unproved.py disassemble.new disassemble", "unproved.py mte_host.new mte_host",
-                    "unproved.py mte_run.new mte_run",
-                    f"unproved.py {LIBRARY}.new tombolopan_c"])
+
+
+def without_proof(*names: str) -> list[str]:
+    """The commands that build some files without proof."""
+    crates = {it: it.removeprefix("lib").removesuffix(".a") for it in names}
+    return sorted([*(f"unproved.py {it}.new {crate}" for it, crate in crates.items()),
+                   *(f"mark.py --unproved {it}.new" for it in names)])
+
+
 
 
 def test_without_proof(clone: Clone) -> None:
     """All of it is built without proof, marked, and installed; a second time nothing is built."""
     ran, tried = clone.build("--unproved", "/prefix")
     assert (ran.status, ran.output) == (0, "")
-    assert tried == ["build.py", "install.sh /prefix", *NO_PROOFS]
+    assert tried == sorted(["build.py", "install.sh /prefix", *without_proof(*PROGRAMS, LIBRARY)])
     assert clone.marks() == {*PROGRAMS, LIBRARY}
     lines = set(ran.errors.splitlines())
     assert {f"build.sh: {name}: built without proof" for name in (*PROGRAMS, LIBRARY)} <= lines
@@ -103,7 +115,7 @@ def test_by_proof(clone: Clone) -> None:
     clone.build("--unproved", "--only", "mte_run")
     assert clone.marks() == {"mte_run"}
     ran, tried = clone.build()
-    assert (ran.status, tried) == (0, ["build.py", *PROOFS])
+    assert (ran.status, tried) == (0, sorted(["build.py", *PROOFS]))
     assert re.search(r"^build.sh: mte_run: 0 min \d+ s, at a64_bits$", ran.errors, re.M)
     assert "build.sh: mte_run: proved\n" in ran.errors
     assert clone.marks() == set() and clone.built("mte_run").read_text() == "proved\n"
@@ -121,7 +133,7 @@ def test_a_newer_source(clone: Clone, name: str) -> None:
     source.touch()
     os.utime(source, (newest, newest))
     ran, tried = clone.build("--unproved", "--only", "mte_host")
-    assert (ran.status, tried) == (0, ["unproved.py mte_host.new mte_host"])
+    assert (ran.status, tried) == (0, without_proof("mte_host"))
 
 
 def test_a_proof_that_fails(clone: Clone) -> None:

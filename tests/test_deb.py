@@ -14,6 +14,7 @@ from tests.support.cache import cache_folder
 from tests.support.checkout import copy_files
 from tests.support.debian import Root, files_of
 from tests.support.host_sessions import HI_REPORT
+from tests.support.notes import noted
 from tests.support.places import EXAMPLES, ROOT
 from tests.support.running import Ran, run, succeed
 from tests.support.tools import need
@@ -24,7 +25,7 @@ NAMES = {"tombolopan", "libtombolopan2", "libtombolopan-dev", "python3-tombolopa
          "tombolopan-doc"}
 # Some files of each package, by patterns of their names.
 FILES = {
-    "tombolopan": ("usr/bin/(mte_host|mte_run|disassemble|mte_why|tenant-cc)",
+    "tombolopan": ("usr/bin/(mte_host|mte_split|mte_run|disassemble|mte_why|tenant-cc)",
                    "usr/share/man/man1/mte_run.1.gz", "usr/include/tenant.h",
                    "usr/lib/tombolopan/libc/lib/(libc.a|start.o)",
                    "usr/share/bash-completion/completions/mte_run",
@@ -114,7 +115,8 @@ def test_sums(packages: dict[str, pathlib.Path], tmp_path: pathlib.Path) -> None
     told = {it["name"]: it["checksums"] for it in json.loads(text)["packages"]
             if "checksums" in it}
     files = {"tombolopan_c": next(usr.glob("lib/*/libtombolopan.so.2")),
-             **{it: usr / "bin" / it for it in ("mte_host", "mte_run", "disassemble")}}
+             **{it: usr / "bin" / it
+                for it in ("mte_host", "mte_split", "mte_run", "disassemble")}}
     assert told == {name: [{"algorithm": "SHA256",
                             "checksumValue": hashlib.sha256(it.read_bytes()).hexdigest()}]
                     for name, it in files.items()}
@@ -149,6 +151,9 @@ def test_installed(root: Root, tmp_path: pathlib.Path) -> None:
     session = root.usr / "share" / "tombolopan" / "examples"
     words = ["mte_host", "--frames", "11", f"{session}/hi.script", f"{session}/hi.elf"]
     assert root.run(words, tmp_path) == Ran(0, HI_REPORT.encode(), b"")
+    version = root.run(["mte_run", "--version"], tmp_path).output
+    assert re.match(rf"mte_run {VERSION}\ncommit:    [0-9a-f]{{40}}\n", version)
+    assert version.partition("\n")[2] in noted(root.usr / "bin" / "mte_host")
     for name in ("mte_run", "tb_run", "tenant-cc"):
         ran = root.run(["man", "--warnings", name], tmp_path)
         assert (ran.status, ran.errors) == (0, "") and f"Tombolopan {VERSION}" in ran.output

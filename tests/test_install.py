@@ -15,6 +15,7 @@ from tests.support import installed
 from tests.support.cache import cache_folder
 from tests.support.checkout import copy_files, link_built, tracked_files
 from tests.support.host_sessions import HI_REPORT, with_hi
+from tests.support.notes import noted
 from tests.support.places import EXAMPLES, ROOT
 from tests.support.running import run, succeed
 from tests.support.samples import tenant
@@ -25,10 +26,13 @@ SHARE, LIBC = "share/tombolopan", "share/tombolopan/examples/libc/out"
 # Those of examples/libc, by their comments, and those with options.
 TENANTS = {path.name: ast.get_docstring(ast.parse(path.read_text(encoding="utf-8"))) or ""
            for path in sorted((EXAMPLES / "libc").glob("tenant-*"))}
-COMPLETED = ("mte_host", "mte_run", "mte_why", *TENANTS)
+COMPLETED = ("mte_host", "mte_split", "mte_run", "mte_why", *TENANTS)
 PROGRAMS = (*COMPLETED, "disassemble")
+WITH_STATUSES = ("mte_host", "mte_split", "mte_run", "mte_why", "tenant-cc",
+                          "disassemble")
 FILES = {
-    "bin/mte_host": EXECUTABLE, "bin/mte_run": EXECUTABLE, "bin/disassemble": EXECUTABLE,
+    "bin/mte_host": EXECUTABLE, "bin/mte_split": EXECUTABLE, "bin/mte_run": EXECUTABLE,
+    "bin/disassemble": EXECUTABLE,
     "include/tombolopan.h": READABLE, "include/tenant.h": READABLE,
     "lib/libtombolopan.a": READABLE, "lib/libtombolopan.so.2": EXECUTABLE,
     "lib/pkgconfig/tombolopan.pc": READABLE,
@@ -51,7 +55,7 @@ LINKS = {
     "bin/mte_why": "../share/tombolopan/examples/why.sh",
     **{f"bin/{name}": f"../share/tombolopan/examples/libc/{name}" for name in TENANTS},
     **{f"{SHARE}/crates/{name}/out/{name}": f"../../../../../bin/{name}"
-       for name in ("mte_host", "mte_run", "disassemble")},
+       for name in ("mte_host", "mte_split", "mte_run", "disassemble")},
 }
 HEADER = ROOT / "include" / "tombolopan.h"
 FIRST = "breakpoint 1, x0 is 42\n"
@@ -121,6 +125,22 @@ def test_no_place_of_the_build(prefix: pathlib.Path) -> None:
              for place in (ROOT, prefix, cache_folder())
              if str(place).encode() in path.read_bytes()]
     assert not wrong
+
+
+def test_which_build_it_is(prefix: pathlib.Path) -> None:
+    """Programs and the library say the commit of the checkout that they were installed from."""
+    need("git", "readelf")
+    commit = succeed(["git", "rev-parse", "HEAD"], cwd=ROOT).output.strip()
+    wanted = rf"commit:    {commit}\nchanges:   (none|some)\ntoolchain: [0-9a-f]{{40}}\n" \
+             r"build:     (  |un)proved\n"
+    ran = run([prefix / "bin" / "mte_run", "--version"])
+    assert ran.status == 0 and re.fullmatch(rf"mte_run \d\.\d\n{wanted}", ran.output), ran.output
+    for name in ("bin/mte_host", "bin/mte_run", "bin/disassemble", "lib/libtombolopan.so.2"):
+        assert f"commit:    {commit}" in noted(prefix / name)
+    told = "import tombolopan; print(tombolopan.build_info())"
+    ran = run([sys.executable, "-c", told], extra=installed.variables(prefix))
+    assert ran.status == 0 and re.fullmatch(rf"\d\.\d\n{wanted}", ran.output), ran.output
+    assert commit.encode() in (prefix / "lib" / "libtombolopan.a").read_bytes()
 
 
 def test_what_it_writes(prefix: pathlib.Path) -> None:
@@ -314,7 +334,7 @@ def rendered(moved: pathlib.Path, page: str) -> str:
     return re.sub(r".\x08", "", ran.output)
 
 
-@pytest.mark.parametrize("name", ["mte_host", "mte_run"])
+@pytest.mark.parametrize("name", ["mte_host", "mte_split", "mte_run"])
 def test_manual_of_a_program(moved: pathlib.Path, name: str) -> None:
     """The page of a program has its usage, and each argument and option of its help."""
     shown = rendered(moved, f"man1/{name}.1")
@@ -339,7 +359,7 @@ def test_manual_of_the_library(moved: pathlib.Path) -> None:
     assert len(names) >= 25 and set(names) <= headings, set(names) - headings
 
 
-@pytest.mark.parametrize("name", ["mte_host", "mte_run", "mte_why", "tenant-cc", "disassemble"])
+@pytest.mark.parametrize("name", WITH_STATUSES)
 def test_manual_has_its_statuses(moved: pathlib.Path, name: str) -> None:
     """The page of a program says what its exit status means; of mte_run each one."""
     shown = rendered(moved, f"man1/{name}.1")
@@ -350,6 +370,9 @@ def test_manual_has_its_statuses(moved: pathlib.Path, name: str) -> None:
     if name == "mte_run":
         numbers = re.findall(r"^       (\d+)\b", statuses, re.M)
         assert [*map(int, numbers)] == [0, *range(129, 139), 2]
+    if name == "mte_split":
+        numbers = re.findall(r"^       (\d+)\b", statuses, re.M)
+        assert [*map(int, numbers)] == [0, *range(2, 12)]
 
 
 def test_manual_of_a_call(moved: pathlib.Path) -> None:

@@ -139,7 +139,9 @@ def test_usage_is_as_stored(alone: pathlib.Path) -> None:
         assert ran.status == (0 if is_help else USAGE), words
         assert bool(ran.out) == is_help and bool(ran.err) == (not is_help), words
         shown = " ".join(words).replace("\x1b", "\\x1b")
-        told += f"$ mte_run {shown}\nstatus {ran.status}\n{ran.output}{ran.errors}\n"
+        # Behind the version is which build it is.
+        output = ran.output.partition("commit: ")[0]
+        told += f"$ mte_run {shown}\nstatus {ran.status}\n{output}{ran.errors}\n"
     compare("run/usage.txt", told)
 
 

@@ -1,10 +1,10 @@
 #!/usr/bin/env bash
-# Builds mte_host, mte_run, disassemble, the library for C, and the C library of tenants.
+# Builds mte_host, mte_split, mte_run, disassemble, the library for C, and the C library of tenants.
 #     tools/build.sh [--unproved] [--only NAME] [--jobs N] [PREFIX]
 #
 # What is built and newer than all sources stays. Programs and the library are in crates/*/out, the
-# C library of tenants in examples/libc/out. With a PREFIX all of it is installed there
-# (tools/install.sh).
+# C library of tenants in examples/libc/out. Programs and the library say of which commit they are
+# (tools/mark.py). With a PREFIX all of it is installed there (tools/install.sh).
 #     --unproved   builds without proof, in minutes. Beside each such file is NAME.unproved, with
 #                  its sum. What is proved and newer than all sources stays as it is.
 #     --only NAME  this one alone: a program, libtombolopan_c.a, or tenants for the C library
@@ -13,7 +13,7 @@ set -euo pipefail
 here=$(cd "$(dirname "$0")" && pwd)
 crates=$here/../crates
 libc=$here/../examples/libc
-every=(disassemble mte_host libtombolopan_c.a mte_run)
+every=(disassemble mte_host mte_split libtombolopan_c.a mte_run)
 
 leave() {
     echo "build.sh: $1" >&2
@@ -104,6 +104,7 @@ prove() {
     else
         (cd "${file%/out/*}" && rt run -- "${last[@]}" </dev/null)
     fi
+    "$here/mark.py" "$file"
     rm -f "$file.unproved"
 }
 
@@ -113,6 +114,7 @@ unproved() {
     file=$(place "$1")
     mkdir -p "${file%/*}"
     "$here/unproved.py" "$here/.." "$file.new" "${crate%.a}"
+    "$here/mark.py" --unproved "$file.new"
     {
         echo "# Built by tools/build.sh --unproved: nothing is proved of the file with this sum."
         (cd "${file%/*}" && sha256sum "$1.new") | sed "s/$1\.new\$/$1/"

@@ -3,8 +3,8 @@
 #     tools/install.sh PREFIX [FOLDER]
 #     tools/install.sh --uninstall PREFIX
 #
-#     PREFIX/bin                  mte_host, mte_run, disassemble, mte_why (why.sh), tenant-cc and
-#                                 what else is named tenant-.. in examples/libc
+#     PREFIX/bin                  mte_host, mte_split, mte_run, disassemble, mte_why (why.sh),
+#                                 tenant-cc and what else is named tenant-.. in examples/libc
 #     PREFIX/lib                  libtombolopan.a, libtombolopan.so.2 (libtombolopan.so leads to it)
 #     PREFIX/include              tombolopan.h, tenant.h
 #     PREFIX/lib/pkgconfig        tombolopan.pc
@@ -15,9 +15,9 @@
 #     PREFIX/share/doc/tombolopan the pages
 #
 # A copy of PREFIX elsewhere works too. What is not built yet is proved and built first
-# (tools/build.sh; with its --unproved it takes minutes). FOLDER has mte_host, mte_run, disassemble
-# and libtombolopan_c.a that were built elsewhere, and may have libc, what examples/libc/build.py
-# made. DESTDIR, a variable, is put in front of PREFIX.
+# (tools/build.sh; with its --unproved it takes minutes). FOLDER has mte_host, mte_split, mte_run,
+# disassemble and libtombolopan_c.a that were built elsewhere, and may have libc, what
+# examples/libc/build.py made. DESTDIR, a variable, is put in front of PREFIX.
 set -euo pipefail
 here=$(cd "$(dirname "$0")" && pwd)
 top=$(cd "$here/.." && pwd)
@@ -78,7 +78,7 @@ unproved=() tenants=()
 
 # Copies a program, or the archive, from where it was built; builds what is not there.
 take() {
-    local crate=${1#lib} file
+    local crate=${1#lib} file how=()
     file=$built/$1
     if [[ -z $built ]]; then
         file=$top/crates/${crate%.a}/out/$1
@@ -87,7 +87,9 @@ take() {
     cp "$file" "$work/$1"
     if [[ -e $file.unproved ]] && (cd "${file%/*}" && sha256sum -c --status "$1.unproved"); then
         unproved+=("$1")
+        how=(--unproved)
     fi
+    "$here/mark.py" "${how[@]}" "$work/$1"
 }
 
 # Puts files into a folder of the prefix; those that can be run stay so.
@@ -102,10 +104,13 @@ put() {
 }
 
 put_libraries() {
+    local how=()
     # One archive of both, so that -ltombolopan is all that a program names.
     printf 'create %s\naddlib %s\naddlib %s\nsave\nend\n' \
         "$work/libtombolopan.a" "$work/libtombolopan_c.a" "$heap" | ar -M
     "$top/examples/embed/shared.sh" "$work/libtombolopan.so.2" "$work/libtombolopan_c.a"
+    if [[ " ${unproved[*]} " == *" libtombolopan_c.a "* ]]; then how=(--unproved); fi
+    "$here/mark.py" "${how[@]}" "$work/libtombolopan.so.2"
     cat >"$work/tombolopan.pc" <<PC
 prefix=\${pcfiledir}/../..
 includedir=\${prefix}/include
@@ -139,7 +144,7 @@ put_examples() {
     put share/tombolopan/isa "$top/isa/a64.rows" "$top/isa/a64.forms"
     ln -s ../share/tombolopan/examples/why.sh "$stage/bin/mte_why"
     # The examples find the programs as in a checkout.
-    for file in mte_host mte_run disassemble; do
+    for file in mte_host mte_split mte_run disassemble; do
         mkdir -p "$stage/share/tombolopan/crates/$file/out"
         ln -s "../../../../../bin/$file" "$stage/share/tombolopan/crates/$file/out/$file"
     done
@@ -182,12 +187,12 @@ put_libc() {
 # Manual pages and completions, of what each program says of itself and of the pages.
 put_texts() {
     local name call
-    for name in mte_host mte_run; do
+    for name in mte_host mte_split mte_run; do
         "$work/$name" --help >"$work/$name.help"
     done
     : >"$work/disassemble.help"
     (cd "$stage/bin" && ./mte_why --help) >"$work/mte_why.help"
-    for name in mte_host mte_run mte_why disassemble "${tenants[@]}"; do
+    for name in mte_host mte_split mte_run mte_why disassemble "${tenants[@]}"; do
         "$here/manual.py" program "$name" <"$work/$name.help" >"$work/$name.1"
         put share/man/man1 "$work/$name.1"
     done
@@ -199,7 +204,7 @@ put_texts() {
     cp "$work/mte_run.help" "$work/mte_why.help"
     mkdir -p "$stage"/share/{bash-completion/completions,zsh/site-functions}
     mkdir -p "$stage"/share/fish/vendor_completions.d
-    for name in mte_host mte_run mte_why "${tenants[@]}"; do
+    for name in mte_host mte_split mte_run mte_why "${tenants[@]}"; do
         call="$here/completions.py"
         "$call" bash "$name" <"$work/$name.help" >"$stage/share/bash-completion/completions/$name"
         "$call" zsh "$name" <"$work/$name.help" >"$stage/share/zsh/site-functions/_$name"
@@ -246,11 +251,11 @@ copy_all() {
 }
 
 umask 022
-for name in mte_host mte_run disassemble libtombolopan_c.a; do
+for name in mte_host mte_split mte_run disassemble libtombolopan_c.a; do
     take "$name"
 done
 mkdir -p "$stage/bin"
-put bin "$work/mte_host" "$work/mte_run" "$work/disassemble"
+put bin "$work/mte_host" "$work/mte_split" "$work/mte_run" "$work/disassemble"
 put_libraries
 put_examples
 put_libc

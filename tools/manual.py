@@ -53,7 +53,18 @@ MANUALS = {
                   "prints the report of a tenant that writes Hi and exits"},
         files={f"{EXAMPLES}/hi.script, {EXAMPLES}/hi.elf": "a first session",
                "share/doc/tombolopan/docs/HOST.md": "more on sessions"},
-        also="mte_run(1), disassemble(1), tenant-cc(1), tombolopan(3)"),
+        also="mte_split(1), mte_run(1), disassemble(1), tenant-cc(1), tombolopan(3)"),
+    "mte_split": Manual(
+        page="MANY_SESSIONS.md", parts={"One long session": "DESCRIPTION"},
+        statuses="One long session",
+        examples={f"mte_split --list --frames 11 {EXAMPLES}/hi.script {EXAMPLES}/hi.elf > ledger":
+                  "writes who is admitted",
+                  "mte_split --tenant 1 --frames 11 "
+                  f"{EXAMPLES}/hi.script {EXAMPLES}/hi.elf > tenant-1": "runs tenant 1 alone",
+                  "mte_split --merge ledger tenant-1": "prints the report that mte_host prints"},
+        files={"share/doc/tombolopan/docs/MANY_SESSIONS.md": "more on many sessions",
+               "share/tombolopan/tools/batch": "runs the parts of sessions on many processors"},
+        also="mte_host(1), mte_run(1)"),
     "mte_run": Manual(
         page="MTE_RUN.md",
         parts={"": "DESCRIPTION", "Seeds": "SEEDS", "Exact": "EXACT", "Statistics": "STATISTICS",
@@ -220,7 +231,8 @@ def of_header(text: str) -> str:
     page += section_of("CALLS", "\n".join(calls))
     page += section_of("TYPES AND CODES", "\n".join(types))
     page += section_of("RETURN VALUE", roff.spans(
-        "Each call but `tb_version` and `tb_memory_init` answers a `tb_code`; 0 is `TB_OK`."))
+        "Each call but `tb_version`, `tb_build_info` and `tb_memory_init` answers a `tb_code`; 0 "
+        "is `TB_OK`."))
     first = (DOCS.parent / "examples/embed/first.c").read_text(encoding="utf-8")
     page += section_of("EXAMPLES", roff.code_of(first.splitlines()))
     page += section_of("FILES", PLACES + listed({

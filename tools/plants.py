@@ -11,8 +11,8 @@ this copies the checkout, changes the file and tries what the test command has:
     the cases of the suite, over a build of the program without proof (unproved.py)
     with --proofs the proof of the crate, by `rt ci CRATE`, where nothing else noticed it
 
-FOLDER has the right programs (mte_host, mte_run, disassemble, libtombolopan_c.a). Exit status 1
-where one is not noticed.
+FOLDER has the right programs (mte_host, mte_split, mte_run, disassemble, libtombolopan_c.a). Exit
+status 1 where one is not noticed.
 """
 import argparse
 import concurrent.futures
@@ -37,7 +37,10 @@ SUITES = {
         "tests/test_explanations_beside_tools.py", "tests/test_explanations_in_gdb.py",
     ],
     "mte_host": ["tests/test_host.py"],
+    "mte_split": ["tests/test_split.py"],
 }
+# The crates whose bodies another program than mte_run shows.
+SHOWN_BY = {"mte_host": "mte_host", "mte_split": "mte_split", "session_split": "mte_split"}
 
 
 @dataclass(frozen=True)
@@ -56,7 +59,7 @@ class Plant:
         """The program that shows it; the library for C has none."""
         if self.crate == "tombolopan_c":
             return None
-        return "mte_host" if self.crate == "mte_host" else "mte_run"
+        return SHOWN_BY.get(self.crate, "mte_run")
 
     def apply(self, checkout: pathlib.Path) -> None:
         """Changes the file of a checkout."""

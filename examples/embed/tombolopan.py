@@ -355,6 +355,7 @@ _PLACES = [POINTER(_Page), c_size_t]
 _MEMORY = [*_PLACES, POINTER(_TagState)]
 _CALLS = {
     "tb_version": [],
+    "tb_build_info": [c_void_p, c_size_t],
     "tb_session": [
         c_uint32, c_void_p, c_size_t, POINTER(_Bytes), c_size_t, c_void_p, c_size_t,
         POINTER(_SessionEnd),
@@ -439,6 +440,14 @@ def _held(number: int, bits: int, why: str = "bad argument") -> int:
 def _lend(data: bytes) -> _Bytes:
     """The pointer to some bytes, which the caller keeps alive. It is never null."""
     return _Bytes(ctypes.cast(ctypes.c_char_p(data), c_void_p), len(data))
+
+
+def build_info() -> str:
+    """How the library was built: lines with the version of the release, the commit, whether files
+    differed from it, the toolchain's sum, and proved or unproved."""
+    lines = ctypes.create_string_buffer(160)
+    length = _library.tb_build_info(lines, len(lines))
+    return lines.raw[:length].decode()
 
 
 def session(frames: int, script: bytes, files: Sequence[bytes]) -> bytes:

@@ -367,6 +367,7 @@ const _: () = assert!(size_of::<RawTerms>() == 72 && size_of::<AloneEnd>() == 88
 
 unsafe extern "C" {
     safe fn tb_version() -> u32;
+    fn tb_build_info(text: *mut u8, room: usize) -> u32;
     fn tb_session(
         frames: u32,
         script: *const u8,
@@ -469,6 +470,14 @@ unsafe extern "C" {
 /// The version of the library that was linked.
 pub fn version() -> u32 {
     tb_version()
+}
+
+/// How the library was built: lines with the version of the release, the commit, whether files
+/// differed from it, the toolchain's sum, and proved or unproved.
+pub fn build_info() -> String {
+    let mut text = [0; 160];
+    let length = unsafe { tb_build_info(text.as_mut_ptr(), text.len()) } as usize;
+    String::from_utf8_lossy(&text[..length.min(text.len())]).into_owned()
 }
 
 /// The report of a session: as much as there is room for, and how it ended.

@@ -8,7 +8,7 @@ TESTS = ROOT / "tests"
 EXAMPLES = ROOT / "examples"
 EXPECTED = TESTS / "expected"
 IMAGES = TESTS / "images"
-# A folder with mte_host, mte_run, disassemble and libtombolopan_c.a that were built elsewhere.
+# A folder with the programs and libtombolopan_c.a that were built elsewhere.
 BUILT = os.environ.get("TOMBOLOPAN_BUILT")
 
 

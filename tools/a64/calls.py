@@ -22,6 +22,11 @@ TEXT_CRATES = ("a64_text",)
 # What a function takes beside fields, under the same name wherever it is called.
 STATE = {"regs", "memory", "pc", "outcome"}
 
+# The types of an access, by the size that a function is generic in, and where they are.
+SIZES = ("Byte", "Halfword", "Word", "Doubleword")
+SIZE_BOUND = "A: AccessSize"
+SIZES_MODULE = "a64_step::memory_access"
+
 
 @dataclass
 class Function:
@@ -30,6 +35,7 @@ class Function:
     module: str
     parameters: list[tuple[str, str]]  # of (name, type)
     result: str  # its type, or "" where it returns nothing
+    is_sized: bool = False  # whether it is generic in the size of an access
 
 
 @dataclass
@@ -54,6 +60,7 @@ class Call:
     function: Function
     structs: set[str]  # the names of those that it makes
     fields: set[str]  # the names of those that it passes
+    size: str = ""  # the type of its access
 
 
 def folder_of(crate: str) -> str:
@@ -70,10 +77,10 @@ def read_sources(written: set[str], crates: tuple[str, ...] = CRATES) -> Sources
         if f"{folder_of(crate)}/{path.name}" in written:
             continue
         text = path.read_text()
-        for head in re.finditer(r"^pub fn (\w+)(?:<[^>]*>)?\(([^)]*)\)(?: -> (.*\S))?", text, re.M):
-            parameters = re.findall(r"(\w+): ([^,\n]+)", head[2])
+        for head in re.finditer(r"^pub fn (\w+)(<[^>]*>)?\(([^)]*)\)(?: -> (.*\S))?", text, re.M):
+            parameters = re.findall(r"(\w+): ([^,\n]+)", head[3])
             functions[head[1]] = Function(head[1], crate, path.stem, parameters,
-                                          head[3] or "")
+                                          head[4] or "", SIZE_BOUND in (head[2] or ""))
         for head in re.finditer(r"^pub struct (\w+) {\n(.*?)^}", text, re.M | re.S):
             fields = re.findall(r"^    pub (\w+): ", head[2], re.M)
             structs[head[1]] = Struct(crate, path.stem, fields)
@@ -110,4 +117,15 @@ def call_of(name: str, values: Mapping[str, object], sources: Sources, place: st
 
     arguments = ", ".join(argument(*parameter) for parameter in function.parameters)
     call.text = f"{name}({arguments})"
+    if function.is_sized:
+        call.size = size_type(name, values, place)
+        call.text = f"{name}::<M, {call.size}>({arguments})"
     return call
+
+
+def size_type(name: str, values: Mapping[str, object], place: str) -> str:
+    """The type of the access of a function that is generic in it."""
+    size = values.get("size")
+    if not isinstance(size, int):
+        raise TableError(f"{place}: {name} is for one size, and the form has no size of its own")
+    return SIZES[size]

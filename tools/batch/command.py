@@ -28,6 +28,7 @@ from batch.driver import Batch
 from batch.engines import Engine, LocalEngine
 from batch.sample import Sample
 from batch.sessions import BadList, Place, Session, places_of, share_of
+from batch.splitting import Split
 from batch.store import Store
 from batch.summaries import json_of, junit_of, write_whole
 from batch.verdicts import Verdict, Work, is_right, lines_of
@@ -83,7 +84,10 @@ def parse(words: Sequence[str] | None) -> argparse.Namespace:
         "; several share the sessions")
     add("--dask", nargs="?", const="", metavar="ADDRESS",
         help="run over the scheduler of Dask at ADDRESS; without it over one on this machine")
-    add("--share", type=share, metavar="I/N", help="take the Ith of N shares of the sessions alone")
+    add("--split", action="store_true",
+        help="run each session by its tenants, with mte_split, which --program then names too")
+    add("--share", type=share, metavar="I/N",
+        help="take the Ith of N shares of the sessions alone; with --split, of their parts")
     add("--sample", type=between(0, 100), metavar="PERCENT",
         help="run so many of a hundred once more by --elsewhere, and compare")
     add("--elsewhere", action="append", default=[], metavar="COMMAND",
@@ -96,6 +100,8 @@ def parse(words: Sequence[str] | None) -> argparse.Namespace:
     given = parser.parse_args(words)
     if given.sample and not given.elsewhere:
         parser.error("--sample needs --elsewhere COMMAND")
+    if given.split and given.sample:
+        parser.error("--split takes no --sample")
     if given.dask is not None and (given.program or given.timeout):
         parser.error("--dask takes neither --program nor --timeout")
     if given.store is None:
@@ -127,6 +133,21 @@ def missing_command(commands: Sequence[str]) -> str:
     return next((it for it in first if shutil.which(it) is None), "")
 
 
+def library_runner() -> tuple[runs.Runner, str]:
+    """What runs sessions by the library, and its sum."""
+    program = runs.library_sum()
+    if not program:
+        raise Usage("libtombolopan.so is not found: examples/embed/shared.sh makes it, and the "
+                    f"variable {runs.LIBRARY} may name it")
+    return functools.partial(runs.run_by_library, wanted=program), program
+
+
+def split_runner(given: argparse.Namespace) -> tuple[runs.Runner, str]:
+    """What runs parts of sessions by mte_split, and its sum."""
+    program = runs.split_sum()
+    return functools.partial(runs.run_by_split, wanted=program, seconds=given.timeout), program
+
+
 def engine_of(given: argparse.Namespace) -> tuple[Engine, str]:
     """What runs the sessions, and the sum of the program."""
     if missing := missing_command([*given.program, *given.elsewhere]):
@@ -136,11 +157,7 @@ def engine_of(given: argparse.Namespace) -> tuple[Engine, str]:
                     for it in given.program]
         runners = [commands[at % len(commands)] for at in range(given.jobs)]
         return LocalEngine(runners), runs.command_sum(given.program)
-    program = runs.library_sum()
-    if not program:
-        raise Usage("libtombolopan.so is not found: examples/embed/shared.sh makes it, and the "
-                    f"variable {runs.LIBRARY} may name it")
-    runner = functools.partial(runs.run_by_library, wanted=program)
+    runner, program = split_runner(given) if given.split else library_runner()
     if given.dask is None:
         return LocalEngine([runner] * given.jobs, given.timeout), program
     try:
@@ -184,7 +201,12 @@ def is_below(name: str) -> bool:
 def run(given: argparse.Namespace) -> tuple[list[Verdict], Work]:
     """Runs the sessions."""
     found = places_of(given.sessions)
-    places = {it.name: it for it in (share_of(found, *given.share) if given.share else found)}
+    if given.share and not given.split:
+        found = share_of(found, *given.share)
+    places = {it.name: it for it in found}
+    if given.split and not runs.find_split():
+        raise Usage("mte_split is not found: tools/build.sh makes it, and the variable "
+                    f"{runs.SPLIT} may name it")
     each = writer(given, places)
     engine, program = engine_of(given)
     try:
@@ -193,7 +215,11 @@ def run(given: argparse.Namespace) -> tuple[list[Verdict], Work]:
         if each is not None:
             batch.each = each
         batch.work.program = program
-        verdicts = batch.run(places.values(), engine)
+        if given.split:
+            split = Split(batch, engine, runs.find_split(), progress)
+            verdicts = split.run(places.values(), given.share)
+        else:
+            verdicts = batch.run(places.values(), engine)
     finally:
         engine.close()
     if given.sample:

@@ -2,9 +2,9 @@
 
 import collections
 from collections.abc import Callable, Iterable, Iterator
-from dataclasses import dataclass, field
+from dataclasses import dataclass, field, replace
 
-from batch.answers import Answer, Lost, is_of_bytes
+from batch.answers import Answer, Lost
 from batch.engines import Bundle, Engine
 from batch.runs import Replies
 from batch.sessions import Job, Place, Session, read_session
@@ -26,6 +26,7 @@ class Batch:
     tries: int
     tell: Callable[[int], None] = lambda done: None
     each: Callable[[Session, Answer], None] = lambda session, answer: None
+    read: Callable[[Place, str], Session] = read_session
     verdicts: dict[str, Verdict] = field(default_factory=dict)
     work: Work = field(default_factory=Work)
     _waiting: dict[str, list[Session]] = field(default_factory=dict)
@@ -61,12 +62,12 @@ class Batch:
         size = 0
         contents: dict[bytes, bytes] = {}
         for place in places:
-            job = self._begin(read_session(place, self.program))
+            job = self.begin(self.read(place, self.program))
             if job is None:
                 continue
             # What several have is sent once.
             files = tuple(contents.setdefault(it, it) for it in job.files)
-            jobs.append(Job(job.key, job.frames, job.script, files))
+            jobs.append(replace(job, files=files))
             size += len(job.script) + sum(map(len, files))
             if len(jobs) == count or size > BUNDLE_BYTES:
                 yield Bundle(tuple(jobs))
@@ -74,24 +75,34 @@ class Batch:
         if jobs:
             yield Bundle(tuple(jobs))
 
-    def _begin(self, session: Session) -> Job | None:
+    def begin(self, session: Session) -> Job | None:
         """The job of a session that has to be run; else the session has its verdict, or waits."""
         job = session.job
         if session.wrong:
             self.verdicts[session.name] = Verdict(session.name, NO_SESSION, session.wrong)
         elif job is None:
             assert session.answer is not None
-            self._judge(session, session.answer, RAN)
+            self.judge(session, session.answer, RAN)
         elif job.key in self._waiting:
             self._waiting[job.key].append(session)
-        elif (kept := self.store.get(job.key)) is not None:
-            self._judge(session, kept, KEPT)
+        elif (kept := self._kept(job)) is not None:
+            self.judge(session, kept, KEPT)
         else:
             self._waiting[job.key] = [session]
             return job
         return None
 
-    def _judge(self, session: Session, answer: Answer, source: str) -> None:
+    def _kept(self, job: Job) -> Answer | None:
+        """The answer that is kept of a job. One that cannot be its answer is forgotten."""
+        kept = self.store.get(job.key)
+        if kept is None or job.is_answered_by(kept):
+            return kept
+        self.store.damaged.add(job.key)
+        self.store.forget({job.key})
+        return None
+
+    def judge(self, session: Session, answer: Answer, source: str) -> None:
+        """Enters the verdict of a session that is answered."""
         key = "" if session.job is None else session.job.key
         self.verdicts[session.name] = judge(session.name, answer, session.wanted, source, key)
         try:
@@ -109,9 +120,11 @@ class Batch:
             found: dict[str, Answer] = {}
             why = dict.fromkeys((it.key for it in bundle.jobs), replies.why)
         else:
-            found = {key: it for key, it in replies if isinstance(it, Answer) and is_of_bytes(it)}
+            found = {key: it for key, it in replies if isinstance(it, Answer)}
             why = {key: it.why for key, it in replies if isinstance(it, Lost)}
-        self._answer({it.key: found[it.key] for it in bundle.jobs if it.key in found})
+        found = {it.key: found[it.key] for it in bundle.jobs
+                 if it.key in found and it.is_answered_by(found[it.key])}
+        self._answer(found)
         lost = tuple(it for it in bundle.jobs if it.key not in found)
         again = self._tries(bundle, lost, isinstance(replies, Lost), is_tried)
         self._again.extend(again)
@@ -146,5 +159,5 @@ class Batch:
         for key, answer in answers.items():
             source = MENDED if key in self.store.damaged else RAN
             for session in self._waiting.pop(key):
-                self._judge(session, answer, source)
+                self.judge(session, answer, source)
                 source = KEPT

@@ -24,6 +24,8 @@ Replies = list[tuple[str, Reply]]
 Runner = Callable[[Sequence[Job]], Replies]
 # Where the library is, as tombolopan.py reads it.
 LIBRARY = "TOMBOLOPAN"
+# Where mte_split is, in place of that of this checkout or prefix.
+SPLIT = "TOMBOLOPAN_SPLIT"
 
 
 def find_library() -> str:
@@ -115,10 +117,37 @@ def process_answer(job: Job, command: Sequence[str], seconds: float | None) -> R
             names = [str(folder / f"file-{number}") for number in range(len(job.files) + 1)]
             for name, content in zip(names, (job.script, *job.files)):
                 pathlib.Path(name).write_bytes(content)
-            ran = subprocess.run([*command, "--frames", str(job.frames), *names], check=False,
-                                 stdin=subprocess.DEVNULL, capture_output=True, timeout=seconds)
+            words = [*command, *job.words, "--frames", str(job.frames), *names]
+            ran = subprocess.run(words, check=False, stdin=subprocess.DEVNULL,
+                                 capture_output=True, timeout=seconds)
         except subprocess.TimeoutExpired:
             return Lost(f"it took longer than {seconds:g} seconds")
         except OSError as error:
             return Lost(f"cannot be run: {error}")
     return checked(Answer(ran.returncode, ran.stdout, ran.stderr))
+
+
+def find_split() -> str:
+    """The path of mte_split: what the variable names, or that of this checkout, or of the prefix in
+    which this is installed, or of the PATH; empty where there is none."""
+    top = pathlib.Path(__file__).resolve().parents[2]
+    near = top / "crates" / "mte_split" / "out" / "mte_split"
+    there = str(near) if near.is_file() else shutil.which("mte_split") or ""
+    named = os.environ.get(SPLIT) or there
+    return str(pathlib.Path(named).resolve()) if os.path.isfile(named) else ""
+
+
+@functools.cache
+def split_sum() -> str:
+    """The sum of this machine's mte_split; empty where there is none."""
+    path = find_split()
+    return sum_of_file(path) if path else ""
+
+
+def run_by_split(jobs: Sequence[Job], wanted: str, seconds: float | None = None) -> Replies:
+    """Parts of sessions, each by a process of this machine's mte_split, where its sum is the one
+    that is wanted."""
+    if split_sum() != wanted:
+        lost = Lost("another mte_split, or none, is on the machine that was to run it")
+        return [(job.key, lost) for job in jobs]
+    return run_by_command(jobs, shlex.quote(find_split()), seconds)

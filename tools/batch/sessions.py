@@ -7,7 +7,7 @@ import re
 from collections.abc import Iterator
 from dataclasses import dataclass, field
 
-from batch.answers import READ, Answer
+from batch.answers import OK, READ, Answer, is_of_bytes, is_part
 
 WANTED = ("out", "err", "status", "output")
 # What a table has before a file with output, not a report.
@@ -34,12 +34,22 @@ class Place:
 
 @dataclass(frozen=True)
 class Job:
-    """What decides a report, and its sum."""
+    """What decides a report, and its sum. Of a part of a session, words of mte_split before those
+    of mte_host, and what its head has to be."""
 
     key: str
     frames: int
     script: bytes
     files: tuple[bytes, ...]
+    words: tuple[str, ...] = ()
+    head: bytes = b""
+
+    def is_answered_by(self, answer: Answer) -> bool:
+        """Whether an answer may be that of this job."""
+        if not is_of_bytes(answer):
+            return False
+        return answer.status != OK or (is_part(answer.out) == bool(self.words)
+                                       and answer.out.startswith(self.head))
 
 
 @dataclass

@@ -36,11 +36,13 @@ class Verdict:
 @dataclass
 class Work:
     """What a run did beside its verdicts: the sum of its program, how often sessions were lost and
-    tried again, how many answers could not be kept and why, how many were run elsewhere too, and
-    how many of these were lost there."""
+    tried again, how many parts of sessions were run and kept, how many answers could not be kept
+    and why, how many were run elsewhere too, and how many of these were lost there."""
 
     program: str = ""
     retries: int = 0
+    parts_run: int = 0
+    parts_kept: int = 0
     unkept: int = 0
     why_unkept: str = ""
     checked: int = 0
@@ -88,6 +90,8 @@ def lines_of(verdicts: list[Verdict], work: Work) -> list[str]:
                            if found[it] or it in (WANTED, DIFFERENT)))
     sources = Counter(it.source for it in verdicts)
     told = [f"{sources[RAN] + sources[MENDED]} run", f"{sources[KEPT]} kept"]
+    if work.parts_run or work.parts_kept:
+        told.append(f"in {work.parts_run} parts run, {work.parts_kept} parts kept")
     for count, text in ((sources[MENDED], "mended"), (work.retries, "tried again"),
                         (work.unkept, f"not stored: {shown(work.why_unkept)}"),
                         (work.checked, "run elsewhere too"),

@@ -1,10 +1,12 @@
 //! The files that GDB reads: the maps of the tenant's memory, and its image.
 
 use crate::front::Front;
+use crate::mappings::{put_maps, put_smaps};
+use crate::parts::{put_file_part, put_file_status};
 use crate::reply::Reply;
+use crate::text::TextBuffer;
 use elf_core::MappedRegion;
 use gdb_packets::{FileCall, read_hex};
-use gdb_target::{TextBuffer, put_file_part, put_file_status, put_maps, put_smaps};
 use std::alloc::Global;
 
 /// The descriptor of a map, one of which is open at a time.

@@ -1,11 +1,12 @@
 //! The front.
 
 use crate::files::File;
+use crate::registers::TargetRegisters;
 use crate::reply::Reply;
+use crate::text::TextBuffer;
 use debuggee::Debuggee;
 use gdb_monitor::DebugSubject;
 use gdb_packets::{Command, parse_command};
-use gdb_target::{TargetRegisters, TextBuffer};
 use gdb_travel::{Points, StopReason, Traveller};
 use std::alloc::Global;
 

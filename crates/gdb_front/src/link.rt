@@ -2,10 +2,10 @@
 
 use crate::front::Front;
 use crate::reply::Reply;
+use crate::text::TextBuffer;
 use gdb_packets::{
     Command, FRAME_LIMIT, PacketInput, parse_command, read_input, unescape, write_packet,
 };
-use gdb_target::TextBuffer;
 use std::alloc::Global;
 use std::io;
 use std::io::{Read, Write};

@@ -1,10 +1,12 @@
 //! What is asked of registers, features and objects, and what has one answer.
 
+use crate::description::put_description;
 use crate::front::Front;
+use crate::parts::put_part;
 use crate::reply::Reply;
+use crate::text::TextBuffer;
 use elf_core::Signal;
 use gdb_packets::{Command, read_register};
-use gdb_target::{TextBuffer, put_description, put_part};
 use std::alloc::Global;
 
 /// What the front can do, whoever asks.

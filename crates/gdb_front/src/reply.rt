@@ -1,6 +1,6 @@
 //! What a packet is answered.
 
-use gdb_target::TextBuffer;
+use crate::text::TextBuffer;
 use std::alloc::Global;
 
 /// What a packet is answered: a text for GDB's user, and the answer.

@@ -101,9 +101,9 @@ fn options_of<'a>(
 
 /// The command line's form.
 fn command<'a>(alloc: Global) -> Result<Command<'a>, Error> {
-    let command = Command::new(alloc, "mte_run").version("1.0").about(
-        "Runs one tenant alone on an Arm core with memory tagging, and tells why it ended",
-    );
+    let command = Command::new(alloc, "mte_run")
+        .version(build_info::text())
+        .about("Runs one tenant alone on an Arm core with memory tagging, and tells why it ended");
     let command = tenant_options(alloc, command)?;
     let command = terms_options(alloc, command)?;
     let command = run_options(alloc, command)?;

@@ -5,6 +5,7 @@
 
 mod alone_calls;
 mod alone_end;
+mod build_calls;
 mod codes;
 mod faults;
 mod find;
@@ -27,6 +28,7 @@ mod stops;
 
 pub use alone_calls::tb_alone;
 pub use alone_end::AloneEnd;
+pub use build_calls::tb_build_info;
 pub use codes::{
     aborts_in_digits, answers_in_digits, faults_in_digits, heap_calls_in_digits, pages_in_digits,
     refusals_in_digits, script_faults_in_digits, statuses_in_digits,

@@ -3,7 +3,7 @@ use Rattle.std.specs.Prelude.{ℕ, ◌+◌, ◌*◌, ◌^◌, ◌==◌, Option, 
 use Rattle.std.specs.Prelude.{if◌then◌else◌}
 use Rattle.elf_core.specs.Flags.{word_of_flags, word_of_mode}
 use Rattle.mte_tags.specs.declared.generator.Rgsr.{Rgsr}
-use Rattle.gdb_target.specs.declared.registers.TargetRegisters.{TargetRegisters}
+use Rattle.gdb_front.specs.declared.registers.TargetRegisters.{TargetRegisters}
 
 -- RGSR_EL1: TAG in bits 3 to 0, SEED in bits 23 to 8 (Arm ARM DDI 0487, "RGSR_EL1").
 abbrev pub word_of_generator : Rgsr → ℕ

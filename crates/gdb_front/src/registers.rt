@@ -1,7 +1,7 @@
 //! Registers.
 
 ghost use Rattle.std.specs.Prelude.{◌≡◌};
-ghost use Rattle.gdb_target.specs.TargetValues.{value_of, word_of_generator};
+ghost use Rattle.gdb_front.specs.TargetValues.{value_of, word_of_generator};
 
 use crate::text::TextBuffer;
 use a64_registers::Regs;

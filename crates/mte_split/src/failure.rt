@@ -1,0 +1,114 @@
+//! Why the program has no whole answer.
+
+use mte_session::{ScriptFault, WriteFault};
+use session_split::{MergeFault, PartFault, SplitFault};
+use std::alloc::AllocFailed;
+use std::fmt;
+
+/// Why the program has no whole answer.
+#[derive(Clone, Copy)]
+pub enum SplitFailure<'a> {
+    /// The script's first faulty line, counted from 1, and what is wrong with it.
+    Script(u64, ScriptFault),
+    /// An allocation failed.
+    Memory,
+    /// A file could not be read; its name as it was given.
+    Read(&'a str),
+    /// Standard output could not be written.
+    Write,
+    /// What is wrong with a part; its name as it was given.
+    Part(&'a str, PartFault),
+    /// No part says who is admitted.
+    NoLedger,
+    /// The part of a tenant is missing.
+    NoTenant(u16),
+    /// The session never admits the tenant.
+    NotAdmitted(u16),
+}
+
+impl<'a> SplitFailure<'a> {
+    /// The failure of a part that could not be made, of a tenant if there is one.
+    pub fn of_making(fault: SplitFault, id: u16) -> SplitFailure<'a> {
+        match fault {
+            SplitFault::Script(line, fault) => SplitFailure::Script(line, fault),
+            SplitFault::NotAdmitted => SplitFailure::NotAdmitted(id),
+            SplitFault::OutOfMemory => SplitFailure::Memory,
+        }
+    }
+
+    /// The failure of parts with these names that make no report.
+    pub fn of_merging(fault: MergeFault, names: &'a [String]) -> SplitFailure<'a> {
+        match fault {
+            MergeFault::Part(index, fault) => SplitFailure::Part(name_at(names, index), fault),
+            MergeFault::NoLedger => SplitFailure::NoLedger,
+            MergeFault::NoTenant(id) => SplitFailure::NoTenant(id),
+            MergeFault::OutOfMemory => SplitFailure::Memory,
+        }
+    }
+
+    /// The exit status.
+    fn status(&self) -> u8 {
+        match self {
+            SplitFailure::Script(_, _) => 3,
+            SplitFailure::Memory => 4,
+            SplitFailure::Read(_) => 5,
+            SplitFailure::Write => 6,
+            SplitFailure::Part(_, PartFault::Damaged) => 7,
+            SplitFailure::Part(_, PartFault::OtherSession) => 8,
+            SplitFailure::Part(_, PartFault::Twice) => 9,
+            SplitFailure::NoLedger | SplitFailure::NoTenant(_) => 10,
+            SplitFailure::NotAdmitted(_) => 11,
+        }
+    }
+}
+
+/// The name with an index.
+fn name_at(names: &[String], index: usize) -> &str {
+    match names.get(index) {
+        Some(name) => name.as_str(),
+        None => "",
+    }
+}
+
+/// The word for what is wrong with a part.
+fn word_for(fault: PartFault) -> &'static str {
+    match fault {
+        PartFault::Damaged => "Damaged",
+        PartFault::OtherSession => "OtherSession",
+        PartFault::Twice => "Twice",
+    }
+}
+
+impl<'a> fmt::Display for SplitFailure<'a> {
+    fn fmt<W: fmt::Write>(&self, f: &mut fmt::Formatter<W>) -> fmt::Result {
+        match self {
+            SplitFailure::Script(line, fault) => write!(f, "script line {line}: {fault}"),
+            SplitFailure::Memory => f.write_str("out of memory"),
+            SplitFailure::Read(name) => write!(f, "cannot read {name}"),
+            SplitFailure::Write => f.write_str("cannot write"),
+            SplitFailure::Part(name, fault) => write!(f, "part {name}: {}", word_for(*fault)),
+            SplitFailure::NoLedger => f.write_str("part of the ledger: Missing"),
+            SplitFailure::NoTenant(id) => write!(f, "part of tenant {id}: Missing"),
+            SplitFailure::NotAdmitted(id) => write!(f, "tenant {id}: NotAdmitted"),
+        }
+    }
+}
+
+impl<'a> From<WriteFault> for SplitFailure<'a> {
+    fn from(_error: WriteFault) -> SplitFailure<'a> {
+        SplitFailure::Write
+    }
+}
+
+impl<'a, T: Drop> From<AllocFailed<T>> for SplitFailure<'a> {
+    fn from(_error: AllocFailed<T>) -> SplitFailure<'a> {
+        SplitFailure::Memory
+    }
+}
+
+/// Writes the line for standard error, and returns the exit status, whether or not the line could
+/// be written.
+pub fn report(rt: &HostRuntime, failure: &SplitFailure<'_>) -> u8 {
+    let _ = eprintln!(rt; "mte_split: {failure}");
+    failure.status()
+}

@@ -1,0 +1,78 @@
+//! A run of the program: files are read, and what is wanted is written.
+
+use crate::failure::SplitFailure;
+use crate::files::read_files;
+use crate::request::{SplitRequest, Wanted};
+use mte_program::StreamSink;
+use mte_session::{Session, write_all};
+use session_split::{ledger_part, merge, tenant_part};
+
+/// Reads the files in order, and writes what is wanted. Nothing is written before all is known.
+pub fn run_request<'a>(
+    rt: &HostRuntime,
+    request: &'a SplitRequest,
+) -> Result<(), SplitFailure<'a>> {
+    let names = request.names.as_slice();
+    let whole = read_files(rt, names)?;
+    let files = whole.as_slice();
+    match request.wanted {
+        Wanted::Ledger => write_ledger(rt, &session_of(request.frames, files)),
+        Wanted::Tenant(id) => write_tenant(rt, &session_of(request.frames, files), id),
+        Wanted::Whole => write_whole(rt, names, files),
+    }
+}
+
+/// The session of a script, which is the first file, and of those that it refers to. Without a file
+/// it is that of an empty script.
+fn session_of(frames: u32, whole: &[Vec<u8>]) -> Session<'_> {
+    match whole {
+        [script, files @ ..] => Session {
+            frames,
+            script: script.as_slice(),
+            files,
+        },
+        [] => Session {
+            frames,
+            script: &[],
+            files: &[],
+        },
+    }
+}
+
+fn write_ledger<'a>(rt: &HostRuntime, session: &Session<'_>) -> Result<(), SplitFailure<'a>> {
+    match ledger_part(rt.alloc(), session) {
+        Ok(text) => write_text(rt, text.as_slice()),
+        Err(fault) => Err(SplitFailure::of_making(fault, 0)),
+    }
+}
+
+fn write_tenant<'a>(
+    rt: &HostRuntime,
+    session: &Session<'_>,
+    id: u16,
+) -> Result<(), SplitFailure<'a>> {
+    match tenant_part(rt.alloc(), session, id) {
+        Ok(text) => write_text(rt, text.as_slice()),
+        Err(fault) => Err(SplitFailure::of_making(fault, id)),
+    }
+}
+
+/// Writes the report that parts make.
+fn write_whole<'a>(
+    rt: &HostRuntime,
+    names: &'a [String],
+    parts: &[Vec<u8>],
+) -> Result<(), SplitFailure<'a>> {
+    let pieces = match merge(rt.alloc(), parts) {
+        Ok(pieces) => pieces,
+        Err(fault) => return Err(SplitFailure::of_merging(fault, names)),
+    };
+    for piece in &pieces {
+        write_text(rt, piece)?;
+    }
+    Ok(())
+}
+
+fn write_text<'a>(rt: &HostRuntime, text: &[u8]) -> Result<(), SplitFailure<'a>> {
+    Ok(write_all(&mut StreamSink(rt.stdout()), text)?)
+}

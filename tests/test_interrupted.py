@@ -1,0 +1,82 @@
+"""A gate that fails or is interrupted leaves what was built, and what is installed."""
+
+import os
+import pathlib
+import signal
+import subprocess
+import time
+
+import pytest
+
+from tests.support.checkout import copy_files, make_stub
+from tests.support.tools import need
+
+# Moves all that was built away, as the toolchain does before it proves; builds one program anew.
+TOOLCHAIN = """\
+mkdir -p .git/rt-aside
+for folder in crates/*/out; do
+    [[ ! -e $folder ]] || mv "$folder" ".git/rt-aside/$(basename "$(dirname "$folder")")"
+done
+mkdir -p crates/mte_host/out
+echo anew >crates/mte_host/out/mte_host
+touch moved
+sleep "$SECONDS_OF_PROOF"
+echo '0 passed, 1 failed'
+exit 1
+"""
+FIRST = ("style", "border", "isa", "believe", "crates")
+FILES = {"mte_host": "crates/mte_host/out/mte_host", "mte_run": "crates/mte_run/out/mte_run",
+         "library": "crates/tombolopan_c/out/libtombolopan_c.a"}
+
+
+@pytest.fixture
+def clone(tmp_path: pathlib.Path) -> pathlib.Path:
+    """A checkout with built programs, whose cases take no time."""
+    need("bash", "find")
+    top = copy_files(tmp_path / "clone", "tests/run.sh")
+    for name in FIRST:
+        (top / "tests" / f"test_{name}.py").write_text("def test(): pass\n", encoding="utf-8")
+    (top / "tests" / "install.sh").write_text("#!/bin/sh\n", encoding="utf-8")
+    (top / "tests" / "install.sh").chmod(0o755)
+    for name, file in FILES.items():
+        (top / file).parent.mkdir(parents=True)
+        (top / file).write_text(f"{name}\n", encoding="utf-8")
+    (top / f"{FILES['mte_run']}.unproved").write_text("mark\n", encoding="utf-8")
+    return top
+
+
+def gate(clone: pathlib.Path, seconds: int) -> "subprocess.Popen[bytes]":
+    """The gate over a toolchain that takes so long, in a process group of its own."""
+    stub = make_stub(clone.parent / "stub", "rt", TOOLCHAIN)
+    return subprocess.Popen([clone / "tests" / "run.sh"], stdout=subprocess.DEVNULL,
+                            stderr=subprocess.DEVNULL, start_new_session=True,
+                            env={**os.environ, **stub, "SECONDS_OF_PROOF": str(seconds)})
+
+
+def contents(clone: pathlib.Path) -> dict[str, str]:
+    """What is built."""
+    return {name: (clone / file).read_text(encoding="utf-8") for name, file in FILES.items()}
+
+
+WANTED = {"mte_host": "anew\n", "mte_run": "mte_run\n", "library": "library\n"}
+
+
+def test_a_gate_that_fails(clone: pathlib.Path) -> None:
+    """What was built anew stays, and the rest is put back with its marks."""
+    assert gate(clone, 0).wait(180) == 1
+    assert contents(clone) == WANTED
+    mark = clone / f"{FILES['mte_run']}.unproved"
+    assert mark.read_text(encoding="utf-8") == "mark\n"
+
+
+@pytest.mark.parametrize("number", [signal.SIGINT, signal.SIGTERM])
+def test_a_gate_that_is_interrupted(clone: pathlib.Path, number: int) -> None:
+    """So it is where a terminal interrupts it, or a signal ends it."""
+    running = gate(clone, 30)
+    deadline = time.monotonic() + 180
+    while not (clone / "moved").exists() and time.monotonic() < deadline:
+        time.sleep(0.05)
+    assert not (clone / FILES["mte_run"]).exists()
+    os.killpg(running.pid, number)
+    assert running.wait(180) != 0
+    assert contents(clone) == WANTED

@@ -1,0 +1,32 @@
+"""What a step of a tenant costs, in instructions of this machine by callgrind."""
+
+import pathlib
+import re
+import sys
+
+from tests.support.places import ROOT
+from tests.support.running import run, succeed
+from tests.support.tools import need
+
+# The most instructions a step; docs/SPEED.md has what was measured.
+MOST = {"alu": 25.5, "memory": 43.0, "offsets": 33.0, "mix": 35.0, "svc18": 36.5, "slices16": 111.0}
+
+
+def test_a_step_calls_nothing(host: pathlib.Path) -> None:
+    """The match over the forms is in line in the loop of a run: the toolchain calls a function
+    that it finds too large for that, with no message, and a step then takes twice as much."""
+    need("nm")
+    names = succeed(["nm", "-C", host]).output
+    assert "run_known" in names
+    assert not re.search(r"execute_op::execute_op\b", names)
+
+
+def test_a_step_takes_few_instructions(host: pathlib.Path) -> None:
+    """Loops between registers, of loads and stores, and compiled code."""
+    need("clang", "ld.lld", "valgrind")
+    ran = run([sys.executable, ROOT / "tools/speed/measure.py", "--ir", host], seconds=600)
+    assert ran.status == 0, ran.errors
+    found = {name: float(number) for name, number in
+             re.findall(r"^(\w+) +\S+: ([0-9.]+) instructions$", ran.output, re.M)}
+    assert found.keys() >= MOST.keys(), ran.output
+    assert {name: found[name] for name, most in MOST.items() if found[name] > most} == {}

@@ -1,0 +1,446 @@
+"""Sessions in parts by mte_split, and by tools/batch with it: they make the report of mte_host,
+byte for byte, and a part that is missing, there twice, damaged or of another session is refused."""
+
+import hashlib
+import os
+import pathlib
+import re
+import resource
+import shlex
+import shutil
+import subprocess
+import sys
+import time
+
+import pytest
+
+from tests.support.batches import BATCH, Batch, script, summary
+from tests.support.embedding import folders
+from tests.support.expected import compare
+from tests.support.host_sessions import admission, with_hi
+from tests.support.instructions import move, program, subtract_with_flags
+from tests.support.once import make_once
+from tests.support.places import EXAMPLES
+from tests.support.running import Ran, run, succeed
+from tests.support.split_sessions import LEDGER, SplitSession, admitted, resealed
+from tests.support.tools import give_up
+
+USAGE_WORDS = [
+    "", "--help", "--list", "--list hi.script hi.elf", "--list --frames 11",
+    "--list --frames 0 hi.script", "--list --frames 65537 hi.script", "--frames 11 hi.script",
+    "--tenant --frames 11 hi.script", "--tenant 65536 --frames 11 hi.script",
+    "--tenant -1 --frames 11 hi.script", "--list --tenant 1 --frames 11 hi.script",
+    "--merge --list hi.script", "--merge --frames 11 hi.script", "--merge",
+    "--list --list --frames 11 hi.script", "--lists --frames 11 hi.script",
+]
+# Of a script with tenants of more than ten million steps each, and the most events of one.
+LONG_SLICES, TENANTS = 10, 4
+MOST_EVENTS = 10_000
+# Sessions of the generator.
+COUNT = 12
+RIGHT = f"{COUNT} as wanted, 0 different"
+
+
+@pytest.fixture
+def odd(host: pathlib.Path, shared: pathlib.Path) -> pathlib.Path:
+    """Sessions of every kind, and what mte_host writes of each."""
+    return make_once(shared / "batch" / "sessions", lambda path: folders.make(host, path))
+
+
+@pytest.fixture
+def together(split: pathlib.Path, odd: pathlib.Path, tmp_path: pathlib.Path) -> SplitSession:
+    """A session of several tenants of which some are stopped, so that events are refused."""
+    return SplitSession(split, odd / "stopped", tmp_path / "parts")
+
+
+def wanted(folder: pathlib.Path) -> Ran:
+    """What mte_host writes of a session."""
+    status = int((folder / "want.status").read_text(encoding="utf-8"))
+    return Ran(status, (folder / "want.out").read_bytes(), (folder / "want.err").read_bytes())
+
+
+# The same bytes as mte_host
+
+def test_sessions_of_every_kind(split: pathlib.Path, odd: pathlib.Path,
+                                tmp_path: pathlib.Path) -> None:
+    """The parts of a session, in any order, make the report of mte_host; a script with a faulty
+    line has no part, and the same line and status."""
+    kinds = set()
+    for seed, folder in enumerate(sorted(odd.iterdir())):
+        session = SplitSession(split, folder, tmp_path / folder.name)
+        whole = wanted(folder)
+        kinds.add(whole.status)
+        if whole.status == 0:
+            assert session.merge(session.shuffled(session.write_parts(), seed)) == whole
+            continue
+        for options in (("--list",), ("--tenant", "1")):
+            ran = session.make(*options)
+            assert (ran.status, ran.out) == (whole.status, b"")
+            assert ran.errors == whole.errors.replace("mte_host", "mte_split")
+    assert kinds == {0, 3}
+
+
+def test_parts(together: SplitSession) -> None:
+    """A part has a head, lines of the report, and the sum of these; the sum of its session is that
+    of script, files, frames and version. A tenant's lines have nothing of another."""
+    words = folders.words_of(together.folder)
+    total = hashlib.sha256(b"mte_split 1.0 part " + int(words[1]).to_bytes(8, "big"))
+    for name in words[2:]:
+        data = (together.folder / name).read_bytes()
+        total.update(len(data).to_bytes(8, "big") + data)
+    lines = wanted(together.folder).output.splitlines(keepends=True)
+    refused = [it for it in lines if it.startswith("refused ")]
+    assert refused and together.write_parts() == [LEDGER, *(f"tenant-{it}" for it in "1234")]
+    for name in (LEDGER, "tenant-2"):
+        text = (together.parts / name).read_bytes()
+        head, *body, last = text.decode().splitlines(keepends=True)
+        assert head == f"mte_split 1.0 part {total.hexdigest()} {name.replace('-', ' ')}\n"
+        assert resealed(text) == text and last.startswith("sum ")
+        if name == LEDGER:
+            assert body == [*(f"admitted {it} {steps}\n" for it, steps in
+                              (("1", 1106), ("2", 53), ("3", 1056), ("4", 3))), *refused]
+        else:
+            first = lines.index("tenant 2\n")
+            assert "".join(body) == "".join(lines[first:lines.index("tenant 3\n")])
+
+
+def test_each_kind_of_refusal(split: pathlib.Path, host: pathlib.Path,
+                              tmp_path: pathlib.Path) -> None:
+    """The ledger refuses what the host refuses, and gives frames back as it does: by each kind of
+    refusal, of which one takes more tenants than may live."""
+    with_hi(tmp_path)
+    (tmp_path / "none").write_bytes(b"no image")
+    lines = [admission(1), admission(1), admission(2, image=2), admission(3, pages=0),
+             admission(4, pages=4), admission(5, pages=4096), "slice 9 1", "stop 1", "slice 1 1",
+             "stop 1", admission(1), *(admission(number) for number in range(10, 270)), "stop 20",
+             admission(300), admission(301), "stop 301", admission(302, pages=9)]
+    (tmp_path / "script").write_text("".join(f"{it}\n" for it in lines))
+    (tmp_path / "args").write_text("--frames\n2823\nscript\nhi.elf\nnone\n")
+    whole = run([host, *folders.words_of(tmp_path)], cwd=tmp_path)
+    kinds = set(re.findall(r"^refused \d+ (\w+)", whole.output, re.M))
+    assert kinds == {"Duplicate", "Image", "BadReservation", "ReservationTooSmall", "NoFrames",
+                     "TooManyLive", "NotLive"}
+    ledger = SplitSession(split, tmp_path, tmp_path / "parts").make("--list").output
+    assert re.findall("^refused .*", ledger, re.M) == re.findall("^refused .*", whole.output, re.M)
+    assert re.findall(r"^admitted (\d+) ", ledger, re.M) == re.findall(
+        r"^tenant (\d+)$", whole.output, re.M)
+
+
+def test_most_events(split: pathlib.Path, host: pathlib.Path, tmp_path: pathlib.Path) -> None:
+    """The ledger of as many events as a script may have takes 20 milliseconds of a processor at
+    most: no instruction is run, and no memory of a tenant is made."""
+    with_hi(tmp_path)
+    lines = [f"{admission(number // 2, pages=500)}\nstop {number // 2}"
+             for number in range(0, MOST_EVENTS // 2, 2)]
+    lines += [f"slice {number % 9} 1048576" for number in range(MOST_EVENTS // 2)]
+    (tmp_path / "script").write_text("".join(f"{it}\n" for it in lines))
+    words = ["--frames", "65536", "script", "hi.elf"]
+    taken = []
+    for _ in range(9):
+        before = resource.getrusage(resource.RUSAGE_CHILDREN)
+        ledger = succeed([split, "--list", *words], cwd=tmp_path)
+        after = resource.getrusage(resource.RUSAGE_CHILDREN)
+        taken.append(after.ru_utime + after.ru_stime - before.ru_utime - before.ru_stime)
+    refused = [it for it in succeed([host, *words], cwd=tmp_path).output.splitlines()
+               if it.startswith("refused ")]
+    assert len(refused) == MOST_EVENTS // 2
+    assert [it for it in ledger.output.splitlines() if it.startswith("refused ")] == refused
+    assert min(taken) < 0.02, taken
+
+
+# The command line, and what it is given
+
+def test_usage(split: pathlib.Path, tmp_path: pathlib.Path) -> None:
+    """The help, and what is said of each command line that is wrong: word for word."""
+    with_hi(tmp_path)
+    told = []
+    for words in USAGE_WORDS:
+        ran = run([split, *shlex.split(words)], cwd=tmp_path)
+        told.append(f"$ mte_split {words}".rstrip()
+                    + f"\n{ran.output}{ran.errors}[{ran.status}]\n")
+        assert (ran.status == 0) == (ran.err == b"") == (ran.out != b""), words
+    compare("split/usage.txt", "\n".join(told))
+    ran = run([split, "--list", "--frames", "11", b"\xff"], cwd=tmp_path)
+    assert ran == Ran(2, b"", b"mte_split: an argument is not text\n")
+
+
+def test_what_cannot_be_read(together: SplitSession) -> None:
+    """Files that are not there, and tenants that are not admitted, are named."""
+    for options in (("--list",), ("--tenant", "1")):
+        ran = run([together.split, *options, "--frames", "11", "absent"], cwd=together.folder)
+        assert ran == Ran(5, b"", b"mte_split: cannot read absent\n")
+    names = together.write_parts()
+    assert together.merge([*names, "absent"]) == Ran(5, b"", b"mte_split: cannot read absent\n")
+    for number in ("0", "5", "65535"):
+        ran = together.make("--tenant", number)
+        assert ran == Ran(11, b"", f"mte_split: tenant {number}: NotAdmitted\n".encode())
+
+
+@pytest.mark.parametrize("options", ["--list", "--tenant 2", "--merge"])
+@pytest.mark.parametrize("redirected", [">/dev/full", ">&-", ">&- 2>&-"])
+def test_a_full_disk(together: SplitSession, options: str, redirected: str) -> None:
+    """What cannot be written is said by the status, and by a line where that can be."""
+    names = together.write_parts()
+    words = (" ".join(f"'{together.parts / it}'" for it in names) if options == "--merge"
+             else shlex.join(folders.words_of(together.folder)))
+    ran = run(["bash", "-c", f"'{together.split}' {options} {words} {redirected}"],
+              cwd=together.folder)
+    said = "" if "2>&-" in redirected else "mte_split: cannot write\n"
+    assert (ran.status, ran.out, ran.errors) == (6, b"", said)
+
+
+# Parts that make no report
+
+def is_refused(ran: Ran, status: int, said: str) -> None:
+    """Nothing is written, and one line says why."""
+    assert (ran.status, ran.out, ran.errors) == (status, b"", f"mte_split: {said}\n")
+
+
+def test_a_part_is_missing(together: SplitSession) -> None:
+    """Each part is missed by its name."""
+    names = together.write_parts()
+    for name in names:
+        said = f"part of {'the ledger' if name == LEDGER else name.replace('-', ' ')}: Missing"
+        is_refused(together.merge([it for it in names if it != name]), 10, said)
+
+
+def test_a_part_is_there_twice(together: SplitSession) -> None:
+    """Under its own name or another."""
+    names = together.write_parts()
+    for name in names:
+        is_refused(together.merge([*names, name]), 9, f"part {name}: Twice")
+    shutil.copy(together.parts / "tenant-3", together.parts / "copy")
+    is_refused(together.merge(["copy", *names]), 9, "part tenant-3: Twice")
+
+
+def test_a_part_is_damaged(together: SplitSession) -> None:
+    """By one changed digit, wherever it is; by a part of it that is cut; by what is added."""
+    names = together.write_parts()
+    for name in names:
+        path = together.parts / name
+        sound = path.read_bytes()
+        changed = [sound[:at] + bytes([sound[at] ^ 1]) + sound[at + 1:]
+                   for at in range(0, len(sound), 7)]
+        cut = [sound[:at] for at in (0, 1, 68, 69, 70, len(sound) - 69, len(sound) - 1)]
+        lines = sound.splitlines(keepends=True)
+        for damaged in (*changed, *cut, sound + b"\n", sound + sound, b"\n" + sound,
+                        b"".join(lines[:-2] + lines[-1:]), b"".join(lines[1:])):
+            path.write_bytes(damaged)
+            is_refused(together.merge(names), 7, f"part {name}: Damaged")
+        path.write_bytes(sound)
+    assert together.merge(names) == wanted(together.folder)
+
+
+def test_a_part_of_another_session(together: SplitSession, tmp_path: pathlib.Path) -> None:
+    """Of a script, a file or frames that differ, or of another version. So is a part whose tenant
+    the ledger does not admit, with right sums."""
+    names = together.write_parts()
+    other = tmp_path / "other"
+    shutil.copytree(together.folder, other)
+    script_text, words = (other / "script").read_text(), folders.words_of(other)
+    for change in ("script", "text", "args", "more"):
+        (other / "script").write_text(script_text + ("# more\n" if change == "script" else ""))
+        (other / "text").write_bytes(b"another" if change == "text" else bytes(range(256)))
+        frames = "165" if change == "args" else words[1]
+        more = ["none"] if change == "more" else []
+        (other / "args").write_text("\n".join(["--frames", frames, *words[2:], *more]) + "\n")
+        session = SplitSession(together.split, other, tmp_path / f"by-{change}")
+        session.write_parts()
+        for name in names:
+            (together.parts / "strange").write_bytes((session.parts / name).read_bytes())
+            mixed = ["strange" if it == name else it for it in names]
+            first = names[1] if name == LEDGER else "strange"
+            is_refused(together.merge(mixed), 8, f"part {first}: OtherSession")
+    sound = (together.parts / "tenant-3").read_bytes()
+    for old, new in ((b" tenant 3\n", b" tenant 77\n"), (b"mte_split 1.0", b"mte_split 9.9"),
+                     (b" tenant 3\n", b" tenant three\n"), (b" part ", b" port ")):
+        (together.parts / "strange").write_bytes(resealed(sound.replace(old, new, 1)))
+        kept = [it for it in names if it != "tenant-3" or new == b" tenant 77\n"]
+        is_refused(together.merge([*kept, "strange"]), 8, "part strange: OtherSession")
+
+
+# Time
+
+def test_processor_time(split: pathlib.Path, host: pathlib.Path, tmp_path: pathlib.Path) -> None:
+    """The parts of tenants with more than ten million steps take at most 1.1 times of the
+    processors' time that the session takes whole."""
+    # Counts down without end.
+    image = program(move(1, 1 << 40), subtract_with_flags(1, 1, 1), 0x17FFFFFF)
+    (tmp_path / "count.elf").write_bytes(image)
+    lines = [admission(number, pages=9) for number in range(TENANTS)]
+    lines += [f"slice {number} 1048576" for number in range(TENANTS)] * LONG_SLICES
+    (tmp_path / "script").write_text("".join(f"{it}\n" for it in lines))
+    (tmp_path / "args").write_text("--frames\n400\nscript\ncount.elf\n")
+    session = SplitSession(split, tmp_path, tmp_path / "parts")
+    taken = []
+    for _ in range(3):
+        spent = []
+        for whole in (True, False):
+            before = resource.getrusage(resource.RUSAGE_CHILDREN)
+            if whole:
+                report = succeed([host, *folders.words_of(tmp_path)], cwd=tmp_path)
+            else:
+                merged = session.merge(session.write_parts())
+            after = resource.getrusage(resource.RUSAGE_CHILDREN)
+            spent.append(after.ru_utime + after.ru_stime - before.ru_utime - before.ru_stime)
+        assert merged == report
+        taken.append(spent[1] / spent[0])
+    assert min(taken) <= 1.1, taken
+
+
+# By tools/batch
+
+@pytest.fixture
+def made(split: pathlib.Path, tmp_path: pathlib.Path) -> Batch:
+    """Sessions of the generator, run in parts."""
+    folder = tmp_path / "sessions"
+    succeed([sys.executable, EXAMPLES / "many" / "make_sessions.py", folder, str(COUNT)])
+    return Batch(folder, {"TOMBOLOPAN_SPLIT": str(split)}, ("--split", "--jobs", "2"))
+
+
+def count_parts(batch: Batch, split: pathlib.Path) -> int:
+    """How many parts all sessions have."""
+    folders_of = sorted(batch.sessions.iterdir())
+    return sum(1 + len(admitted(SplitSession(split, it, it).make("--list"))) for it in folders_of)
+
+
+def faulty(batch: Batch, split: pathlib.Path, folder: pathlib.Path, act: str) -> Batch:
+    """The same by a program that goes wrong: `act` may change what mte_split does."""
+    program = script(folder, "faulty", f"""
+        once() {{ mkdir "{folder}/$1" 2> /dev/null; }}
+        split() {{ {split} "$@"; }}
+        case "$*" in {act} esac
+        split "$@"
+        """)
+    return Batch(batch.sessions, batch.extra, (*batch.options, "--program", str(program)))
+
+
+@pytest.mark.parametrize("jobs", ["1", "2", "4", "8"])
+def test_batch(odd: pathlib.Path, split: pathlib.Path, tmp_path: pathlib.Path, jobs: str) -> None:
+    """Sessions of every kind, in parts by any number of processes, have the reports, faulty lines
+    and statuses of mte_host."""
+    count = len(list(odd.iterdir()))
+    batch = Batch(odd, {"TOMBOLOPAN_SPLIT": str(split)}, ("--split", "--jobs", jobs))
+    ran = batch.run("--store", tmp_path / "store")
+    assert (ran.status, summary(ran)[0]) == (0, f"{count} as wanted, 0 different"), ran.output
+
+
+def test_batch_again(made: Batch, split: pathlib.Path) -> None:
+    """What was run is not run again; a part that was changed in the store is made anew, and so is
+    one that is there under the key of another."""
+    parts = count_parts(made, split)
+    ran = made.run("--got")
+    assert ran.output == f"{RIGHT}\n{COUNT} run, 0 kept, in {parts} parts run, 0 parts kept\n"
+    got = made.sessions / "session-000003" / "got.out"
+    assert got.read_bytes() == got.with_name("want.out").read_bytes()
+    kept = f"{RIGHT}\n0 run, {COUNT} kept, in 0 parts run, {parts} parts kept\n"
+    assert made.run().output == kept
+    path = next(made.store.glob("*.answers"))
+    sound = path.read_bytes()
+    path.write_bytes(sound.replace(b"\nsteps ", b"\nsteps 9", 1))
+    again = f"in 1 parts run, {parts - 1} parts kept, 1 mended"
+    assert summary(made.run())[1] == f"1 run, {COUNT - 1} kept, {again}"
+    assert made.run().output == kept
+    (made.sessions / "session-000003" / "script").write_text("# nothing\n")
+    assert summary(made.run())[0] == f"{COUNT - 1} as wanted, 1 different"
+
+
+def test_batch_is_broken_off(made: Batch, split: pathlib.Path, tmp_path: pathlib.Path) -> None:
+    """It goes on with the parts that are left."""
+    slow = faulty(made, split, tmp_path, "*) sleep 0.05 ;;")
+    with subprocess.Popen([str(it) for it in slow.words()], env={**os.environ, **slow.extra},
+                          stdout=subprocess.DEVNULL) as begun:
+        until = time.monotonic() + 60
+        while sum(it.stat().st_size for it in made.store.glob("*.answers")) < 3000:
+            assert time.monotonic() < until and begun.poll() is None
+            time.sleep(0.01)
+        begun.kill()
+    ran = slow.run()
+    found = re.search(r"in (\d+) parts run, (\d+) parts kept", summary(ran)[1])
+    assert (ran.status, summary(ran)[0]) == (0, RIGHT) and found
+    assert int(found[2]) > 0 and int(found[1]) + int(found[2]) == count_parts(made, split)
+
+
+@pytest.mark.parametrize("act", [
+    "*--tenant*) once lost && exit 1 ;;", "*--tenant*) once lost && kill -9 $$ ;;",
+    "*--list*) once lost && exit 4 ;;",
+    "*--tenant*) once lost && { split \"$@\" | sed 's/^steps ./steps 9/'; exit; } ;;",
+    "*--tenant*) once lost && { split \"$@\" | head -n 3; exit; } ;;",
+    "*--tenant*) once lost && { split --list \"${@:3}\"; exit; } ;;",
+    "*--tenant*) once lost && { split --tenant 1 --frames 9999 \"${@:5}\"; exit; } ;;",
+])
+def test_batch_mends(made: Batch, split: pathlib.Path, tmp_path: pathlib.Path, act: str) -> None:
+    """A part that is lost, damaged, cut, or of another session is made again, and the report is
+    right."""
+    parts = count_parts(made, split)
+    ran = faulty(made, split, tmp_path, act).run()
+    assert (ran.status, summary(ran)) == (
+        0, [RIGHT, f"{COUNT} run, 0 kept, in {parts} parts run, 0 parts kept, 1 tried again"])
+
+
+def test_batch_names_what_is_lost(made: Batch, split: pathlib.Path,
+                                  tmp_path: pathlib.Path) -> None:
+    """A part that never comes is named with its session, and takes no other with it; the next run
+    makes it alone."""
+    marked = made.sessions / "session-000002" / "script"
+    marked.write_bytes(marked.read_bytes() + b"# marked\n")
+    act = f"*'--tenant 1 '*) [[ ! -e {tmp_path}/well ]] && grep -q marked \"$5\" && exit 1 ;;"
+    ill = faulty(made, split, tmp_path, act)
+    ran = ill.run("--tries", "1")
+    assert ran.status == 1 and summary(ran)[0] == f"{COUNT - 1} as wanted, 0 different, 1 lost"
+    assert ran.output.splitlines()[0] == (
+        "lost: session-000002: tenant 1: status 1: nothing is said")
+    (tmp_path / "well").touch()
+    ran = ill.run()
+    assert ran.status == 0 and " in 1 parts run, " in summary(ran)[1]
+
+
+def test_batch_on_a_full_disk(made: Batch, tmp_path: pathlib.Path) -> None:
+    """What cannot be stored is said; the reports are right."""
+    ran = made.run("--store", tmp_path / "store", before=["prlimit", "--fsize=20000"])
+    assert ran.status == 1 and summary(ran)[0] == RIGHT
+    assert re.search(r"\d+ not stored: File too large$", summary(ran)[1])
+
+
+def test_batch_by_shares(made: Batch, split: pathlib.Path) -> None:
+    """Shares of the parts may run anywhere, into one store; then nothing is left to run."""
+    for number in (2, 3, 1):
+        ran = made.run("--share", f"{number}/3")
+        assert ran.status == 0 and " answered" in summary(ran)[0]
+    parts = count_parts(made, split)
+    assert made.run().output == (
+        f"{RIGHT}\n0 run, {COUNT} kept, in 0 parts run, {parts} parts kept\n")
+
+
+def test_batch_over_dask(made: Batch, split: pathlib.Path) -> None:
+    """Parts run over Dask too."""
+    if run([sys.executable, "-c", "import distributed"]).status:
+        give_up("missing: distributed (Debian: python3-distributed)")
+    ran = made.run("--dask")
+    parts = count_parts(made, split)
+    assert (ran.status, ran.output) == (
+        0, f"{RIGHT}\n{COUNT} run, 0 kept, in {parts} parts run, 0 parts kept\n"), ran.errors
+
+
+def test_batch_usage(made: Batch) -> None:
+    """Without mte_split nothing is run."""
+    for options, path, said in (
+            (("--sample", "3", "--elsewhere", "true"), "", "--split takes no --sample"),
+            ((), "/absent", "mte_split is not found")):
+        extra = {"TOMBOLOPAN_SPLIT": path or made.extra["TOMBOLOPAN_SPLIT"]}
+        ran = Batch(made.sessions, extra, made.options).run(*options)
+        assert (ran.status, ran.output) == (2, "") and said in ran.errors
+
+
+def test_batch_by_slurm(made: Batch, split: pathlib.Path, tmp_path: pathlib.Path) -> None:
+    """An array job of Slurm runs shares of the parts into one store."""
+    if shutil.which("sbatch") is None:
+        pytest.skip("Slurm is not installed (Debian: slurm-wlm)")
+    if "idle" not in run(["sinfo", "--noheader", "--format=%t"]).output:
+        pytest.skip("no node of Slurm is idle")
+    words = shlex.join([sys.executable, str(BATCH), str(made.sessions), "--split", "--jobs", "1"])
+    succeed(["sbatch", "--wait", "--array=1-3", f"--output={tmp_path}/slurm-%a",
+             f"--wrap={words} --share $SLURM_ARRAY_TASK_ID/3"], extra=made.extra)
+    parts = count_parts(made, split)
+    assert made.run().output == (
+        f"{RIGHT}\n0 run, {COUNT} kept, in 0 parts run, {parts} parts kept\n")
