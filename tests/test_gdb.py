@@ -18,7 +18,7 @@ from tests.support.embedding.heaps import Generator, chunk
 from tests.support.expected import compare
 from tests.support.instructions import CODE, SP, add, breakpoint_instruction, call, copy, move
 from tests.support.instructions import program, store, store_tag
-from tests.support.places import EXAMPLES
+from tests.support.places import EXAMPLES, ROOT, TESTS
 from tests.support.running import Ran, run
 from tests.support.tenants_for_gdb import ENDS, STACK_END, VALUES, WATCHED
 from tests.support.tools import give_up, need
@@ -45,6 +45,15 @@ def stored_dialog(alone: pathlib.Path, folder: pathlib.Path, name: str) -> str:
 def test_a_dialog(alone: pathlib.Path, tmp_path: pathlib.Path, name: str) -> None:
     """Forwards and backwards, by lines, watchpoints and breakpoints: all that GDB prints."""
     compare(f"gdb/{name}.txt", stored_dialog(alone, gdb_images.with_images(tmp_path), name))
+
+
+def test_stored_packets(alone: pathlib.Path, tmp_path: pathlib.Path) -> None:
+    """The packets of a dialog forwards and backwards, and their answers, byte for byte."""
+    shutil.copy(ROOT / "crates/mte_run/data/use_after_free.elf", tmp_path)
+    words = [alone, "--gdb", "--seed", "1", "use_after_free.elf"]
+    ran = run(words, cwd=tmp_path, stdin=(TESTS / "expected/gdb/packets.txt").read_bytes())
+    assert (ran.status, ran.errors) == (0, "")
+    compare("gdb/answers.txt", ran.output)
 
 
 def test_the_dialog_of_a_core(alone: pathlib.Path, tmp_path: pathlib.Path) -> None:
