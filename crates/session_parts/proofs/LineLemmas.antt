@@ -20,11 +20,11 @@ abbrev Unbroken : List (List ℕ) → Type 0
 Unbroken [] = Unit {0}
 Unbroken (l ∷ ls) = (has_end l ≡ false) × Unbroken ls
 
-or_left : (a b : Bool) → (a || b) ≡ false → a ≡ false
+pub or_left : (a b : Bool) → (a || b) ≡ false → a ≡ false
 or_left true b e = e
 or_left false b e = refl
 
-or_right : (a b : Bool) → (a || b) ≡ false → b ≡ false
+pub or_right : (a b : Bool) → (a || b) ≡ false → b ≡ false
 or_right true b e = absurd cc
 or_right false b e = e
 
