@@ -22,7 +22,7 @@ use Rattle.mte_session.specs.Sessions.{call_of, calls_of, session_of, start_at, 
 use Rattle.session_parts.specs.Parts.{without_steps, DecisionsNeedNoSteps, own_call, session_alone, IsAlone, AcceptedAlone, ReportInParts}
 use Rattle.session_parts.specs.Parts.{number_in, own_mask, mask_of, script_alone, ScriptInParts, TextsInParts}
 use Rattle.session_parts.specs.ScriptLines.{chosen, LinesMayBeLeftOut}
-use Rattle.session_parts.proofs.LineLemmas.{or_left, or_right}
+use Rattle.mte_sched.proofs.EachLemmas.{or_left, or_right}
 
 -- ---- decisions need no steps
 
