@@ -49,7 +49,7 @@ use Rattle.tag_discipline.proofs.BlockSounds.{live_half}
 use Rattle.tag_discipline.proofs.Larges.{check-pointer-of}
 use Rattle.tag_discipline.proofs.Runs.{call-kept}
 use Rattle.tag_discipline.proofs.Serving.{blocks-of}
-use Rattle.tag_discipline.proofs.Tenants.{step-quiet, after-attempt-done}
+use Rattle.tag_discipline.proofs.Tenants.{step-quiet, after-attempt-done, call-with-steps}
 use Rattle.heap_laws.specs.NewChunks.{HasNewChunk, HasChunk}
 use Rattle.heap_laws.specs.Uses.{IsUsable}
 use Rattle.heap_laws.specs.Answers.{size_of_chunk, tag_of_chunk, end_of_chunk, asked_bytes, AnswersPointerTo, AnswersArePointers, HasUsableBytes, AskedBytesMayBeUsed, AskedBytesOfTenantsMayBeUsed}
@@ -359,14 +359,6 @@ outcome-served outcome.Svc p m c e = flag-served m.state.pending p m c e
 outcome-served (outcome.Fault f) p m c e = cc
 outcome-served (outcome.Illegal w) p m c e = cc
 outcome-served (outcome.Breakpoint i) p m c e = cc
-
--- the counts are no part of what is asked
-call-with-steps : (o : Outcome) (n : ℕ) (p : TenantParts) (m : Memory) → call_at o (machine_of p m) ≡ call_at o (machine_of (with_steps 1 n p) m)
-call-with-steps outcome.Next n p m = refl
-call-with-steps outcome.Svc n p m = refl
-call-with-steps (outcome.Fault f) n p m = refl
-call-with-steps (outcome.Illegal w) n p m = refl
-call-with-steps (outcome.Breakpoint i) n p m = refl
 
 attempt-served : (left : ℕ) (m : Machine) (l : Live) (c : HeapCall) → next_call m ≡ Some c → IsServed (after_attempt left m) (after_call (state_of (before_service m) l).world c).answer
 unfolding after_attempt next_call

@@ -5,6 +5,33 @@ ghost use Rattle.mte_program.specs.Reads.{names_of};
 
 use std::alloc::{AllocError, Global};
 use std::env::Args;
+use std::{env, io};
+
+/// How a program ends before it runs.
+#[derive(Clone, Copy)]
+pub enum EarlyEnd {
+    /// Nothing more is done: help or a usage fault was printed. The exit status.
+    Exit(u8),
+    /// An allocation failed.
+    OutOfMemory,
+}
+
+/// The arguments of the process; prints that one is no text, under the program's name.
+pub fn read_words(rt: &HostRuntime, program: &str) -> Result<Vec<String>, EarlyEnd> {
+    match env::args(rt) {
+        Ok(args) => collect_words(rt.alloc(), args).map_err(|_| EarlyEnd::OutOfMemory),
+        Err(error) => Err(end_of_unreadable(rt, program, &error)),
+    }
+}
+
+/// How to exit if the arguments cannot be read: out of memory, or not UTF-8.
+fn end_of_unreadable(rt: &HostRuntime, program: &str, error: &io::Error) -> EarlyEnd {
+    if error.kind() == io::ErrorKind::OutOfMemory {
+        return EarlyEnd::OutOfMemory;
+    }
+    let _ = eprintln!(rt; "{program}: an argument is not text");
+    EarlyEnd::Exit(2)
+}
 
 /// The arguments of the process, all of them or none: their room is reserved first, since a vector
 /// that collects goes on with less where an allocation is refused.

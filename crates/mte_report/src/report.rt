@@ -183,12 +183,6 @@ struct At<'a> {
     place: SymbolOffset<'a>,
 }
 
-impl<'a> fmt::Display for At<'a> {
-    fn fmt<W: fmt::Write>(&self, f: &mut fmt::Formatter<W>) -> fmt::Result {
-        write!(f, "{:#018x}{}", self.pc, self.place)
-    }
-}
-
 /// What ended it.
 fn tell_status<W: Write>(out: &mut W, report: &Report<'_>, memory: &mut Flat) -> io::Result<()> {
     if let Some(finding) = report.finding {
@@ -206,6 +200,12 @@ fn tell_status<W: Write>(out: &mut W, report: &Report<'_>, memory: &mut Flat) ->
         Status::Aborted(abort, pointer, pc) => { tell_abort(out, *abort, *pointer, report.at(*pc)) }
         Status::Running => tell_running(out, report),
         Status::Stopped => writeln!(out, "stopped"),
+    }
+}
+
+impl<'a> fmt::Display for At<'a> {
+    fn fmt<W: fmt::Write>(&self, f: &mut fmt::Formatter<W>) -> fmt::Result {
+        write!(f, "{:#018x}{}", self.pc, self.place)
     }
 }
 

@@ -9,18 +9,18 @@ mod running;
 mod telling;
 mod unadmitted;
 
-use run_options::{Failure, RunInvocation, read_command_line, report};
+use run_options::{EarlyEnd, Failure, read_command_line, report};
 use running::run_program;
 use std::process::ExitCode;
 
 fn main(rt: HostRuntime) -> ExitCode {
     let status = match &read_command_line(&rt) {
-        RunInvocation::Run(options) => match run_program(&rt, options) {
+        Ok(options) => match run_program(&rt, options) {
             Ok(status) => status,
             Err(failure) => report(&rt, &failure),
         },
-        RunInvocation::Exit(status) => *status,
-        RunInvocation::OutOfMemory => report(&rt, &Failure::Memory),
+        Err(EarlyEnd::Exit(status)) => *status,
+        Err(EarlyEnd::OutOfMemory) => report(&rt, &Failure::Memory),
     };
     ExitCode::from(status)
 }

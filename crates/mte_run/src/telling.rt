@@ -12,7 +12,7 @@ use mte_report::Report;
 use mte_svc::{AnsweredCall, HeapCalls, TenantParts};
 use mte_tags::{Paged, TagMode};
 use mte_tenant::Status;
-use report_documents::{write_json, write_sarif};
+use report_documents::Document;
 use run_options::{Exactness, Failure, FileFault, Options};
 use std::alloc::{AllocError, Global};
 use std::fs::File;
@@ -186,18 +186,21 @@ fn write_files<'a>(
     ending: TenantEnding,
     memory: &mut Flat,
 ) -> Result<(), Failure<'a>> {
-    let status = ending.status(&report.parts.history);
+    let document = Document {
+        alloc: rt.alloc(),
+        report,
+        exit_status: ending.status(&report.parts.history),
+    };
     let named = [
         (&options.output.json, DocumentForm::Json),
         (&options.output.sarif, DocumentForm::Sarif),
     ];
     for (name, form) in named.iter() {
         if let Some(name) = name {
-            let (name, form) = (name.as_str(), *form);
-            let document = Document { name, form, status };
-            document
-                .write(rt, report, memory)
-                .map_err(|error| Failure::of_write(&error, name))?;
+            let name = name.as_str();
+            write_document(rt, &document, *form, name, memory).map_err(|error| Failure::of_write(
+                &error, name,
+            ))?;
         }
     }
     draw_map(rt, report, options, memory)
@@ -261,16 +264,6 @@ fn reserved_pages(alloc: Global, options: &Options, memory: &mut Flat) -> Result
     Ok(memory.pages_left().saturating_add(mapped) as u64)
 }
 
-/// What happened, in a file for other programs.
-#[derive(Clone, Copy)]
-struct Document<'a> {
-    /// The file.
-    name: &'a str,
-    form: DocumentForm,
-    /// The program's exit status.
-    status: u8,
-}
-
 /// What a document is for.
 #[derive(Clone, Copy)]
 enum DocumentForm {
@@ -280,14 +273,18 @@ enum DocumentForm {
     Sarif,
 }
 
-impl<'a> Document<'a> {
-    /// Writes it into its file.
-    fn write(&self, rt: &HostRuntime, report: &Report<'_>, memory: &mut Flat) -> io::Result<()> {
-        let mut out = BufWriter::new(rt.alloc(), File::create(rt, self.name)?)?;
-        match self.form {
-            DocumentForm::Json => write_json(rt.alloc(), &mut out, report, self.status, memory),
-            DocumentForm::Sarif => write_sarif(rt.alloc(), &mut out, report, self.status, memory),
-        }
+/// Writes a document into the file with a name.
+fn write_document(
+    rt: &HostRuntime,
+    document: &Document<'_>,
+    form: DocumentForm,
+    name: &str,
+    memory: &mut Flat,
+) -> io::Result<()> {
+    let mut out = BufWriter::new(rt.alloc(), File::create(rt, name)?)?;
+    match form {
+        DocumentForm::Json => document.write_json(&mut out, memory),
+        DocumentForm::Sarif => document.write_sarif(&mut out, memory),
     }
 }
 

@@ -7,7 +7,7 @@ mod SharingLemmas
 mod TurnLemmas
 mod AdmitLemmas
 mod FrameLemmas
-mod EachLemmas
+pub mod EachLemmas
 mod IndexLemmas
 mod FlagLemmas
 mod LoanLemmas

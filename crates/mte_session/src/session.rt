@@ -158,12 +158,7 @@ fn play(
     ensures err { OnErr result (content_of host.new ≡ content_of host.old) }
 {
     match *event {
-        Event::Admit {
-            id,
-            image,
-            input,
-            terms,
-        } => {
+        Event::Admit { id, image, input, terms } => {
             let admission = admission_of(files, id, image, input, terms);
             match host.admit(alloc, &admission) {
                 Ok(()) => Ok(()),

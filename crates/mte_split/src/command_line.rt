@@ -3,53 +3,25 @@
 use crate::request::{SplitRequest, Wanted};
 use clap::error::ErrorKind;
 use clap::{Arg, ArgAction, ArgGroup, ArgMatches, Command, Error, value_parser};
-use mte_program::collect_words;
+use mte_program::{EarlyEnd, read_words};
 use std::alloc::{AllocError, Global};
-use std::{env, io};
-
-/// What a command line requests.
-#[derive(Drop)]
-pub enum SplitInvocation {
-    /// A part, or the whole report.
-    Run(SplitRequest),
-    /// Nothing more: help or a usage fault was printed. The exit status.
-    Exit(u8),
-    /// An allocation failed.
-    OutOfMemory,
-}
 
 /// Reads the process's arguments; prints the help, or what is wrong with them.
-pub fn read_command_line(rt: &HostRuntime) -> SplitInvocation {
-    let args = match env::args(rt) {
-        Ok(args) => args,
-        Err(error) => return report_unreadable(rt, &error),
-    };
-    let Ok(words) = collect_words(rt.alloc(), args) else {
-        return SplitInvocation::OutOfMemory;
-    };
+pub fn read_command_line(rt: &HostRuntime) -> Result<SplitRequest, EarlyEnd> {
+    let words = read_words(rt, "mte_split")?;
     match parse(rt.alloc(), words.as_slice()) {
-        Ok(Some(request)) => SplitInvocation::Run(request),
-        Ok(None) => SplitInvocation::OutOfMemory,
-        Err(error) => print_text(rt, &error),
+        Ok(request) => request.ok_or(EarlyEnd::OutOfMemory),
+        Err(error) => Err(print_text(rt, &error)),
     }
-}
-
-/// How to exit if the arguments cannot be read: out of memory, or not UTF-8.
-fn report_unreadable(rt: &HostRuntime, error: &io::Error) -> SplitInvocation {
-    if error.kind() == io::ErrorKind::OutOfMemory {
-        return SplitInvocation::OutOfMemory;
-    }
-    let _ = eprintln!(rt; "mte_split: an argument is not text");
-    SplitInvocation::Exit(2)
 }
 
 /// Prints the text of `clap`.
-fn print_text(rt: &HostRuntime, error: &Error) -> SplitInvocation {
+fn print_text(rt: &HostRuntime, error: &Error) -> EarlyEnd {
     if error.kind() == ErrorKind::OutOfMemory {
-        return SplitInvocation::OutOfMemory;
+        return EarlyEnd::OutOfMemory;
     }
     let _ = error.print(rt);
-    SplitInvocation::Exit(if error.use_stderr() { 2 } else { 0 })
+    EarlyEnd::Exit(if error.use_stderr() { 2 } else { 0 })
 }
 
 /// Reads the words of a command line; `None` where an allocation failed.

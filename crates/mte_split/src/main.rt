@@ -8,19 +8,20 @@ mod files;
 mod request;
 mod splitting;
 
-use command_line::{SplitInvocation, read_command_line};
+use command_line::read_command_line;
 use failure::{SplitFailure, report};
+use mte_program::EarlyEnd;
 use splitting::run_request;
 use std::process::ExitCode;
 
 fn main(rt: HostRuntime) -> ExitCode {
     let status = match &read_command_line(&rt) {
-        SplitInvocation::Run(request) => match run_request(&rt, request) {
+        Ok(request) => match run_request(&rt, request) {
             Ok(()) => 0,
             Err(failure) => report(&rt, &failure),
         },
-        SplitInvocation::Exit(status) => *status,
-        SplitInvocation::OutOfMemory => report(&rt, &SplitFailure::Memory),
+        Err(EarlyEnd::Exit(status)) => *status,
+        Err(EarlyEnd::OutOfMemory) => report(&rt, &SplitFailure::Memory),
     };
     ExitCode::from(status)
 }

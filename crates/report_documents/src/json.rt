@@ -1,5 +1,6 @@
 //! What happened to a tenant, as JSON (RFC 8259). Numbers of 64 bits are texts in hexadecimal.
 
+use crate::document::Document;
 use a64_registers::Regs;
 use heap_bounds::CallText;
 use instruction_trace::Nzcv;
@@ -16,17 +17,13 @@ use std::io::Write;
 use std::{fmt, io};
 use tenant_map::{GRANULES, Letters, MappedPages, first_granule, page_map, tag_at};
 
-/// Writes what happened as one object of JSON, under the program's exit status.
-pub fn write_json<W: Write>(
-    alloc: Global,
-    out: &mut W,
-    report: &Report<'_>,
-    exit_status: u8,
-    memory: &mut Flat,
-) -> io::Result<()> {
-    let explanation = report.explain(alloc, memory)?;
-    write_run(out, report, exit_status)?;
-    write_explained(alloc, out, report, &explanation, memory)
+impl<'a> Document<'a> {
+    /// Writes it as one object of JSON.
+    pub fn write_json<W: Write>(&self, out: &mut W, memory: &mut Flat) -> io::Result<()> {
+        let explanation = self.report.explain(self.alloc, memory)?;
+        write_run(out, self.report, self.exit_status)?;
+        write_explained(self.alloc, out, self.report, &explanation, memory)
+    }
 }
 
 /// Writes what was run.

@@ -1,6 +1,7 @@
 //! What happened to a tenant, as a log in the Static Analysis Results Interchange Format (SARIF
 //! 2.1.0), which editors and forges show beside the source.
 
+use crate::document::Document;
 use mte_backtrace::{CallStack, FrameNames, Quoted};
 use mte_flat::Flat;
 use mte_report::{Context, Explanation, Report};
@@ -14,30 +15,27 @@ use std::io::Write;
 /// Where the schema of the format is.
 const SCHEMA: &str = "https://json.schemastore.org/sarif-2.1.0.json";
 
-/// Writes what happened as a log with one run, under the program's exit status. It has no result
-/// for a tenant that exited; else one, with the calls that led to its end and to the heap calls of
-/// its cause, and a flow through these.
-pub fn write_sarif<W: Write>(
-    alloc: Global,
-    out: &mut W,
-    report: &Report<'_>,
-    exit_status: u8,
-    memory: &mut Flat,
-) -> io::Result<()> {
-    write_head(out)?;
-    let is_clean = report.finding.is_none()
-        && matches!(report.parts.history.status, Status::Exited(_));
-    if is_clean {
-        write!(out, "}}}},\n\"results\":[]")?;
-    } else {
-        write_result(alloc, out, report, memory)?;
+impl<'a> Document<'a> {
+    /// Writes it as a log with one run. It has no result for a tenant that exited; else one, with
+    /// the calls that led to its end and to the heap calls of its cause, and a flow through these.
+    pub fn write_sarif<W: Write>(&self, out: &mut W, memory: &mut Flat) -> io::Result<()> {
+        write_head(out)?;
+        let report = self.report;
+        let is_clean = report.finding.is_none()
+            && matches!(report.parts.history.status, Status::Exited(_));
+        if is_clean {
+            write!(out, "}}}},\n\"results\":[]")?;
+        } else {
+            write_result(self.alloc, out, report, memory)?;
+        }
+        write!(
+            out,
+            ",\n\"invocations\":[{{\"executionSuccessful\":{is_clean},"
+        )?;
+        let exit_status = self.exit_status;
+        writeln!(out, "\"exitCode\":{exit_status}}}]}}]}}")?;
+        out.flush()
     }
-    write!(
-        out,
-        ",\n\"invocations\":[{{\"executionSuccessful\":{is_clean},"
-    )?;
-    writeln!(out, "\"exitCode\":{exit_status}}}]}}]}}")?;
-    out.flush()
 }
 
 /// Writes the rule and the result.

@@ -3,67 +3,39 @@
 use crate::options::Options;
 use clap::error::ErrorKind;
 use clap::{Arg, ArgAction, ArgMatches, Command, Error, value_parser};
-use mte_program::collect_words;
+use mte_program::{EarlyEnd, read_words};
 use obstacle::Obstacle;
 use std::alloc::Global;
-use std::{env, io};
 use terminal_text::PrintableLines;
 
 /// The steps after which a tenant is given up, where none are named.
 const STEPS: &str = "10000000";
 
-/// What a command line requests.
-#[derive(Drop)]
-pub enum RunInvocation {
-    /// A run.
-    Run(Options),
-    /// Nothing more: help or a usage fault was printed. The exit status.
-    Exit(u8),
-    /// An allocation failed.
-    OutOfMemory,
-}
-
 /// Reads the process's arguments; prints the help, or what is wrong with them.
-pub fn read_command_line(rt: &HostRuntime) -> RunInvocation {
-    let args = match env::args(rt) {
-        Ok(args) => args,
-        Err(error) => return report_unreadable(rt, &error),
-    };
-    let Ok(words) = collect_words(rt.alloc(), args) else {
-        return RunInvocation::OutOfMemory;
-    };
+pub fn read_command_line(rt: &HostRuntime) -> Result<Options, EarlyEnd> {
+    let words = read_words(rt, "mte_run")?;
     match parse(rt.alloc(), words.as_slice()) {
-        Ok(Some(options)) => RunInvocation::Run(options),
-        Ok(None) => RunInvocation::OutOfMemory,
-        Err(error) => print_text(rt, &error),
+        Ok(options) => options.ok_or(EarlyEnd::OutOfMemory),
+        Err(error) => Err(print_text(rt, &error)),
     }
-}
-
-/// How to exit if the arguments cannot be read: out of memory, or not UTF-8.
-fn report_unreadable(rt: &HostRuntime, error: &io::Error) -> RunInvocation {
-    if error.kind() == io::ErrorKind::OutOfMemory {
-        return RunInvocation::OutOfMemory;
-    }
-    let _ = eprintln!(rt; "mte_run: an argument is not text");
-    RunInvocation::Exit(2)
 }
 
 /// Prints the text of `clap`, which has words of the command line in it.
-fn print_text(rt: &HostRuntime, error: &Error) -> RunInvocation {
+fn print_text(rt: &HostRuntime, error: &Error) -> EarlyEnd {
     if error.kind() == ErrorKind::OutOfMemory {
-        return RunInvocation::OutOfMemory;
+        return EarlyEnd::OutOfMemory;
     }
     let Ok(text) = format!(in rt.alloc(); "{error}") else {
-        return RunInvocation::OutOfMemory;
+        return EarlyEnd::OutOfMemory;
     };
     let lines = PrintableLines(text.as_str());
     if error.use_stderr() {
         let _ = eprint!(rt; "{lines}");
-        return RunInvocation::Exit(2);
+        return EarlyEnd::Exit(2);
     }
     match print!(rt; "{lines}") {
-        Ok(()) => RunInvocation::Exit(0),
-        Err(_) => RunInvocation::Exit(6),
+        Ok(()) => EarlyEnd::Exit(0),
+        Err(_) => EarlyEnd::Exit(6),
     }
 }
 

@@ -7,8 +7,9 @@ mod file_names;
 mod options;
 mod refusal;
 
-pub use command_line::{RunInvocation, read_command_line};
+pub use command_line::read_command_line;
 pub use failure::{Failure, FileFault, report};
+pub use mte_program::EarlyEnd;
 pub use options::{
     Exactness, Fault, Options, OutputOptions, Replay, RunLength, RunOptions, Traced,
 };

@@ -12,6 +12,10 @@ pub struct StatisticsTable<'a> {
     pub reserved: u64,
 }
 
+/// The numbers as an object of JSON (RFC 8259).
+#[derive(Clone, Copy)]
+pub struct Object<'a>(pub StatisticsTable<'a>);
+
 impl<'a> fmt::Display for StatisticsTable<'a> {
     fn fmt<W: fmt::Write>(&self, f: &mut fmt::Formatter<W>) -> fmt::Result {
         let (statistics, reserved) = (self.statistics, self.reserved);
@@ -37,10 +41,6 @@ impl<'a> fmt::Display for StatisticsTable<'a> {
 fn write_line<W: fmt::Write>(f: &mut fmt::Formatter<W>, name: &str, count: u64) -> fmt::Result {
     writeln!(f, "  {name:<28}  {count:>12}")
 }
-
-/// The numbers as an object of JSON (RFC 8259).
-#[derive(Clone, Copy)]
-pub struct Object<'a>(pub StatisticsTable<'a>);
 
 impl<'a> fmt::Display for Object<'a> {
     fn fmt<W: fmt::Write>(&self, f: &mut fmt::Formatter<W>) -> fmt::Result {

@@ -5,6 +5,7 @@ use heap_picture::{
     PictureGranule, PictureLine, PictureRow, Spot,
 };
 use std::alloc::Global;
+use std::fmt;
 
 /// The first granules of class 2: a header, a live chunk of two granules with tag 14, and a header.
 fn row() -> PictureRow {
@@ -103,6 +104,14 @@ fn is_shown_as(alloc: Global, pages: &MappedRange, expected: &str) -> bool {
     }
 }
 
+/// Whether what something is shown as has a part.
+fn shows<T: fmt::Display>(alloc: Global, shown: &T, part: &str) -> bool {
+    match format!(in alloc; "{shown}") {
+        Ok(text) => text.contains(part),
+        Err(_) => false,
+    }
+}
+
 #[test]
 fn ranges_of_pages(rt: HostRuntime) {
     let pages = MappedRange {
@@ -119,13 +128,6 @@ fn ranges_of_pages(rt: HostRuntime) {
     );
 }
 
-fn has_title(alloc: Global, heading: &Heading, title: &str) -> bool {
-    match format!(in alloc; "{heading}") {
-        Ok(text) => text.contains(title),
-        Err(_) => false,
-    }
-}
-
 #[test]
 fn a_title_and_a_story_are_escaped(rt: HostRuntime) {
     let heading = Heading {
@@ -134,15 +136,8 @@ fn a_title_and_a_story_are_escaped(rt: HostRuntime) {
         pages: &[],
         rows: 1,
     };
-    assert!(rt; has_title(rt.alloc(), &heading, ">a&lt;b&gt; &amp; ?c</text>"));
-    assert!(rt; has_title(rt.alloc(), &heading, ">in f&lt;int&gt; at x.c:3</text>"));
-}
-
-fn arrow_has(alloc: Global, arrow: &Arrow, path: &str) -> bool {
-    match format!(in alloc; "{arrow}") {
-        Ok(text) => text.contains(path),
-        Err(_) => false,
-    }
+    assert!(rt; shows(rt.alloc(), &heading, ">a&lt;b&gt; &amp; ?c</text>"));
+    assert!(rt; shows(rt.alloc(), &heading, ">in f&lt;int&gt; at x.c:3</text>"));
 }
 
 #[test]
@@ -150,19 +145,12 @@ fn an_arrow_from_row_to_row(rt: HostRuntime) {
     let from = Spot { row: 0, granule: 2 };
     let to = Spot { row: 1, granule: 5 };
     assert!(rt;
-        arrow_has(
+        shows(
             rt.alloc(),
             &Arrow { from, to },
             " d=\"M40,11Q64,0 88,45\"/>"
         )
     );
-}
-
-fn gap_has(alloc: Global, gap: &Gap, words: &str) -> bool {
-    match format!(in alloc; "{gap}") {
-        Ok(text) => text.contains(words),
-        Err(_) => false,
-    }
 }
 
 #[test]
@@ -172,7 +160,7 @@ fn what_is_left_out(rt: HostRuntime) {
         start: 0x1200_0800,
         end: 0x1300_0000,
     };
-    assert!(rt; gap_has(rt.alloc(), &gap, " y=\"81\">0x12000800 to 0x12ffffff: "));
+    assert!(rt; shows(rt.alloc(), &gap, " y=\"81\">0x12000800 to 0x12ffffff: "));
 }
 
 fn note_has(alloc: Global, end: usize, label: &str) -> bool {
@@ -184,10 +172,7 @@ fn note_has(alloc: Global, end: usize, label: &str) -> bool {
         title: "40 bytes",
         is_cause: false,
     };
-    match format!(in alloc; "{note}") {
-        Ok(text) => text.contains(label),
-        Err(_) => false,
-    }
+    shows(alloc, &note, label)
 }
 
 #[test]

@@ -55,10 +55,16 @@ fn has_two_batches(pool: &mut Primary) -> bool {
     four && two && pool.pop_batch(13, &mut buffer) == 0
 }
 
+/// A pool with a page of that class.
+fn one_page(alloc: Global) -> Result<Primary, AllocError> {
+    let mut pool = Primary::new(alloc, 1)?;
+    pool.carve(13, 1);
+    Ok(pool)
+}
+
 #[test]
 fn batches_of_a_carve(rt: HostRuntime) -> Result<(), Fail> {
-    let mut pool = Primary::new(rt.alloc(), 1)?;
-    pool.carve(13, 1);
+    let mut pool = one_page(rt.alloc())?;
     assert!(rt; has_two_batches(&mut pool) && max_count(12) == 28 && max_count(13) == 8);
     Ok(())
 }
@@ -79,8 +85,7 @@ fn keeps_order(pool: &mut Primary) -> bool {
 
 #[test]
 fn a_batch_keeps_its_order(rt: HostRuntime) -> Result<(), Fail> {
-    let mut pool = Primary::new(rt.alloc(), 1)?;
-    pool.carve(13, 1);
+    let mut pool = one_page(rt.alloc())?;
     assert!(rt; keeps_order(&mut pool));
     Ok(())
 }

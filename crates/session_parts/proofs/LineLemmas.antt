@@ -9,6 +9,7 @@ use Rattle.mte_script.specs.declared.error.ScriptFault.{ScriptFault}
 use Rattle.mte_script.specs.declared.error.ScriptFault.TheVariants.{TooManyEvents}
 use Rattle.mte_script.specs.Scripts.{after_event, event_of_line, readings, events_of, Parsed, pieces_at, onto_first, lines_of, script_events}
 use Rattle.session_parts.specs.ScriptLines.{chosen, event_lines, script_of, LinesMayBeLeftOut}
+use Rattle.mte_sched.proofs.EachLemmas.{or_left, or_right}
 
 -- ---- lines of lines
 
@@ -19,14 +20,6 @@ has_end l = list_any (λ b. b == 10) l
 abbrev Unbroken : List (List ℕ) → Type 0
 Unbroken [] = Unit {0}
 Unbroken (l ∷ ls) = (has_end l ≡ false) × Unbroken ls
-
-or_left : (a b : Bool) → (a || b) ≡ false → a ≡ false
-or_left true b e = e
-or_left false b e = refl
-
-or_right : (a b : Bool) → (a || b) ≡ false → b ≡ false
-or_right true b e = absurd cc
-or_right false b e = e
 
 piece_case : (t : Bool) (b : ℕ) (ps : List (List ℕ)) → (b == 10) ≡ t → Unbroken ps → Unbroken (if t then [] ∷ ps else onto_first b ps)
 piece_case true b ps e u = (refl, u)

@@ -22,6 +22,7 @@ use Rattle.mte_session.specs.Sessions.{call_of, calls_of, session_of, start_at, 
 use Rattle.session_parts.specs.Parts.{without_steps, DecisionsNeedNoSteps, own_call, session_alone, IsAlone, AcceptedAlone, ReportInParts}
 use Rattle.session_parts.specs.Parts.{number_in, own_mask, mask_of, script_alone, ScriptInParts, TextsInParts}
 use Rattle.session_parts.specs.ScriptLines.{chosen, LinesMayBeLeftOut}
+use Rattle.mte_sched.proofs.EachLemmas.{or_left, or_right}
 
 -- ---- decisions need no steps
 
@@ -340,14 +341,6 @@ filter_if false x xs ys = refl
 filter_append : {A : Type 0} (p : A → Bool) (xs ys : List A) → filter p (xs ++ ys) ≡ filter p xs ++ filter p ys
 filter_append p [] ys = refl
 filter_append p (x ∷ xs) ys = rw (filter_append p xs ys) (filter_if (p x) x (filter p xs) (filter p ys))
-
-or_left : (a b : Bool) → (a || b) ≡ false → a ≡ false
-or_left true b e = e
-or_left false b e = refl
-
-or_right : (a b : Bool) → (a || b) ≡ false → b ≡ false
-or_right true b e = absurd cc
-or_right false b e = e
 
 live_of_known : (a b : Bool) → (a && b) ≡ true → b ≡ true
 live_of_known true b e = e

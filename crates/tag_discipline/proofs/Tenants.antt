@@ -164,7 +164,7 @@ step-quiet m l tagless k =
     })
 
 -- the counts are no part of what is asked
-call-with-steps : (o : Outcome) (n : ℕ) (p : TenantParts) (m : Memory) → call_at o (machine_of p m) ≡ call_at o (machine_of (with_steps 1 n p) m)
+pub call-with-steps : (o : Outcome) (n : ℕ) (p : TenantParts) (m : Memory) → call_at o (machine_of p m) ≡ call_at o (machine_of (with_steps 1 n p) m)
 call-with-steps outcome.Next n p m = refl
 call-with-steps outcome.Svc n p m = refl
 call-with-steps (outcome.Fault f) n p m = refl

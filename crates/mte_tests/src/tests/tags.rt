@@ -18,6 +18,12 @@ const CHOICES: [(u8, u8, u16, u8); 5] = [
     (7, 9, 0xFFFF, 0),
 ];
 
+#[test]
+fn tags_of_addresses(rt: HostRuntime) {
+    assert!(rt; tag_of(0xF123_4567_89AB_CDEF) == 1 && are_chosen(&CHOICES));
+    assert!(rt; with_tag(0xFF23_4567_89AB_CDEF, 5) == 0xF523_4567_89AB_CDEF);
+}
+
 /// Whether the tags that are chosen are the last ones of the rows.
 fn are_chosen(rows: &[(u8, u8, u16, u8)]) -> bool {
     for (tag, offset, exclude, want) in rows {
@@ -26,12 +32,6 @@ fn are_chosen(rows: &[(u8, u8, u16, u8)]) -> bool {
         }
     }
     true
-}
-
-#[test]
-fn tags_of_addresses(rt: HostRuntime) {
-    assert!(rt; tag_of(0xF123_4567_89AB_CDEF) == 1 && are_chosen(&CHOICES));
-    assert!(rt; with_tag(0xFF23_4567_89AB_CDEF, 5) == 0xF523_4567_89AB_CDEF);
 }
 
 #[test]
