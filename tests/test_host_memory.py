@@ -1,20 +1,14 @@
 """The host program where one of its allocations is refused, each in turn."""
 
 import pathlib
-from collections.abc import Mapping, Sequence
-from dataclasses import dataclass
 
 import pytest
 
 from tests.support.expected import compare
 from tests.support.host_sessions import HI_REPORT, admission, make_image, with_hi
-from tests.support.once import make_once
 from tests.support.peak import measure
-from tests.support.places import TESTS
-from tests.support.running import Ran, Word, run, succeed
-from tests.support.tools import need
-
-OUT_OF_MEMORY = (4, b"", b"mte_host: out of memory\n")
+from tests.support.refused_memory import Preloaded, preload, refuse_each
+from tests.support.running import Ran, Word
 
 # mov x9, #70; mov x0, #200; mov x8, #3; svc #0; mov x8, #4; svc #0; subs x9, x9, #1; b.ne .-24;
 # mov x0, #0x30000; mov x8, #3; svc #0; mov x1, #0x20000; mov x8, #6; svc #0; mov x8, #0; svc #0:
@@ -28,58 +22,10 @@ HEAP_CALLS = """
 BREAKPOINT = ["d42000e0"]
 
 
-@dataclass(frozen=True)
-class Preloaded:
-    """The host, with the library in front of it that refuses one allocation."""
-
-    host: pathlib.Path
-    library: pathlib.Path
-    folder: pathlib.Path
-
-    def run(self, words: Sequence[Word], refused: int) -> Ran:
-        """Runs a session in which the allocation with this number is refused; 0 refuses none."""
-        extra: Mapping[str, str] = {
-            "LD_PRELOAD": str(self.library), "REFUSE": str(refused),
-            "COUNT": str(self.folder / "count"),
-        }
-        return run([self.host, *words], cwd=self.folder, extra=extra)
-
-    def counted(self) -> int:
-        """How many allocations the last run made."""
-        return int((self.folder / "count").read_text())
-
-
 @pytest.fixture
 def preloaded(host: pathlib.Path, shared: pathlib.Path, tmp_path: pathlib.Path) -> Preloaded:
     """The host with its allocations at hand, in a folder with the first example."""
-    need("cc")
-
-    def compile_library(path: pathlib.Path) -> None:
-        source = TESTS / "support" / "refuse_allocations.c"
-        succeed(["cc", "-shared", "-fPIC", "-O2", "-Wall", "-Wextra", "-Werror", "-o", path,
-                 source])
-
-    library = make_once(shared / "refuse_allocations.so", compile_library)
-    return Preloaded(host, library, with_hi(tmp_path))
-
-
-def refuse_each(preloaded: Preloaded, words: Sequence[Word]) -> tuple[Ran, int, int]:
-    """The run that is refused nothing, how many allocations it makes, and how many of the runs
-    that are refused one of these end by it.
-
-    Any other has to write the whole report: where a list that was to grow was refused more room
-    than it needs, and then got what it needs.
-    """
-    whole = preloaded.run(words, 0)
-    made = preloaded.counted()
-    ended = 0
-    for number in range(1, made + 1):
-        ran = preloaded.run(words, number)
-        if (ran.status, ran.out, ran.err) == OUT_OF_MEMORY:
-            ended += 1
-        else:
-            assert ran == whole, f"allocation {number} of {made}"
-    return whole, made, ended
+    return preload(host, shared, with_hi(tmp_path))
 
 
 def test_first_example(preloaded: Preloaded) -> None:

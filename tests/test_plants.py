@@ -24,7 +24,7 @@ def test_its_text_is_there_once(plant: Plant) -> None:
 def test_names_are_distinct() -> None:
     """Each wrong body has a name of its own."""
     names = [plant.name for plant in PLANTS]
-    assert len(set(names)) == len(names) >= 79
+    assert len(set(names)) == len(names) >= 89
 
 
 def test_one_is_noticed(tmp_path: pathlib.Path) -> None:

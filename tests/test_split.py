@@ -21,7 +21,8 @@ from tests.support.host_sessions import admission, with_hi
 from tests.support.instructions import move, program, subtract_with_flags
 from tests.support.once import make_once
 from tests.support.places import EXAMPLES
-from tests.support.running import Ran, run, succeed
+from tests.support.refused_memory import preload, refuse_each
+from tests.support.running import Ran, Word, run, succeed
 from tests.support.split_sessions import LEDGER, SplitSession, admitted, resealed
 from tests.support.tools import give_up
 
@@ -174,6 +175,20 @@ def test_what_cannot_be_read(together: SplitSession) -> None:
     for number in ("0", "5", "65535"):
         ran = together.make("--tenant", number)
         assert ran == Ran(11, b"", f"mte_split: tenant {number}: NotAdmitted\n".encode())
+
+
+@pytest.mark.parametrize("options", ["--list", "--tenant 2", "--merge"])
+def test_want_of_memory(together: SplitSession, shared: pathlib.Path, options: str) -> None:
+    """Whatever allocation is refused, the text is whole or there is none."""
+    names = together.write_parts()
+    preloaded = preload(together.split, shared, together.parts)
+    files: list[Word] = [*names]
+    if options != "--merge":
+        first, frames, *rest = folders.words_of(together.folder)
+        files = [first, frames, *(together.folder / it for it in rest)]
+    whole, made, ended = refuse_each(preloaded, [*options.split(), *files])
+    assert (whole.status, whole.err) == (0, b"")
+    assert made >= 40 and ended >= made - 10, f"{ended} of {made}"
 
 
 @pytest.mark.parametrize("options", ["--list", "--tenant 2", "--merge"])

@@ -121,7 +121,8 @@ class Batch:
             why = dict.fromkeys((it.key for it in bundle.jobs), replies.why)
         else:
             found = {key: it for key, it in replies if isinstance(it, Answer)}
-            why = {key: it.why for key, it in replies if isinstance(it, Lost)}
+            why = {key: it.why if isinstance(it, Lost) else "what came is no answer of it"
+                   for key, it in replies}
         found = {it.key: found[it.key] for it in bundle.jobs
                  if it.key in found and it.is_answered_by(found[it.key])}
         self._answer(found)

@@ -21,7 +21,7 @@ LEDGER = "ledger"
 
 def begin_of_heads(program: str) -> bytes:
     """What the parts of a program begin with, which has its version."""
-    ran = subprocess.run([program, "--version"], capture_output=True, check=True)
+    ran = subprocess.run([program, "--version"], capture_output=True, check=False)
     return ran.stdout.strip() + b" part "
 
 
