@@ -7,10 +7,11 @@ runner of what they built, and natively; and counts what passes.
 
 Each suite of suites.toml is built twice, as packages.py builds a package, and its line `check` runs
 in both copies. In its lines are the words of packages.py and EMULATOR, RUN as a list of CMake
-(empty natively). `passed` and `failed` are patterns of the lines of a test: each match counts, or
-the number in its group does; `total` in place of `passed` counts those that fail too. A line says what came of each; `--write` writes the table of
-docs/PACKAGES.md. The exit status is 1 where the counts differ and suites.toml doesn't say why, or
-say the same and it does.
+(empty natively). Where a suite starts its programs by their paths, `wraps` puts a script that runs
+it by RUN in the place of each program that was built. `passed` and `failed` are patterns of the lines of a test: each match counts, or
+the number in its group does; `total` in place of `passed` counts those that fail too. A line says
+what came of each; `--write` writes the table of docs/PACKAGES.md. The exit status is 1 where the
+counts differ and suites.toml doesn't say why, or are the same and it does.
 """
 import argparse
 import concurrent.futures
@@ -52,6 +53,7 @@ class Suite:
     total: str
     files: tuple[str, ...]
     writes: bool
+    wraps: bool
     needs: tuple[str, ...]
     why: str
 
@@ -64,7 +66,8 @@ def read_suites(path: pathlib.Path = HERE / "suites.toml") -> list[Suite]:
         made.append(Suite(
             name, given["how"], given["build"], given["check"], given.get("passed", passed),
             given.get("failed", failed), given.get("total", ""), tuple(given.get("files", ())),
-            given.get("writes", False), tuple(given.get("needs", ())), given.get("why", "")))
+            given.get("writes", False), given.get("wraps", False),
+            tuple(given.get("needs", ())), given.get("why", "")))
     return sorted(made, key=lambda suite: suite.name)
 
 
@@ -76,10 +79,29 @@ def counted(pattern: str, text: str) -> int:
 
 def tenant_words(suite: Suite, place: packages.Place, folder: pathlib.Path) -> dict[str, str]:
     """The environment of a suite over tenants, which find files by their absolute names."""
-    files = tuple(str(folder / name) for name in suite.files)
+    paths = [folder / name for name in suite.files]
+    files = tuple(f"{it}={it}" if it.is_file() else str(it) for it in paths)
     package = packages.Package(suite.name, "", "", "", (), files, suite.writes)
     words = packages.tenant_words(package, place)
-    return {**words, "EMULATOR": ";".join(shlex.split(words["RUN"]))}
+    return {**words, "EMULATOR": "" if suite.wraps else ";".join(shlex.split(words["RUN"]))}
+
+
+def is_program(path: pathlib.Path) -> bool:
+    """Whether a file is a program for AArch64 (ELF64: e_type EXEC, e_machine)."""
+    if path.is_symlink() or not path.is_file():
+        return False
+    with path.open("rb") as file:
+        head = file.read(20)
+    return head[:4] == b"\x7fELF" and head[16:20] == b"\x02\x00\xb7\x00"
+
+
+def wrap(folder: pathlib.Path, run: str) -> None:
+    """Puts a script that runs it in the place of each program in a folder."""
+    for path in [it for it in folder.rglob("*") if is_program(it)]:
+        image = path.with_name(f"{path.name}.image")
+        path.rename(image)
+        path.write_text(f'#!/bin/sh\nexec {run} {shlex.quote(str(image))} "$@"\n', "utf-8")
+        path.chmod(0o755)
 
 
 def counts_of(suite: Suite, place: packages.Place, kind: str) -> tuple[str, Counts]:
@@ -97,6 +119,8 @@ def counts_of(suite: Suite, place: packages.Place, kind: str) -> tuple[str, Coun
     (work / f"{kind}.build.log").write_bytes(said)
     if status:
         return f"{kind}: is not built", (0, 0)
+    if kind == "tenant" and suite.wraps:
+        wrap(folder, words["RUN"])
     _, said, _ = packages.shell(suite.check, folder, words, SECONDS)
     (work / f"{kind}.check.log").write_bytes(said)
     text = said.decode(errors="replace")
