@@ -8,10 +8,11 @@ runner of what they built, and natively; and counts what passes.
 Each suite of suites.toml is built twice, as packages.py builds a package, and its line `check` runs
 in both copies. In its lines are the words of packages.py and EMULATOR, RUN as a list of CMake
 (empty natively). Where a suite starts its programs by their paths, `wraps` puts a script that runs
-it by RUN in the place of each program that was built. `passed` and `failed` are patterns of the lines of a test: each match counts, or
-the number in its group does; `total` in place of `passed` counts those that fail too. A line says
-what came of each; `--write` writes the table of docs/PACKAGES.md. The exit status is 1 where the
-counts differ and suites.toml doesn't say why, or are the same and it does.
+it by RUN in the place of each program that was built. `passed` and `failed` are patterns of the
+lines of a test: each match counts, or the number in its group does; `total` in place of `passed`
+counts those that fail too. A line says what came of each; `--write` writes the table of
+docs/PACKAGES.md. The exit status is 1 where the counts differ and suites.toml doesn't say why, or
+are the same and it does.
 """
 import argparse
 import concurrent.futures
