@@ -22,8 +22,7 @@ export RT_JOBS
 saved=$logs/saved
 save() {
     local file
-    for file in crates/{mte_host,mte_run,disassemble}/out/{mte_host,mte_run,disassemble}{,.unproved} \
-        crates/tombolopan_c/out/libtombolopan_c.a{,.unproved}; do
+    for file in crates/*/out/{mte_host,mte_run,disassemble,libtombolopan_c.a}{,.unproved}; do
         [[ ! -f $file ]] || (mkdir -p "$saved/${file%/*}" && cp -p "$file" "$saved/$file")
     done
 }

@@ -15,8 +15,11 @@ from tests.support.tools import give_up, need
 sys.path.insert(0, str(EXAMPLES / "packages"))
 import compilers  # noqa: E402
 import packages  # noqa: E402
+import suites  # noqa: E402
 
 PAGE = (ROOT / "docs" / "PACKAGES.md").read_text(encoding="utf-8")
+# Suites of their own by makefiles and by ctest, that take seconds.
+SUITES = ("libyaml", "yajl", "zlib")
 # A library with its tests, a language, a tool with files, one that writes files, and C++.
 SAMPLE = ("cjson", "mujs", "giflib", "libb64", "tinyxml2")
 
@@ -57,6 +60,43 @@ def test_programs_that_test_compilers(
     ran = run([sys.executable, script, kind, f"--count={count}", *place], seconds=900)
     ran_as_said(ran, r"(?:.*: refused: .*\n)*.*\d+ the same.*\n")
     assert "different" not in ran.output
+
+
+@pytest.mark.parametrize("name", SUITES)
+def test_a_suite_passes_as_natively(place: list[str], name: str) -> None:
+    """Its own tests, by its own makefile or ctest with tenant-run: as many pass as natively."""
+    need("make", "cmake", "ctest")
+    script = EXAMPLES / "packages" / "suites.py"
+    words: list[Word] = [sys.executable, script, "--only", name, *place]
+    ran_as_said(run(words, seconds=900), rf"{name}: natively (\([1-9]\d*, 0\)), as tenants \1 \n")
+
+
+def test_counts_of_suites() -> None:
+    """What ctest, GoogleTest and Automake say is counted."""
+    told = """\
+ 1/12 Test  #1: one ..............   Passed    0.01 sec
+12/12 Test #12: two ..............***Failed    0.01 sec
+1: [       OK ] A.B (0 ms)
+1: [  FAILED  ] A.C (0 ms)
+[  FAILED  ] A.C, listed once more
+# PASS:  5
+# FAIL:  0
+# ERROR: 2
+"""
+    found = {kind: tuple(suites.counted(it, told) for it in pair)
+             for kind, pair in suites.KINDS.items()}
+    assert found == {"ctest": (1, 1), "googletest": (1, 1), "automake": (5, 2)}
+
+
+def test_the_page_has_each_suite() -> None:
+    """A row each, in order, whose counts differ where it says why."""
+    part = PAGE.partition(suites.BEGIN)[2].partition(suites.END)[0]
+    rows = re.findall(r"^\| (\S+) \| \S+ \| .* \| (\d+ of \d+) \| (\d+ of \d+) \| (.*) \|$", part,
+                      re.M)
+    assert [name for name, *_ in rows] == [it.name for it in suites.read_suites()]
+    assert len(rows) >= 10
+    for _, natively, tenants, differs in rows:
+        assert (natively == tenants) == (differs == "nothing")
 
 
 def test_the_page_has_each_package_and_what_came_of_it() -> None:

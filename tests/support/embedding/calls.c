@@ -318,6 +318,11 @@ static bool answer_number(const char *what) {
     uint64_t one, two;
     if (strcmp(what, "version") == 0) {
         tell(1, (uint64_t)tb_version());
+    } else if (strcmp(what, "build_info") == 0) {
+        uint8_t text[160];
+        one = tb_build_info(text, sizeof text);
+        printf(" %.*s", (int)strcspn((const char *)text, "\n"), (const char *)text);
+        tell(1, one);
     } else if (strcmp(what, "map") == 0) {
         one = number();
         tell(1, (uint64_t)tb_map(pages, place_count, one, (uint32_t)number()));

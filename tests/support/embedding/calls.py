@@ -28,6 +28,10 @@ class Calls:
         """The library's version."""
         return told(LIBRARY.tb_version())
 
+    def build_info(self, words: Words) -> str:
+        """The first line of how the library was built, and how long it all is."""
+        return f" {tb.build_info().splitlines()[0]}" + told(len(tb.build_info()))
+
     def places(self, words: Words) -> str:
         """Makes a memory anew."""
         count = number(words)

@@ -56,6 +56,10 @@ impl Calls {
             "range" => self.memory.map_range(number(words), number(words), number(words) as u32),
             "unmap" => self.memory.unmap(number(words)),
             "load" => self.memory.load(number(words), &bytes(words)),
+            "build_info" => {
+                let text = build_info();
+                return Some(format!(" {} {:x}", text.lines().next()?, text.len()));
+            }
             "size" => access_size(number(words) as u32),
             _ => return None,
         };

@@ -2,6 +2,7 @@
 
 from collections.abc import Iterator
 
+import mark
 from tests.support.embedding.lines import C, NO_FAULT, NOT_RUST, Line, hexed, line, weighed
 
 OK, FAULT, NOT_MAPPED, ALREADY_MAPPED, NO_ROOM, BAD_ARGUMENT = 0, 1, 5, 6, 7, 8
@@ -20,6 +21,8 @@ def tagged(address: int, tag: int) -> int:
 def pages() -> Iterator[Line]:
     """Mapping and unmapping, at the edges of numbers and attributes."""
     yield line("version", 2)
+    lines = mark.text_of({}).decode()
+    yield line("build_info", lines.splitlines()[0], len(lines))
     yield line("places 4 0", 0, 0)
     yield line(f"map 16 {READ | EXEC}", OK)
     yield line(f"map 32 {READ | WRITE | TAGGED}", OK)
