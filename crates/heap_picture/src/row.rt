@@ -54,6 +54,15 @@ pub struct PictureRow {
     pub granules: [PictureGranule; GRANULES],
 }
 
+/// The first granules of a row.
+#[derive(Clone, Copy)]
+pub struct FirstGranules<'a> {
+    /// The row.
+    pub row: &'a PictureRow,
+    /// How many granules.
+    pub shown: usize,
+}
+
 impl PictureRow {
     /// Whether a block begins at the granule with the number `index`.
     fn begins_block(&self, index: usize) -> bool {
@@ -94,15 +103,6 @@ impl PictureRow {
             None
         }
     }
-}
-
-/// The first granules of a row.
-#[derive(Clone, Copy)]
-pub struct FirstGranules<'a> {
-    /// The row.
-    pub row: &'a PictureRow,
-    /// How many granules.
-    pub shown: usize,
 }
 
 /// Granules, each in the colour of its tag.

@@ -19,14 +19,13 @@ impl<'a> Report<'a> {
         out: &mut W,
         explanation: &Explanation<'_>,
     ) -> io::Result<()> {
-        let names = &explanation.names;
-        explanation.stack.write(out, names, "  ")?;
+        explanation.stack.write(out, &explanation.names, "  ")?;
         match &explanation.cause {
             Some(cause) => {
                 let context = Context {
                     alloc,
                     report: self,
-                    names,
+                    names: &explanation.names,
                 };
                 context.tell_cause(out, cause)
             }

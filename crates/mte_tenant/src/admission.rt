@@ -88,9 +88,9 @@ impl AdmitError {
         ensures { result.now ≡ admit_name self }
     {
         match self {
+            AdmitError::Image(error) => error.name(),
             AdmitError::Duplicate => "Duplicate",
             AdmitError::BadReservation => "BadReservation",
-            AdmitError::Image(error) => error.name(),
             AdmitError::ReservationTooSmall => "ReservationTooSmall",
             AdmitError::NoFrames => "NoFrames",
             AdmitError::TooManyLive => "TooManyLive",

@@ -105,7 +105,7 @@ fn is_shown_as(alloc: Global, pages: &MappedRange, expected: &str) -> bool {
 }
 
 /// Whether what something is shown as has a part.
-fn shows<T: fmt::Display>(alloc: Global, shown: &T, part: &str) -> bool {
+fn has_part<T: fmt::Display>(alloc: Global, shown: &T, part: &str) -> bool {
     match format!(in alloc; "{shown}") {
         Ok(text) => text.contains(part),
         Err(_) => false,
@@ -136,8 +136,8 @@ fn a_title_and_a_story_are_escaped(rt: HostRuntime) {
         pages: &[],
         rows: 1,
     };
-    assert!(rt; shows(rt.alloc(), &heading, ">a&lt;b&gt; &amp; ?c</text>"));
-    assert!(rt; shows(rt.alloc(), &heading, ">in f&lt;int&gt; at x.c:3</text>"));
+    assert!(rt; has_part(rt.alloc(), &heading, ">a&lt;b&gt; &amp; ?c</text>"));
+    assert!(rt; has_part(rt.alloc(), &heading, ">in f&lt;int&gt; at x.c:3</text>"));
 }
 
 #[test]
@@ -145,7 +145,7 @@ fn an_arrow_from_row_to_row(rt: HostRuntime) {
     let from = Spot { row: 0, granule: 2 };
     let to = Spot { row: 1, granule: 5 };
     assert!(rt;
-        shows(
+        has_part(
             rt.alloc(),
             &Arrow { from, to },
             " d=\"M40,11Q64,0 88,45\"/>"
@@ -160,7 +160,7 @@ fn what_is_left_out(rt: HostRuntime) {
         start: 0x1200_0800,
         end: 0x1300_0000,
     };
-    assert!(rt; shows(rt.alloc(), &gap, " y=\"81\">0x12000800 to 0x12ffffff: "));
+    assert!(rt; has_part(rt.alloc(), &gap, " y=\"81\">0x12000800 to 0x12ffffff: "));
 }
 
 fn note_has(alloc: Global, end: usize, label: &str) -> bool {
@@ -172,7 +172,7 @@ fn note_has(alloc: Global, end: usize, label: &str) -> bool {
         title: "40 bytes",
         is_cause: false,
     };
-    shows(alloc, &note, label)
+    has_part(alloc, &note, label)
 }
 
 #[test]
