@@ -19,7 +19,7 @@ import suites  # noqa: E402
 
 PAGE = (ROOT / "docs" / "PACKAGES.md").read_text(encoding="utf-8")
 # Suites of their own by makefiles and by ctest, that take seconds.
-SUITES = ("libyaml", "yajl", "zlib")
+SUITES = ("libyaml", "zlib")
 # A library with its tests, a language, a tool with files, one that writes files, and C++.
 SAMPLE = ("cjson", "mujs", "giflib", "libb64", "tinyxml2")
 
