@@ -2,6 +2,7 @@
 error, what it says of command lines, scripts and files that it refuses, and its help."""
 
 import pathlib
+import re
 import struct
 from collections.abc import Callable
 
@@ -139,8 +140,8 @@ def test_usage_is_as_stored(alone: pathlib.Path) -> None:
         assert ran.status == (0 if is_help else USAGE), words
         assert bool(ran.out) == is_help and bool(ran.err) == (not is_help), words
         shown = " ".join(words).replace("\x1b", "\\x1b")
-        # Behind the version is which build it is.
-        output = ran.output.partition("commit: ")[0]
+        # How it was built differs from build to build (test_marks.py).
+        output = re.sub(r"(?m)^(commit|changes|toolchain|build): .*$", r"\1: ..", ran.output)
         told += f"$ mte_run {shown}\nstatus {ran.status}\n{output}{ran.errors}\n"
     compare("run/usage.txt", told)
 

@@ -164,7 +164,8 @@ def table(suites: list[Suite], results: dict[str, dict[str, object]]) -> str:
         of = results[it.name]
         text += (f"| {it.name} | {of['version']} | {it.how} | {text_of(of['native'])} "
                  f"| {text_of(of['tenant'])} | {it.why or 'nothing'} |\n")
-    return text
+    left = ", ".join(it.name for it in suites if it.name not in results)
+    return text + (f"\nNot run since they were entered: {left}.\n" if left else "")
 
 
 def read_results(out: pathlib.Path) -> dict[str, dict[str, object]]:
