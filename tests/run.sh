@@ -22,7 +22,7 @@ export RT_JOBS
 saved=$logs/saved
 save() {
     local file
-    for file in crates/*/out/{mte_host,mte_run,disassemble,libtombolopan_c.a}{,.unproved}; do
+    for file in crates/*/out/{mte_{host,split,run},disassemble,libtombolopan_c.a}{,.unproved}; do
         [[ ! -f $file ]] || (mkdir -p "$saved/${file%/*}" && cp -p "$file" "$saved/$file")
     done
 }
