@@ -50,8 +50,8 @@ def test_a_dialog(alone: pathlib.Path, tmp_path: pathlib.Path, name: str) -> Non
 def test_stored_packets(alone: pathlib.Path, tmp_path: pathlib.Path) -> None:
     """The packets of a dialog forwards and backwards, and their answers, byte for byte."""
     shutil.copy(ROOT / "crates/mte_run/data/use_after_free.elf", tmp_path)
-    words = [alone, "--gdb", "--seed", "1", "use_after_free.elf"]
-    ran = run(words, cwd=tmp_path, stdin=(TESTS / "expected/gdb/packets.txt").read_bytes())
+    stream = (TESTS / "expected/gdb/packets.txt").read_bytes()
+    ran = run([alone, "--gdb", "--seed", "1", "use_after_free.elf"], cwd=tmp_path, stdin=stream)
     assert (ran.status, ran.errors) == (0, "")
     compare("gdb/answers.txt", ran.output)
 

@@ -88,8 +88,8 @@ def test_the_page_counts_the_forms() -> None:
     called = dispatch.CALLED_FAMILIES | dispatch.MEMORY_FAMILIES
     in_line = sum(bool(form.family) and form.family not in called for form in first)
     assert (f"has {len(arms) + len(table.RARE_TABLES) + 1} arms: one for each of the {alone} forms "
-            f"without a family and of the {in_line} of a family in line, one for each family that "
-            "is called, one for each table of rare forms and one for `Other`") in page
+            f"without a family and of the {in_line} of masks and of shifts by a constant, one for "
+            "each other family, one for each table of rare forms and one for `Other`") in page
 
 
 def test_rows_that_overlap() -> None:
