@@ -83,13 +83,11 @@ def test_the_page_counts_the_forms() -> None:
         assert f"| `{of.enum}` | {count} | {rooms[of.enum]} |" in page
     assert f"**There are {len(found)} forms, and there is room for {sum(rooms.values())}**" in page
     first = forms.of_table(found, table.FIRST_TABLE)
-    alone = sum(not form.family for form in first)
     arms = dispatch.first_arms(first, calls.read_sources(set(dispatch.WRITTEN)))
-    called = dispatch.CALLED_FAMILIES | dispatch.MEMORY_FAMILIES
-    in_line = sum(bool(form.family) and form.family not in called for form in first)
+    alone = sum(not form.family for form in first)
     assert (f"has {len(arms) + len(table.RARE_TABLES) + 1} arms: one for each of the {alone} forms "
-            f"without a family and of the {in_line} of masks and of shifts by a constant, one for "
-            "each other family, one for each table of rare forms and one for `Other`") in page
+            "without a family, one for every two of a family in line, one for each family that is "
+            "called, one for each table of rare forms and one for `Other`") in page
 
 
 def test_rows_that_overlap() -> None:

@@ -10,25 +10,6 @@ pub(crate) const INTERVAL: u64 = 1 << 19;
 /// How many steps before its end a way of many steps leaves a checkpoint.
 const NEAR: u64 = 1 << 13;
 
-/// What a checkpoint is left for.
-#[derive(Clone, Copy)]
-pub(crate) enum CheckpointUse {
-    /// The next move back, from shortly before.
-    Move,
-    /// The next search, from an interval before.
-    Search,
-}
-
-impl CheckpointUse {
-    /// How many steps before the end of a way the checkpoint is left.
-    fn distance(self) -> u64 {
-        match self {
-            CheckpointUse::Move => NEAR,
-            CheckpointUse::Search => INTERVAL,
-        }
-    }
-}
-
 /// Two copies of a tenant, each where it was. Where one is lost, only time is.
 #[derive(Drop)]
 pub(crate) struct Checkpoints<'a> {
@@ -58,37 +39,39 @@ impl<'a> Checkpoints<'a> {
     }
 
     /// A tenant that has attempted `steps` instructions, from the last checkpoint on the way or
-    /// else from its start. After many steps it leaves a checkpoint before, for the next move or
-    /// the next search.
+    /// else from its start. After many steps it leaves a checkpoint shortly before.
     pub(crate) fn past(
         &mut self,
         alloc: Global,
         tenant: &Debuggee<'a>,
         steps: u64,
-        purpose: CheckpointUse,
     ) -> Result<Debuggee<'a>, AllocError> {
         let mut past = self.begin(alloc, tenant, steps)?;
-        let before = purpose.distance();
-        if past.steps().saturating_add(2 * before) < steps {
-            advance(&mut past, steps.saturating_sub(before));
-            self.leave(alloc, &past, purpose);
+        if past.steps().saturating_add(2 * NEAR) < steps {
+            advance(&mut past, steps.saturating_sub(NEAR));
+            self.near = None;
+            self.near = past.copy(alloc).ok();
         }
         advance(&mut past, steps);
         Ok(past)
     }
 
-    /// Leaves a checkpoint where a tenant is. The one in its place goes first, for its memory.
-    fn leave(&mut self, alloc: Global, tenant: &Debuggee<'a>, purpose: CheckpointUse) {
-        match purpose {
-            CheckpointUse::Move => {
-                self.near = None;
-                self.near = tenant.copy(alloc).ok();
-            }
-            CheckpointUse::Search => {
-                self.far = None;
-                self.far = tenant.copy(alloc).ok();
-            }
+    /// The same for a search that begins after `steps` instructions. After many steps it leaves a
+    /// checkpoint an interval before, for the next search.
+    pub(crate) fn past_of_search(
+        &mut self,
+        alloc: Global,
+        tenant: &Debuggee<'a>,
+        steps: u64,
+    ) -> Result<Debuggee<'a>, AllocError> {
+        let mut past = self.begin(alloc, tenant, steps)?;
+        if past.steps().saturating_add(2 * INTERVAL) < steps {
+            advance(&mut past, steps.saturating_sub(INTERVAL));
+            self.far = None;
+            self.far = past.copy(alloc).ok();
         }
+        advance(&mut past, steps);
+        Ok(past)
     }
 
     /// A copy of the last checkpoint within some steps, or the tenant at its start.

@@ -1,6 +1,6 @@
 //! The tenant that is moved.
 
-use crate::checkpoints::{CheckpointUse, Checkpoints, INTERVAL};
+use crate::checkpoints::{Checkpoints, INTERVAL};
 use crate::points::Points;
 use crate::stop::{StopReason, Until};
 use crate::ways::{advance, is_at_svc, last_point, look_ahead};
@@ -223,8 +223,7 @@ impl<'a> Traveller<'a> {
     /// ahead gives its memory up.
     fn past_at(&mut self, alloc: Global, steps: u64) -> Result<Debuggee<'a>, AllocError> {
         self.ahead = None;
-        self.checkpoints
-            .past(alloc, &self.now, steps, CheckpointUse::Move)
+        self.checkpoints.past(alloc, &self.now, steps)
     }
 
     /// Moves it to a number of steps from its start on, forwards or backwards, or to its end where
@@ -279,9 +278,7 @@ impl<'a> Traveller<'a> {
                 return Ok((0, StopReason::Start));
             }
             let start = end.saturating_sub(length);
-            let mut past = self
-                .checkpoints
-                .past(alloc, &self.now, start, CheckpointUse::Search)?;
+            let mut past = self.checkpoints.past_of_search(alloc, &self.now, start)?;
             past.watch(points.watchpoints())?;
             if let Some(found) = last_point(&mut past, points, end) {
                 return Ok(found);

@@ -2,7 +2,7 @@
 
 use crate::context::Context;
 use crate::report::Report;
-use mte_backtrace::FrameAddresses;
+use mte_backtrace::{FrameAddresses, FrameNames};
 use run_book::{BookChunk, BookEntry, Bytes, Count};
 use std::alloc::{AllocError, Global};
 use std::io;
@@ -81,6 +81,22 @@ fn find<'a>(places: &'a mut [LeakPlace], entry: &BookEntry) -> Option<&'a mut Le
         && place.entry.callers == entry.callers)
 }
 
+/// Writes places, by what their addresses are called.
+fn write_named<W: Write>(
+    alloc: Global,
+    out: &mut W,
+    report: &Report<'_>,
+    names: &FrameNames<'_>,
+    places: &[LeakPlace],
+) -> io::Result<()> {
+    let context = Context {
+        alloc,
+        report,
+        names,
+    };
+    context.write_places(out, places)
+}
+
 impl<'a> Report<'a> {
     /// Writes the chunks that are live at the end, by the calls that made them: the first 256
     /// places.
@@ -91,12 +107,7 @@ impl<'a> Report<'a> {
         let places = places.places.as_slice();
         let frames = self.frames(alloc, places)?;
         let names = self.names.of_frames(alloc, &frames)?;
-        let context = Context {
-            alloc,
-            report: self,
-            names: &names,
-        };
-        context.write_places(out, places)
+        write_named(alloc, out, self, &names, places)
     }
 
     /// The places of the chunks that are live.
