@@ -273,7 +273,17 @@ fn admission_of(id: u16, image: &[u8]) -> Admission<'_> {
 
 /// A tenant alone through the slices, watched, with its parts in the end.
 fn watched(alloc: Global, file: &[u8]) -> Result<(CarefulWatch, TenantParts), Fail> {
-    let admission = admission_of(1, file);
+    let admission = Admission {
+        id: 1,
+        image: file,
+        input: b"",
+        terms: Terms {
+            seed: 5,
+            pages: 60,
+            room: 16,
+            mode: TagMode::Sync,
+        },
+    };
     let mut memory = Flat::new(alloc, 60, TagMode::Sync)?;
     let mut parts = admit_alone(alloc, &admission, &mut memory)?;
     let mut watch = CarefulWatch::new();

@@ -18,21 +18,18 @@ use std::alloc::Global;
 use std::process::Abort;
 use std::test::Fail;
 
-/// Five pages, and room for a few bytes.
-const TERMS: Terms = Terms {
-    seed: 1,
-    pages: 5,
-    room: 16,
-    mode: TagMode::Sync,
-};
-
 /// A tenant of five pages, on an image.
 fn admission_of(id: u16, image: &[u8]) -> Admission<'_> {
     Admission {
         id,
         image,
         input: &[],
-        terms: TERMS,
+        terms: Terms {
+            seed: 1,
+            pages: 5,
+            room: 16,
+            mode: TagMode::Sync,
+        },
     }
 }
 
