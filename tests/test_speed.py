@@ -9,7 +9,7 @@ from tests.support.running import run, succeed
 from tests.support.tools import need
 
 # The most instructions a step; docs/SPEED.md has what was measured.
-MOST = {"alu": 29.0, "memory": 46.5, "offsets": 47.0, "mix": 45.0, "svc18": 39.0, "slices16": 114.0}
+MOST = {"alu": 25.2, "memory": 42.2, "offsets": 45.2, "mix": 43.7, "svc18": 34.7, "slices16": 111.2}
 
 
 def test_a_step_calls_nothing(host: pathlib.Path) -> None:
