@@ -22,7 +22,8 @@ LEDGER = "ledger"
 def begin_of_heads(program: str) -> bytes:
     """What the parts of a program begin with, which has its version."""
     ran = subprocess.run([program, "--version"], capture_output=True, check=False)
-    return ran.stdout.strip() + b" part "
+    # Behind the version is which build it is.
+    return ran.stdout.partition(b"\n")[0] + b" part "
 
 
 def session_sum(begin: bytes, job: Job) -> bytes:
