@@ -52,8 +52,8 @@ def test_stored_packets(alone: pathlib.Path, tmp_path: pathlib.Path) -> None:
     shutil.copy(ROOT / "crates/mte_run/data/use_after_free.elf", tmp_path)
     stream = (TESTS / "expected/gdb/packets.txt").read_bytes()
     ran = run([alone, "--gdb", "--seed", "1", "use_after_free.elf"], cwd=tmp_path, stdin=stream)
-    assert (ran.status, ran.errors) == (0, "")
-    compare("gdb/answers.txt", ran.output)
+    assert (ran.status, ran.err) == (0, b"")
+    assert ran.out == (TESTS / "expected/gdb/answers.txt").read_bytes()
 
 
 def test_the_dialog_of_a_core(alone: pathlib.Path, tmp_path: pathlib.Path) -> None:
