@@ -83,11 +83,11 @@ def test_the_page_counts_the_forms() -> None:
         assert f"| `{of.enum}` | {count} | {rooms[of.enum]} |" in page
     assert f"**There are {len(found)} forms, and there is room for {sum(rooms.values())}**" in page
     first = forms.of_table(found, table.FIRST_TABLE)
-    arms = dispatch.first_arms(first, calls.read_sources(set(dispatch.WRITTEN)))
     alone = sum(not form.family for form in first)
+    arms = dispatch.first_arms(first, calls.read_sources(set(dispatch.WRITTEN)))
     assert (f"has {len(arms) + len(table.RARE_TABLES) + 1} arms: one for each of the {alone} forms "
-            "without a family, one for every two of a family in line, one for each family that is "
-            "called, one for each table of rare forms and one for `Other`") in page
+            f"without a family, one for each of the {len(dispatch.FAMILIES)} families, one for "
+            "each table of rare forms and one for `Other`") in page
 
 
 def test_rows_that_overlap() -> None:

@@ -313,7 +313,7 @@ REFUSED_FORMS = [
     (UDIV, UDIV.replace("two_source |", "one_source |"),
      "Udiv: one_source doesn't take the field rm"),
     (UDIV, UDIV.replace("two_source |", "divide |"),
-     "Udiv: no function divide in a64_step or a64_ops or a64_run"),
+     "Udiv: no function divide in a64_step or a64_ops or a64_execute"),
     ("{rn: u8, rd: u8, shift: u8} step_of_instr (instr.Bitfield 1",
      "{rn: u8, rd: u8, shift: u7} step_of_instr (instr.Bitfield 1",
      "Lsl: the type `u7` of the field shift is unknown"),
@@ -328,8 +328,8 @@ REFUSED_FORMS = [
     ("Hint {} done r m |  | no_operation | Hints: NOP, BTI and their kind. | \n",
      "Hint {} done r m |  | no_operation | Hints: NOP, BTI and their kind. | is_rare\n",
      "Hint: a rare form is a row with constants"),
-    *(("Svc Svc |  |", "".join(f"Svc{n} Svc |  | call_supervisor | SVC. |\n" for n in range(4))
-       + "Svc Svc |  |", "Svc: Op has 125 forms, and may have 124: a rare form has the family "
+    *(("Svc Svc |  |", "".join(f"Svc{n} Svc |  | call_supervisor | SVC. |\n" for n in range(66))
+       + "Svc Svc |  |", "Svc: Op has 254 forms, and may have 253: a rare form has the family "
        "is_rare or is_rare_access"),),
 ]
 

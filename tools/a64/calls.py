@@ -1,4 +1,4 @@
-"""What the hand-written functions of a64_step, a64_ops, a64_run and a64_text take and return, as
+"""What the hand-written functions of a64_step, a64_ops, a64_execute and a64_text take and return, as
 their files say, and the calls of them: a parameter or a field of a struct that has the name of an
 instruction's field gets it."""
 
@@ -15,7 +15,7 @@ STRUCTS = "a64_instr"
 
 # Where the functions are that execute, lowest first; those of them that execute rows; and those
 # that write an instruction's text.
-CRATES = ("a64_step", "a64_ops", "a64_run")
+CRATES = ("a64_step", "a64_ops", "a64_execute")
 ROW_CRATES = ("a64_step",)
 TEXT_CRATES = ("a64_text",)
 
