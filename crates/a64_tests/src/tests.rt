@@ -3,6 +3,7 @@
 mod bits;
 mod decode;
 mod kept;
+mod micro_ops;
 mod row_words;
 mod step;
 mod text;
