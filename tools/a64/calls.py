@@ -1,6 +1,6 @@
-"""What the hand-written functions of a64_step, a64_ops, a64_execute and a64_text take and return, as
-their files say, and the calls of them: a parameter or a field of a struct that has the name of an
-instruction's field gets it."""
+"""What the hand-written functions of a64_step, a64_ops, a64_execute and a64_text take and return,
+as their files say, and the calls of them: a parameter or a field of a struct that has the name of
+an instruction's field gets it."""
 
 import re
 from collections.abc import Mapping
