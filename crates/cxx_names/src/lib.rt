@@ -15,7 +15,8 @@ mod printer;
 mod reader;
 mod rust_names;
 mod special_names;
-mod symbol_name;mod types;
+mod symbol_name;
+mod types;
 
 pub use plain::PlainName;
 pub use symbol_name::{ShownName, SymbolName};

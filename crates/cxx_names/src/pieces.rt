@@ -4,7 +4,7 @@ use crate::nodes::Id;
 
 /// A part of the text of a name.
 #[derive(Clone, Copy)]
-pub enum Part<'a> {
+pub enum NamePart<'a> {
     Text(&'a str),
     Number(usize),
     /// All of a node.
@@ -29,15 +29,15 @@ pub enum Part<'a> {
 
 /// A part, and which member of a pack it is of.
 #[derive(Clone, Copy)]
-pub struct Piece<'a> {
-    pub part: Part<'a>,
+pub struct NamePiece<'a> {
+    pub part: NamePart<'a>,
     pub pack: Option<usize>,
 }
 
-impl<'a> Default for Piece<'a> {
-    fn default() -> Piece<'a> {
-        Piece {
-            part: Part::Text(""),
+impl<'a> Default for NamePiece<'a> {
+    fn default() -> NamePiece<'a> {
+        NamePiece {
+            part: NamePart::Text(""),
             pack: None,
         }
     }

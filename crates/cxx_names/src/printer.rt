@@ -1,7 +1,7 @@
 //! The text of a tree.
 
 use crate::nodes::{Id, Node, Nodes};
-use crate::pieces::{Part, Piece};
+use crate::pieces::{NamePart, NamePiece};
 use arrayvec::{ArrayString, ArrayVec};
 use std::fmt::Write;
 
@@ -29,7 +29,7 @@ const QUALIFIERS: [(char, &str); 7] = [
 #[derive(Drop)]
 pub struct Printer<'n, 'a> {
     nodes: Nodes<'n, 'a>,
-    pieces: ArrayVec<Piece<'a>, PIECES>,
+    pieces: ArrayVec<NamePiece<'a>, PIECES>,
     text: ArrayString<LONGEST>,
 }
 
@@ -45,7 +45,7 @@ impl<'n, 'a> Printer<'n, 'a> {
 
     /// The text of a node.
     pub fn text_of(mut self, id: Id) -> Option<ArrayString<LONGEST>> {
-        self.write(None, &[Part::Whole(id)])?;
+        self.write(None, &[NamePart::Whole(id)])?;
         for _ in 0..STEPS {
             let Some(piece) = self.pieces.pop() else {
                 return Some(self.text);
@@ -56,21 +56,21 @@ impl<'n, 'a> Printer<'n, 'a> {
     }
 
     /// What is to be written next, in this order.
-    fn write(&mut self, pack: Option<usize>, parts: &[Part<'a>]) -> Option<()> {
+    fn write(&mut self, pack: Option<usize>, parts: &[NamePart<'a>]) -> Option<()> {
         for part in parts.iter().rev() {
-            let piece = Piece { part: *part, pack };
+            let piece = NamePiece { part: *part, pack };
             self.pieces.try_push(piece).ok()?;
         }
         Some(())
     }
 
-    fn print(&mut self, piece: Piece<'a>) -> Option<()> {
+    fn print(&mut self, piece: NamePiece<'a>) -> Option<()> {
         let pack = piece.pack;
         match piece.part {
-            Part::Text(text) => self.text.try_push_str(text).ok(),
-            Part::Number(number) => write!(self.text, "{number}").ok(),
-            Part::Apart(sign) => self.apart(sign),
-            Part::Bracket => {
+            NamePart::Text(text) => self.text.try_push_str(text).ok(),
+            NamePart::Number(number) => write!(self.text, "{number}").ok(),
+            NamePart::Apart(sign) => self.apart(sign),
+            NamePart::Bracket => {
                 let before = if self.text.as_str().ends_with("]") {
                     "["
                 } else {
@@ -78,13 +78,13 @@ impl<'n, 'a> Printer<'n, 'a> {
                 };
                 self.text.try_push_str(before).ok()
             }
-            Part::Qualifiers(letters) => self.qualifiers(letters),
-            Part::Whole(id) => self.whole(id, pack),
-            Part::Left(id) => self.left(id, pack),
-            Part::Right(id) => self.right(id, pack),
-            Part::Value(id) => self.value(id, pack),
-            Part::Items(list, is_first) => self.items(list, is_first, pack),
-            Part::Expansion(pattern, place) => self.expansion(pattern, place),
+            NamePart::Qualifiers(letters) => self.qualifiers(letters),
+            NamePart::Whole(id) => self.whole(id, pack),
+            NamePart::Left(id) => self.left(id, pack),
+            NamePart::Right(id) => self.right(id, pack),
+            NamePart::Value(id) => self.value(id, pack),
+            NamePart::Items(list, is_first) => self.items(list, is_first, pack),
+            NamePart::Expansion(pattern, place) => self.expansion(pattern, place),
         }
     }
 
@@ -110,20 +110,20 @@ impl<'n, 'a> Printer<'n, 'a> {
         let Node::Items(item, rest) = self.nodes.at(list) else {
             return Some(());
         };
-        let comma = Part::Text(if is_first { "" } else { ", " });
+        let comma = NamePart::Text(if is_first { "" } else { ", " });
         let item = self.nodes.resolve(item, pack);
         match self.nodes.at(item) {
             Node::Pack(inner) | Node::PackParameter(inner) => {
                 let is_empty = inner == 0;
-                let rest = Part::Items(rest, is_first && is_empty);
-                self.write(pack, &[Part::Items(inner, is_first), rest])
+                let rest = NamePart::Items(rest, is_first && is_empty);
+                self.write(pack, &[NamePart::Items(inner, is_first), rest])
             }
             Node::Expansion(pattern) if self.nodes.pack_in(pattern) == Some(0) => {
-                self.write(pack, &[Part::Items(rest, is_first)])
+                self.write(pack, &[NamePart::Items(rest, is_first)])
             }
             _ => {
-                let rest = Part::Items(rest, false);
-                self.write(pack, &[comma, Part::Whole(item), rest])
+                let rest = NamePart::Items(rest, false);
+                self.write(pack, &[comma, NamePart::Whole(item), rest])
             }
         }
     }
@@ -131,19 +131,19 @@ impl<'n, 'a> Printer<'n, 'a> {
     /// Writes a pattern for the members of its pack from a place on.
     fn expansion(&mut self, pattern: Id, place: usize) -> Option<()> {
         let Some(list) = self.nodes.pack_in(pattern) else {
-            return self.write(None, &[Part::Whole(pattern), Part::Text("...")]);
+            return self.write(None, &[NamePart::Whole(pattern), NamePart::Text("...")]);
         };
         if self.nodes.item(list, place).is_none() {
             return Some(());
         }
         let next = place.checked_add(1)?;
-        self.write(None, &[Part::Expansion(pattern, next)])?;
-        let comma = Part::Text(if place == 0 { "" } else { ", " });
-        self.write(Some(place), &[comma, Part::Whole(pattern)])
+        self.write(None, &[NamePart::Expansion(pattern, next)])?;
+        let comma = NamePart::Text(if place == 0 { "" } else { ", " });
+        self.write(Some(place), &[comma, NamePart::Whole(pattern)])
     }
 
     fn whole(&mut self, id: Id, pack: Option<usize>) -> Option<()> {
-        self.write(pack, &[Part::Left(id), Part::Right(id)])
+        self.write(pack, &[NamePart::Left(id), NamePart::Right(id)])
     }
 
     /// Writes what a type has in front of a name, and of all other nodes the whole.
@@ -153,7 +153,10 @@ impl<'n, 'a> Printer<'n, 'a> {
             Node::Qualified(inner, letters) => {
                 let is_function = self.is_function(inner, pack);
                 let letters = if is_function { "" } else { letters };
-                self.write(pack, &[Part::Left(inner), Part::Qualifiers(letters)])
+                self.write(
+                    pack,
+                    &[NamePart::Left(inner), NamePart::Qualifiers(letters)],
+                )
             }
             Node::Pointer(inner, sign) => self.pointer(inner, sign, pack),
             Node::Member(class, inner) => {
@@ -161,16 +164,19 @@ impl<'n, 'a> Printer<'n, 'a> {
                     "" => " ",
                     open => open,
                 };
-                let (class, open) = (Part::Whole(class), Part::Text(open));
-                self.write(pack, &[Part::Left(inner), open, class, Part::Text("::*")])
+                let (class, open) = (NamePart::Whole(class), NamePart::Text(open));
+                self.write(
+                    pack,
+                    &[NamePart::Left(inner), open, class, NamePart::Text("::*")],
+                )
             }
             Node::Function(0, _) => Some(()),
             Node::Function(result_type, _) => {
                 let has_right = self.nodes.has_right(result_type, pack);
-                let blank = Part::Text(if has_right { "" } else { " " });
-                self.write(pack, &[Part::Left(result_type), blank])
+                let blank = NamePart::Text(if has_right { "" } else { " " });
+                self.write(pack, &[NamePart::Left(result_type), blank])
             }
-            Node::Array(element, _) => self.write(pack, &[Part::Left(element)]),
+            Node::Array(element, _) => self.write(pack, &[NamePart::Left(element)]),
             node => self.name(node, pack),
         }
     }
@@ -180,22 +186,31 @@ impl<'n, 'a> Printer<'n, 'a> {
         let id = self.nodes.resolve(id, pack);
         match self.nodes.at(id) {
             Node::Qualified(inner, letters) if self.is_function(inner, pack) => {
-                self.write(pack, &[Part::Right(inner), Part::Qualifiers(letters)])
+                self.write(
+                    pack,
+                    &[NamePart::Right(inner), NamePart::Qualifiers(letters)],
+                )
             }
-            Node::Qualified(inner, _) => self.write(pack, &[Part::Right(inner)]),
+            Node::Qualified(inner, _) => self.write(pack, &[NamePart::Right(inner)]),
             Node::Pointer(inner, sign) => {
                 let (inner, _) = self.collapsed(inner, sign, pack);
                 self.behind_pointer(inner, pack)
             }
             Node::Member(_, inner) => self.behind_pointer(inner, pack),
             Node::Function(result_type, parameters) => {
-                let parameters = Part::Items(parameters, true);
-                let (open, close) = (Part::Text("("), Part::Text(")"));
-                self.write(pack, &[open, parameters, close, Part::Right(result_type)])
+                let parameters = NamePart::Items(parameters, true);
+                let (open, close) = (NamePart::Text("("), NamePart::Text(")"));
+                self.write(
+                    pack,
+                    &[open, parameters, close, NamePart::Right(result_type)],
+                )
             }
             Node::Array(element, length) => {
-                let (length, close) = (Part::Whole(length), Part::Text("]"));
-                self.write(pack, &[Part::Bracket, length, close, Part::Right(element)])
+                let (length, close) = (NamePart::Whole(length), NamePart::Text("]"));
+                self.write(
+                    pack,
+                    &[NamePart::Bracket, length, close, NamePart::Right(element)],
+                )
             }
             _ => Some(()),
         }
@@ -216,14 +231,14 @@ impl<'n, 'a> Printer<'n, 'a> {
 
     fn pointer(&mut self, inner: Id, sign: &'a str, pack: Option<usize>) -> Option<()> {
         let (inner, sign) = self.collapsed(inner, sign, pack);
-        let open = Part::Text(self.opening(inner, pack));
-        self.write(pack, &[Part::Left(inner), open, Part::Text(sign)])
+        let open = NamePart::Text(self.opening(inner, pack));
+        self.write(pack, &[NamePart::Left(inner), open, NamePart::Text(sign)])
     }
 
     fn behind_pointer(&mut self, inner: Id, pack: Option<usize>) -> Option<()> {
         let has_opening = !self.opening(inner, pack).is_empty();
-        let close = Part::Text(if has_opening { ")" } else { "" });
-        self.write(pack, &[close, Part::Right(inner)])
+        let close = NamePart::Text(if has_opening { ")" } else { "" });
+        self.write(pack, &[close, NamePart::Right(inner)])
     }
 
     /// The type and the sign of a reference to a type, which may be a reference too.
@@ -242,25 +257,34 @@ impl<'n, 'a> Printer<'n, 'a> {
             Node::Nothing => Some(()),
             Node::Text(text) | Node::Known(text, _) => self.text.try_push_str(text).ok(),
             Node::Scope(outer, inner) => {
-                let (outer, inner) = (Part::Whole(outer), Part::Whole(inner));
-                self.write(pack, &[outer, Part::Text("::"), inner])
+                let (outer, inner) = (NamePart::Whole(outer), NamePart::Whole(inner));
+                self.write(pack, &[outer, NamePart::Text("::"), inner])
             }
             Node::Template(name, list) => {
-                let (name, list) = (Part::Whole(name), Part::Items(list, true));
-                self.write(pack, &[name, Part::Apart("<"), list, Part::Apart(">")])
+                let (name, list) = (NamePart::Whole(name), NamePart::Items(list, true));
+                self.write(
+                    pack,
+                    &[name, NamePart::Apart("<"), list, NamePart::Apart(">")],
+                )
             }
             Node::Encoding(name, function) => {
-                let (left, right) = (Part::Left(function), Part::Right(function));
-                self.write(pack, &[left, Part::Whole(name), right])
+                let (left, right) = (NamePart::Left(function), NamePart::Right(function));
+                self.write(pack, &[left, NamePart::Whole(name), right])
             }
             Node::Tagged(name, tag) => {
-                let (open, tag) = (Part::Text("[abi:"), Part::Text(tag));
-                self.write(pack, &[Part::Whole(name), open, tag, Part::Text("]")])
+                let (open, tag) = (NamePart::Text("[abi:"), NamePart::Text(tag));
+                self.write(
+                    pack,
+                    &[NamePart::Whole(name), open, tag, NamePart::Text("]")],
+                )
             }
             Node::Constructor(class) => self.class_name(class, "", pack),
             Node::Destructor(class) => self.class_name(class, "~", pack),
             Node::Conversion(target) => {
-                self.write(pack, &[Part::Text("operator "), Part::Whole(target)])
+                self.write(
+                    pack,
+                    &[NamePart::Text("operator "), NamePart::Whole(target)],
+                )
             }
             _ => self.rare_name(node, pack),
         }
@@ -270,43 +294,43 @@ impl<'n, 'a> Printer<'n, 'a> {
     fn class_name(&mut self, class: Id, before: &'static str, pack: Option<usize>) -> Option<()> {
         let base = self.nodes.base_name(class);
         let name = match self.nodes.at(base) {
-            Node::Known(_, last) => Part::Text(last),
-            _ => Part::Whole(base),
+            Node::Known(_, last) => NamePart::Text(last),
+            _ => NamePart::Whole(base),
         };
-        self.write(pack, &[Part::Text(before), name])
+        self.write(pack, &[NamePart::Text(before), name])
     }
 
     /// Writes a name of a rarer kind.
     fn rare_name(&mut self, node: Node<'a>, pack: Option<usize>) -> Option<()> {
         match node {
             Node::Between(before, inner, after) => {
-                let (before, after) = (Part::Text(before), Part::Text(after));
-                self.write(pack, &[before, Part::Whole(inner), after])
+                let (before, after) = (NamePart::Text(before), NamePart::Text(after));
+                self.write(pack, &[before, NamePart::Whole(inner), after])
             }
             Node::Numbered(before, number, after) => {
-                let (before, after) = (Part::Text(before), Part::Text(after));
-                self.write(pack, &[before, Part::Number(number), after])
+                let (before, after) = (NamePart::Text(before), NamePart::Text(after));
+                self.write(pack, &[before, NamePart::Number(number), after])
             }
             Node::Lambda(function, number) => {
-                let (open, close) = (Part::Text("{lambda"), Part::Text("}"));
-                let (function, number) = (Part::Right(function), Part::Number(number));
-                self.write(pack, &[open, function, Part::Text("#"), number, close])
+                let (open, close) = (NamePart::Text("{lambda"), NamePart::Text("}"));
+                let (function, number) = (NamePart::Right(function), NamePart::Number(number));
+                self.write(pack, &[open, function, NamePart::Text("#"), number, close])
             }
             Node::Items(..) => Some(()),
             Node::Pack(list) | Node::PackParameter(list) => self.write(
                 pack,
-                &[Part::Items(list, true)],
+                &[NamePart::Items(list, true)],
             ),
-            Node::Expansion(pattern) => self.write(pack, &[Part::Expansion(pattern, 0)]),
+            Node::Expansion(pattern) => self.write(pack, &[NamePart::Expansion(pattern, 0)]),
             Node::InScope(class, base) => {
-                let words = Part::Text("construction vtable for ");
-                let (class, base) = (Part::Whole(class), Part::Whole(base));
-                self.write(pack, &[words, base, Part::Text("-in-"), class])
+                let words = NamePart::Text("construction vtable for ");
+                let (class, base) = (NamePart::Whole(class), NamePart::Whole(base));
+                self.write(pack, &[words, base, NamePart::Text("-in-"), class])
             }
             Node::Temporary(variable, number) => {
-                let words = Part::Text("reference temporary #");
-                let (number, variable) = (Part::Number(number), Part::Whole(variable));
-                self.write(pack, &[words, number, Part::Text(" for "), variable])
+                let words = NamePart::Text("reference temporary #");
+                let (number, variable) = (NamePart::Number(number), NamePart::Whole(variable));
+                self.write(pack, &[words, number, NamePart::Text(" for "), variable])
             }
             Node::Parameter(_) => None,
             _ => self.expression(node, pack),
@@ -319,35 +343,35 @@ impl<'n, 'a> Printer<'n, 'a> {
             Node::Literal(of_type, digits) => self.literal(of_type, digits, pack),
             Node::Unary(sign, value) => {
                 let value = match (sign, self.nodes.at(value)) {
-                    ("&", Node::Encoding(name, _)) if self.is_scoped(name) => Part::Whole(name),
-                    _ => Part::Value(value),
+                    ("&", Node::Encoding(name, _)) if self.is_scoped(name) => NamePart::Whole(name),
+                    _ => NamePart::Value(value),
                 };
-                self.write(pack, &[Part::Text(sign), value])
+                self.write(pack, &[NamePart::Text(sign), value])
             }
             Node::Binary(sign, left, right) => {
-                let (left, right) = (Part::Value(left), Part::Value(right));
-                let parts = [left, Part::Text(sign), right];
+                let (left, right) = (NamePart::Value(left), NamePart::Value(right));
+                let parts = [left, NamePart::Text(sign), right];
                 if sign != ">" {
                     return self.write(pack, &parts);
                 }
-                self.write(pack, &[Part::Text(")")])?;
+                self.write(pack, &[NamePart::Text(")")])?;
                 self.write(pack, &parts)?;
-                self.write(pack, &[Part::Text("(")])
+                self.write(pack, &[NamePart::Text("(")])
             }
             Node::Call(function, values) => {
-                let (open, close) = (Part::Text("("), Part::Text(")"));
+                let (open, close) = (NamePart::Text("("), NamePart::Text(")"));
                 let function = match self.nodes.at(function) {
-                    Node::Encoding(name, _) => Part::Whole(name),
-                    _ => Part::Value(function),
+                    Node::Encoding(name, _) => NamePart::Whole(name),
+                    _ => NamePart::Value(function),
                 };
-                let values = Part::Items(values, true);
+                let values = NamePart::Items(values, true);
                 self.write(pack, &[function, open, values, close])
             }
             Node::Cast(target, value) => {
-                let (open, close) = (Part::Text("("), Part::Text(")"));
+                let (open, close) = (NamePart::Text("("), NamePart::Text(")"));
                 self.write(
                     pack,
-                    &[open, Part::Whole(target), close, Part::Value(value)],
+                    &[open, NamePart::Whole(target), close, NamePart::Value(value)],
                 )
             }
             _ => None,
@@ -368,8 +392,8 @@ impl<'n, 'a> Printer<'n, 'a> {
         if is_name {
             return self.whole(id, pack);
         }
-        let (open, close) = (Part::Text("("), Part::Text(")"));
-        self.write(pack, &[open, Part::Whole(id), close])
+        let (open, close) = (NamePart::Text("("), NamePart::Text(")"));
+        self.write(pack, &[open, NamePart::Whole(id), close])
     }
 
     /// Writes a number of a type.
@@ -392,12 +416,12 @@ impl<'n, 'a> Printer<'n, 'a> {
             ("long long", _) => "ll",
             ("unsigned long long", _) => "ull",
             _ => {
-                let (open, close) = (Part::Text("("), Part::Text(")"));
-                let (sign, number) = (Part::Text(sign), Part::Text(number));
-                return self.write(pack, &[open, Part::Whole(of_type), close, sign, number]);
+                let (open, close) = (NamePart::Text("("), NamePart::Text(")"));
+                let (sign, number) = (NamePart::Text(sign), NamePart::Text(number));
+                return self.write(pack, &[open, NamePart::Whole(of_type), close, sign, number]);
             }
         };
-        let (sign, number) = (Part::Text(sign), Part::Text(number));
-        self.write(pack, &[sign, number, Part::Text(suffix)])
+        let (sign, number) = (NamePart::Text(sign), NamePart::Text(number));
+        self.write(pack, &[sign, number, NamePart::Text(suffix)])
     }
 }

@@ -22,8 +22,8 @@ pub struct InlinedCall<'a> {
 }
 
 impl<'a> InlinedCall<'a> {
-    /// The name of the function whose code was inlined: as the linker has it where that is known, 1 to 1,023
-    /// printable characters of ASCII.
+    /// The name of the function whose code was inlined, as the linker has it where that is known:
+    /// 1 to 1,023 printable characters of ASCII.
     pub fn name(&self) -> Option<&'a str>
         ensures { IfSome result (λ name. has_control name.now ≡ false) }
     {

@@ -4,19 +4,11 @@
 use cxx_names::SymbolName;
 
 /// A linker's names, and those of the source.
-const NAMES: [(&str, &str); 36] = [
+const NAMES: [(&str, &str); 33] = [
     ("_ZN6Events3addEi", "Events::add(int)"),
     (
         "_ZNSt6vectorIiSaIiEE9push_backEOi",
         "std::vector<int, std::allocator<int> >::push_back(int&&)",
-    ),
-    (
-        "_ZNSt7__cxx1112basic_stringIcSt11char_traitsIcESaIcEEC1EPKcRKS3_",
-        "std::__cxx11::basic_string<char, std::char_traits<char>, std::allocator<char> >::basic_string(char const*, std::allocator<char> const&)",
-    ),
-    (
-        "_ZNSsC1ERKSs",
-        "std::basic_string<char, std::char_traits<char>, std::allocator<char> >::basic_string(std::string const&)",
     ),
     ("_ZN3FooD0Ev", "Foo::~Foo()"),
     ("_ZlsRSoRK1A", "operator<<(std::ostream&, A const&)"),
@@ -67,7 +59,6 @@ const NAMES: [(&str, &str); 36] = [
         "_ZN5alloc7raw_vec11finish_grow17h84ebeec1da03e89eE",
         "alloc::raw_vec::finish_grow",
     ),
-    (
 ];
 
 #[test]
