@@ -261,8 +261,8 @@ extern "C" int main() { return q::push((int *)16); }
 
 
 def test_names_of_another_language(alone: pathlib.Path, tmp_path: pathlib.Path) -> None:
-    """They are as the linker has them, and c++filt writes them as the source has them."""
-    need("clang++", "ld.lld", "c++filt")
+    """They are as the source has them, in the text, in JSON and in SARIF."""
+    need("clang++", "ld.lld")
     (tmp_path / "push.cpp").write_text(MANGLED, encoding="utf-8")
     for name in ("start.c", "tenant.h"):
         shutil.copy(EXAMPLES / "c" / name, tmp_path)
@@ -272,8 +272,9 @@ def test_names_of_another_language(alone: pathlib.Path, tmp_path: pathlib.Path) 
         succeed([compiler, *words, source], cwd=tmp_path)
     link = ["clang", *target, "-fuse-ld=lld", "-static", "-o", "push.elf", "start.o", "push.o"]
     succeed(link, cwd=tmp_path)
-    told = run([alone, "push.elf"], cwd=tmp_path).errors
-    assert "#0 _ZN1q4pushEPi+0x0 at push.cpp:2\n" in told
-    (tmp_path / "told").write_text(told, encoding="ascii")
-    shell = ["bash", "-c", "c++filt < told"]
-    assert "#0 q::push(int*)+0x0 at push.cpp:2\n" in succeed(shell, cwd=tmp_path).output
+    told = run([alone, "--json", "j", "--sarif", "s", "push.elf"], cwd=tmp_path).errors
+    assert "#0 q::push(int*)+0x0 at push.cpp:2\n" in told
+    assert " (q::push(int*)+0x0): " in told.splitlines()[0]
+    for name, key in (("j", "function"), ("s", "name")):
+        said = (tmp_path / name).read_text(encoding="ascii")
+        assert f'"{key}":"q::push(int*)"' in said and "_ZN" not in said

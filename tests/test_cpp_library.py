@@ -117,9 +117,9 @@ def test_who_grew_a_vector_is_told_by_name_and_line(
     grown, read = (1 + next(at for at, line in enumerate(lines) if text in line)
                    for text in ("listed.push_back(event)", "sum += *at"))
     assert "Cause: [MTE]: Use After Free, 0 bytes into a 32-byte allocation" in ran.errors
-    assert re.search(rf"^  #\d+ _Z3sum\S+ at kept_iterator.cpp:{read}$", ran.errors, re.M)
+    assert re.search(rf"^  #\d+ sum\(.* at kept_iterator.cpp:{read}$", ran.errors, re.M)
     freed = told_calls(ran.errors, "freed by")
-    adds = [call for call in freed if call.startswith("_ZN6Events3addEi+")]
+    adds = [call for call in freed if call.startswith("Events::add(int)+")]
     assert len(adds) == 1 and adds[0].endswith(f" at kept_iterator.cpp:{grown}"), freed
     assert re.search(r"^main\+\S+ at kept_iterator.cpp:\d+$", "\n".join(freed), re.M)
 
@@ -133,7 +133,7 @@ def test_an_exception_that_nobody_catches_says_which_and_where(
     assert ran.status == 133 and ran.errors.startswith("mte_run: breakpoint 6 at ")
     assert ran.output == ("libc++abi: terminating with uncaught exception of type "
                           "std::runtime_error: nobody catches: tenant\n")
-    assert re.search(r"^  #\d+ __cxa_throw\+.*\n  #\d+ _Z5lower\S+ at uncaught.cpp:9\n"
+    assert re.search(r"^  #\d+ __cxa_throw\+.*\n  #\d+ lower\(.* at uncaught.cpp:9\n"
                      r"  #\d+ main\S+ at uncaught.cpp:15$", ran.errors, re.M), ran.errors
 
 

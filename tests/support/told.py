@@ -12,7 +12,8 @@ from tests.support.places import IMAGES
 from tests.support.running import Ran, run
 
 FRAME = re.compile(
-    r" +#(\d+) (\S+?|.+?(?= at \S+ \(inlined\)))(?: at (\S+):(\d+))?( \(inlined\))?"
+    r" +#(\d+) (\S+?|.+?\+0x[0-9a-f]+|.+?(?= at \S+ \(inlined\)))"
+    r"(?: at (\S+):(\d+))?( \(inlined\))?"
     r"( \(x30, may be old\))?$"
 )
 # What is said of a clean exit where chunks had bytes past their size.

@@ -12,7 +12,7 @@ use std::str;
 pub const DEEPEST: u32 = 64;
 
 /// The most bytes of a name.
-const LONGEST: usize = 79;
+const LONGEST: usize = 1_023;
 
 /// An inlined call: the function that was called, and where.
 #[derive(Clone, Copy)]
@@ -22,7 +22,8 @@ pub struct InlinedCall<'a> {
 }
 
 impl<'a> InlinedCall<'a> {
-    /// The name of the function whose code was inlined: 1 to 79 printable characters of ASCII.
+    /// The name of the function whose code was inlined, as the linker has it where that is known:
+    /// 1 to 1,023 printable characters of ASCII.
     pub fn name(&self) -> Option<&'a str>
         ensures { IfSome result (λ name. has_control name.now ≡ false) }
     {

@@ -5,6 +5,7 @@
 use crate::fields::{double_word, half, word};
 use crate::pieces::{Piece, Rank, Sweep, SymbolRank};
 use crate::sections::Sections;
+use cxx_names::SymbolName;
 use std::alloc::{AllocError, Global};
 use std::{fmt, str};
 
@@ -17,8 +18,8 @@ const SYMBOL: usize = 24;
 /// How far from a symbol without a size an address is still named by it.
 const REACH: u64 = 65_536;
 
-/// The most bytes of a name.
-const LONGEST: usize = 80;
+/// The most bytes of a name, with the 0 behind it.
+const LONGEST: usize = 1_024;
 
 /// STT_OBJECT and STT_FUNC, the lower half of `st_info`.
 const OBJECT: u8 = 1;
@@ -216,9 +217,9 @@ impl<'a> SymbolOffset<'a> {
     }
 
     /// The name of the symbol that names it, if one does.
-    pub fn name(&self) -> Option<&'a str> {
+    pub fn name(&self) -> Option<SymbolName<'a>> {
         let symbol = self.symbol.as_ref()?;
-        Some(symbol.name)
+        Some(SymbolName::of(symbol.name))
     }
 
     /// How far it is from the symbol that names it; 0 where none does.
@@ -263,8 +264,8 @@ impl<'a> SymbolOffset<'a> {
 
 impl<'a> fmt::Display for SymbolOffset<'a> {
     fn fmt<W: fmt::Write>(&self, f: &mut fmt::Formatter<W>) -> fmt::Result {
-        match &self.symbol {
-            Some(Symbol { name, .. }) => {
+        match self.name() {
+            Some(name) => {
                 let offset = self.offset();
                 write!(f, " ({name}+{offset:#x})")
             }

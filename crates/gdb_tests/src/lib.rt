@@ -1,6 +1,6 @@
 //! Tests of what a debugger uses: GDB's packets (frames that GDB 13.1 sent, values of its
-//! documentation, and malformed packets) and tables of source lines, in a crate at the top: a crate
-//! with tests of its own would be proved twice.
+//! documentation, and malformed packets), tables of source lines and names of C++, in a crate at
+//! the top: a crate with tests of its own would be proved twice.
 #![tactic(auto)]
 
 #[cfg(test)]
@@ -11,3 +11,5 @@ mod digits;
 mod frames;
 #[cfg(test)]
 mod lines;
+#[cfg(test)]
+mod names;

@@ -3,6 +3,7 @@
 
 ghost use Rattle.std.specs.Iterator.{at_most};
 
+use cxx_names::SymbolName;
 use debug_info::{CallsAt, DEEPEST};
 use debug_lines::SourceLine;
 use elf_symbols::SymbolOffset;
@@ -12,7 +13,7 @@ use std::fmt;
 #[derive(Clone, Copy)]
 pub enum FrameName<'a> {
     /// The name of a function that was inlined, where it has one.
-    Inlined(Option<&'a str>),
+    Inlined(Option<SymbolName<'a>>),
     /// The place in a function that was called.
     Own(SymbolOffset<'a>),
 }
@@ -29,7 +30,7 @@ pub struct StackFrame<'a> {
 impl<'a> fmt::Display for StackFrame<'a> {
     fn fmt<W: fmt::Write>(&self, f: &mut fmt::Formatter<W>) -> fmt::Result {
         match &self.name {
-            FrameName::Inlined(name) => f.write_str(name.unwrap_or("??"))?,
+            FrameName::Inlined(name) => write_inlined(f, name)?,
             FrameName::Own(place) => write_label(f, place)?,
         }
         if let Some(line) = &self.line {
@@ -39,6 +40,16 @@ impl<'a> fmt::Display for StackFrame<'a> {
             FrameName::Inlined(_) => f.write_str(" (inlined)"),
             FrameName::Own(_) => Ok(()),
         }
+    }
+}
+
+fn write_inlined<W: fmt::Write>(
+    f: &mut fmt::Formatter<W>,
+    name: &Option<SymbolName<'_>>,
+) -> fmt::Result {
+    match name {
+        Some(name) => write!(f, "{name}"),
+        None => f.write_str("??"),
     }
 }
 
@@ -85,7 +96,7 @@ impl<'n, 'a> Iterator for FramesAt<'n, 'a> {
         let name = match self.calls.next() {
             Some(call) => {
                 self.line = call.line();
-                FrameName::Inlined(call.name())
+                FrameName::Inlined(call.name().map(|name| SymbolName::of(name)))
             }
             None => {
                 self.left = 0;

@@ -3,6 +3,7 @@
 use crate::call_stack::CallStack;
 use crate::frames::{FrameName, FramesAt, StackFrame};
 use crate::names::FrameNames;
+use cxx_names::SymbolName;
 use debug_lines::SourceLine;
 use elf_symbols::SymbolOffset;
 use std::io::Write;
@@ -56,9 +57,13 @@ impl<'a> fmt::Display for FrameObject<'a> {
 }
 
 /// Writes the name of a function whose code was inlined.
-fn write_inlined<W: fmt::Write>(f: &mut fmt::Formatter<W>, name: &Option<&str>) -> fmt::Result {
+fn write_inlined<W: fmt::Write>(
+    f: &mut fmt::Formatter<W>,
+    name: &Option<SymbolName<'_>>,
+) -> fmt::Result {
     if let Some(name) = name {
-        let name = Quoted(*name);
+        let shown = name.shown();
+        let name = Quoted(shown.as_str());
         write!(f, ",\"function\":{name}")?;
     }
     f.write_str(",\"inlined\":true")
@@ -72,7 +77,8 @@ fn write_function<W: fmt::Write>(
     let Some(name) = place.name() else {
         return Ok(());
     };
-    let (name, offset) = (Quoted(name), place.offset());
+    let shown = name.shown();
+    let (name, offset) = (Quoted(shown.as_str()), place.offset());
     write!(f, ",\"function\":{name},\"offset\":{offset}")
 }
 

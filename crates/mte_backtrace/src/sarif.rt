@@ -72,7 +72,8 @@ impl<'a> fmt::Display for FrameParts<'a> {
         };
         match name {
             Some(name) => {
-                let name = Quoted(name);
+                let shown = name.shown();
+                let name = Quoted(shown.as_str());
                 write!(
                     f,
                     ",\"logicalLocations\":[{{\"name\":{name},\"kind\":\"function\"}}]"

@@ -1,0 +1,44 @@
+//! What is to be written.
+
+use crate::nodes::Id;
+
+/// A part of the text of a name.
+#[derive(Clone, Copy)]
+pub enum NamePart<'a> {
+    Text(&'a str),
+    Number(usize),
+    /// All of a node.
+    Whole(Id),
+    /// What a type writes in front of the name of what has it.
+    Left(Id),
+    /// What it writes behind that name.
+    Right(Id),
+    /// A value as a part of another.
+    Value(Id),
+    /// The rest of a list; whether nothing of the list was written yet.
+    Items(Id, bool),
+    /// A pattern from a place of its pack on.
+    Expansion(Id, usize),
+    /// Qualifiers by their letters.
+    Qualifiers(&'a str),
+    /// A text, with a blank in front where that is behind the same sign.
+    Apart(&'static str),
+    /// The bracket in front of an array's length.
+    Bracket,
+}
+
+/// A part, and which member of a pack it is of.
+#[derive(Clone, Copy)]
+pub struct NamePiece<'a> {
+    pub part: NamePart<'a>,
+    pub pack: Option<usize>,
+}
+
+impl<'a> Default for NamePiece<'a> {
+    fn default() -> NamePiece<'a> {
+        NamePiece {
+            part: NamePart::Text(""),
+            pack: None,
+        }
+    }
+}

@@ -1,0 +1,62 @@
+//! A name as its source has it.
+
+use crate::parser::Parser;
+use crate::printer::{LONGEST, Printer};
+use crate::reader::NameReader;
+use crate::rust_names::write_legacy;
+use arrayvec::ArrayString;
+
+/// A name of C++ or Rust as its source has it: at most 4,096 bytes of ASCII.
+#[derive(Drop)]
+pub struct PlainName {
+    text: ArrayString<LONGEST>,
+}
+
+impl PlainName {
+    /// What a linker's name is in the source: as c++filt writes it, with the parameters of
+    /// functions. `None` of a name in another form, and of one that is too deep or too long.
+    pub fn of(name: &str) -> Option<PlainName> {
+        let mut reader = NameReader::new(name);
+        reader.expect("_Z")?;
+        let text = match write_legacy(name) {
+            Some(text) => text,
+            None => cxx_text(reader)?,
+        };
+        Some(PlainName { text })
+    }
+
+    /// The name.
+    pub fn as_str(&self) -> &str {
+        self.text.as_str()
+    }
+}
+
+/// The text of a name of C++ behind its `_Z`.
+fn cxx_text(reader: NameReader<'_>) -> Option<ArrayString<LONGEST>> {
+    let mut parser = Parser::new(reader);
+    let encoding = parser.read()?;
+    let mut reader = parser.reader;
+    let text = Printer::new(parser.nodes()).text_of(encoding)?;
+    with_suffixes(&mut reader, text)
+}
+
+/// A text with what is said of a compiler's copies of a function, as `.part.0`.
+fn with_suffixes(
+    reader: &mut NameReader<'_>,
+    text: ArrayString<LONGEST>,
+) -> Option<ArrayString<LONGEST>> {
+    let mut text = text;
+    for _ in 0..MOST_SUFFIXES {
+        if reader.peek() == 0 {
+            return Some(text);
+        }
+        let suffix = reader.clone_suffix()?;
+        text.try_push_str(" [clone ").ok()?;
+        text.try_push_str(suffix).ok()?;
+        text.try_push_str("]").ok()?;
+    }
+    None
+}
+
+/// The most suffixes, and one.
+const MOST_SUFFIXES: u32 = 17;

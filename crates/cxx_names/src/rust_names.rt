@@ -1,0 +1,91 @@
+//! Names of Rust in their legacy form: nested names whose last part is `h` and 16 digits.
+
+use crate::printer::LONGEST;
+use crate::reader::NameReader;
+use arrayvec::ArrayString;
+
+/// The most parts of a name.
+const MOST_PARTS: u32 = 64;
+
+/// The letters of a part's hash.
+const HASH: usize = 17;
+
+/// The text of a name in that form, without the hash.
+pub fn write_legacy(name: &str) -> Option<ArrayString<LONGEST>> {
+    let mut reader = NameReader::new(name);
+    reader.expect("_ZN")?;
+    let mut text = ArrayString::new();
+    for place in 0..MOST_PARTS {
+        let part = reader.source_name()?;
+        if reader.eat("E") {
+            return if is_hash(part) { Some(text) } else { None };
+        }
+        if place > 0 {
+            text.try_push_str("::").ok()?;
+        }
+        write_part(&mut text, part)?;
+    }
+    None
+}
+
+/// Whether a part is a hash.
+fn is_hash(part: &str) -> bool {
+    let mut digits = part.as_bytes().iter().skip(1);
+    part.len() == HASH && part.starts_with("h") && digits.all(|digit| digit.is_ascii_hexdigit())
+}
+
+/// Writes a part with its escapes.
+fn write_part(text: &mut ArrayString<LONGEST>, part: &str) -> Option<()> {
+    let part = match part.strip_prefix("_") {
+        Some(rest) if rest.starts_with("$") => rest,
+        _ => part,
+    };
+    let mut rest = part;
+    for _ in 0..part.len() {
+        if rest.is_empty() {
+            break;
+        }
+        rest = write_next(text, rest)?;
+    }
+    Some(())
+}
+
+/// Writes a character, which may be an escape; what is behind it.
+fn write_next<'a>(text: &mut ArrayString<LONGEST>, part: &'a str) -> Option<&'a str> {
+    if let Some(rest) = part.strip_prefix("..") {
+        text.try_push_str("::").ok()?;
+        return Some(rest);
+    }
+    if let Some(rest) = part.strip_prefix("$") {
+        let (escape, rest) = rest.split_once('$')?;
+        write_escape(text, escape)?;
+        return Some(rest);
+    }
+    let mut characters = part.chars();
+    let character = characters.next()?;
+    text.try_push(character).ok()?;
+    Some(characters.as_str())
+}
+
+/// Writes the character of an escape.
+fn write_escape(text: &mut ArrayString<LONGEST>, escape: &str) -> Option<()> {
+    let character = match escape {
+        "SP" => '@',
+        "BP" => '*',
+        "RF" => '&',
+        "LT" => '<',
+        "GT" => '>',
+        "LP" => '(',
+        "RP" => ')',
+        "C" => ',',
+        _ => {
+            let code = u32::from_str_radix(escape.strip_prefix("u")?, 16).ok()?;
+            let character = char::from_u32(code)?;
+            if !matches!(character, ' '..='~') {
+                return None;
+            }
+            character
+        }
+    };
+    text.try_push(character).ok()
+}
