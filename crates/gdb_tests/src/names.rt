@@ -4,7 +4,7 @@
 use cxx_names::SymbolName;
 
 /// A linker's names, and those of the source.
-const NAMES: [(&str, &str); 32] = [
+const NAMES: [(&str, &str); 33] = [
     ("_ZN6Events3addEi", "Events::add(int)"),
     (
         "_ZNSt6vectorIiSaIiEE9push_backEOi",
