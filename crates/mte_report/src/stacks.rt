@@ -37,7 +37,7 @@ impl<'a> Report<'a> {
     pub fn found<'b>(&self, cause: &'b Cause) -> FoundCause<'b> {
         FoundCause {
             cause,
-            is_exact: self.finding.is_some(),
+            wrong: self.finding.map(|finding| &finding.wrong),
         }
     }
 

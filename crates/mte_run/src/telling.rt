@@ -12,6 +12,7 @@ use mte_report::Report;
 use mte_svc::{AnsweredCall, HeapCalls, TenantParts};
 use mte_tags::{Paged, TagMode};
 use mte_tenant::Status;
+use pointer_provenance::Full;
 use report_documents::Document;
 use run_options::{Exactness, Failure, FileFault, Options};
 use std::alloc::{AllocError, Global};
@@ -61,10 +62,22 @@ fn end_watch<'a>(
     if !observer.is_complete() {
         return Err(Failure::Memory);
     }
+    if let Some(full) = observer.full() {
+        return Err(failure_of(full));
+    }
     if observer.is_cut {
         let _ = eprintln!(rt; "mte_run: output was cut: there was no more room (--out)");
     }
     Ok(())
+}
+
+/// The failure to note more of the tenant's pointers.
+fn failure_of<'a>(full: Full) -> Failure<'a> {
+    match full {
+        Full::OutOfMemory => Failure::Memory,
+        Full::Chunks => Failure::Check("it keeps 655,360 chunks"),
+        Full::Pages => Failure::Check("it keeps what 8,192 pages have"),
+    }
 }
 
 /// The failure to write the lines of a trace.
