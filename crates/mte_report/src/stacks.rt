@@ -34,7 +34,10 @@ impl<'a> Report<'a> {
     }
 
     /// A cause, behind what found it.
-    pub fn found<'b>(&self, cause: &'b Cause) -> FoundCause<'b> {
+    pub fn found<'b>(&self, cause: &'b Cause) -> FoundCause<'b>
+    where
+        'a: 'b,
+    {
         FoundCause {
             cause,
             wrong: self.finding.map(|finding| &finding.wrong),

@@ -123,19 +123,23 @@ impl Shadow {
         }
     }
 
-    /// What is wrong with the bytes of a service that completed: WRITE reads them and READ writes
-    /// them.
-    pub fn judge_service(&self, before: &Regs, after: &Regs) -> Option<Misuse> {
+    /// What is wrong with the bytes of a service: WRITE reads them and READ writes them. One that
+    /// completed took as many as its result says; of one that failed only what is known of its
+    /// pointer counts.
+    pub fn judge_service(&self, before: &Regs, after: &Regs, is_completed: bool) -> Option<Misuse> {
         let service = before.x[8];
-        if service != READ && service != WRITE || after.x[0] == 0 {
+        let bytes = if is_completed { after.x[0] } else { before.x[1] };
+        let origin = self.pointer(0);
+        let is_judged = is_completed || origin.chunk().is_some();
+        if service != READ && service != WRITE || bytes == 0 || !is_judged {
             return None;
         }
         let access = AccessedBytes {
             addr: before.x[0],
-            bytes: after.x[0],
+            bytes,
             is_write: service == READ,
         };
-        self.judge_bytes(self.pointer(0), access)
+        self.judge_bytes(origin, access)
     }
 
     /// What is wrong with the pointer that a service is to free or to give another size.

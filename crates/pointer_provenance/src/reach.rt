@@ -63,6 +63,7 @@ impl ReachTable {
             waiting: Vec::new(alloc),
         };
         table.enter_registers(shadow, regs)?;
+        table.enter_stack(shadow, regs.sp, memory)?;
         for range in roots {
             table.scan(shadow, range, Reach::Reachable, memory)?;
         }
@@ -112,16 +113,37 @@ impl ReachTable {
         is_live && self.states.get(index) == Some(&Reach::Nothing)
     }
 
-    /// Enters what the registers point into, and the chunk of the stack.
+    /// Enters what the registers point into.
     fn enter_registers(&mut self, shadow: &Shadow, regs: &Regs) -> Result<(), AllocError> {
         for (n, number) in regs.x.iter().enumerate() {
             let origin = shadow.register(u8::try_from(n).unwrap_or(31)).pointer();
             self.enter(shadow, origin, *number, Reach::Reachable)?;
         }
-        if let Some(index) = shadow.stack {
-            self.enter_chunk(shadow, index, Reach::Reachable)?;
-        }
         Ok(())
+    }
+
+    /// Enters the chunk that the stack is in, if it is in one, and what its words from SP on point
+    /// into.
+    fn enter_stack<M: Tagged>(
+        &mut self,
+        shadow: &Shadow,
+        sp: u64,
+        memory: &mut M,
+    ) -> Result<(), AllocError> {
+        let Some(index) = shadow.stack else {
+            return Ok(());
+        };
+        if let Some(state) = self.states.get_mut(index) {
+            *state = Reach::Reachable;
+        }
+        let Some(chunk) = shadow.chunks.get(index) else {
+            return Ok(());
+        };
+        let range = RootRange {
+            start: plain(sp).max(chunk.start()),
+            end: chunk.end(),
+        };
+        self.scan(shadow, &range, Reach::Reachable, memory)
     }
 
     /// Enters that a chunk is lost, and those that it leads to.

@@ -113,19 +113,18 @@ impl Checker {
         parts: &TenantParts,
         call: Option<&AnsweredCall>,
     ) -> Result<Option<Misuse>, Full> {
-        let found = self.shadow.judge_free(before);
-        if found.is_some() || !parts.is_running() {
+        let (after, is_completed) = (&parts.regs, parts.is_running());
+        let found = self.shadow
+            .judge_free(before)
+            .or(self.shadow.judge_service(before, after, is_completed));
+        if found.is_some() || !is_completed {
             return Ok(found);
         }
-        if let Some(call) = call {
-            self.shadow.note_call(call, parts.history.calls.count(), &parts.regs)?;
-            return Ok(None);
+        match call {
+            Some(call) => self.shadow.note_call(call, parts.history.calls.count(), after)?,
+            None => self.shadow.note_service(before, after),
         }
-        let found = self.shadow.judge_service(before, &parts.regs);
-        if found.is_none() {
-            self.shadow.note_service(before, &parts.regs);
-        }
-        Ok(found)
+        Ok(None)
     }
 }
 
