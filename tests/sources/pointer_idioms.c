@@ -1,6 +1,6 @@
-/* What correct programs do with pointers, for a checker that must not object: IDIOM says which. With
-   OVERFLOW the same pointer is used 400 bytes past the start of its chunk of 64 bytes, where another
-   chunk is, which the checker must say of that very chunk. */
+/* What correct programs do with pointers, for a checker that must not object: IDIOM says which.
+   With OVERFLOW the same pointer is used 400 bytes past the start of its chunk of 64 bytes, where
+   another chunk is, which the checker must say of that very chunk. */
 #include "tenant.h"
 
 #ifdef OVERFLOW
@@ -27,13 +27,13 @@ static int use(const char *pointer)
     return sink = pointer[INDEX * one];
 }
 
-#if IDIOM == 1 /* The links of a list that is walked both ways: the exclusive or of two pointers. */
+#if IDIOM == 1 /* The link of a list that is walked both ways: the exclusive or of two. */
 static int idiom(char *p, char *q)
 {
     cell = (void *)((uintptr_t)p ^ (uintptr_t)q);
     return use((char *)((uintptr_t)cell ^ (uintptr_t)q));
 }
-#elif IDIOM == 2 /* The distance of two chunks, by which pointers into one are moved to the other. */
+#elif IDIOM == 2 /* The distance of two chunks, by which pointers into one are moved over. */
 static int idiom(char *p, char *q)
 {
     char *inside = p + 8;
@@ -199,7 +199,7 @@ static int idiom(char *p, char *q)
     }
     return (int)sum + use(p);
 }
-#elif IDIOM == 16 /* A list that is freed while it is walked; old pointers are compared, not used. */
+#elif IDIOM == 16 /* A list, freed while it is walked; old pointers are compared, not used. */
 struct node {
     struct node *next;
     char *held;

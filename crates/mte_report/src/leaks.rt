@@ -111,8 +111,8 @@ impl<'a> Report<'a> {
         write_named(alloc, out, self, &names, places)
     }
 
-    /// Writes the chunks that nothing reaches at the end, by the calls that made them: the first 256
-    /// places. Those that only other lost chunks lead to are counted.
+    /// Writes the chunks that nothing reaches at the end, by the calls that made them: the first
+    /// 256 places. Those that only other lost chunks lead to are counted.
     pub fn write_lost<W: Write>(
         &self,
         alloc: Global,

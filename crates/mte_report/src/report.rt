@@ -215,7 +215,10 @@ fn tell_wrong<W: Write>(out: &mut W, wrong: &ForbiddenAccess, at: At<'_>) -> io:
     let (finder, why) = (wrong.violation.finder(), wrong.violation.words());
     if wrong.violation.is_free() {
         let pointer = wrong.span.addr;
-        return writeln!(out, "{finder}: a free of {pointer:#018x} by the instruction at {at}: {why}");
+        return writeln!(
+            out,
+            "{finder}: a free of {pointer:#018x} by the instruction at {at}: {why}"
+        );
     }
     let access = Accessing(wrong.span.is_write, AccessSize(Some(wrong.span.bytes)));
     write!(

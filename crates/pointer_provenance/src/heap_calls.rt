@@ -1,37 +1,52 @@
 //! What services do to chunks and pointers.
 
+use crate::access::AccessedBytes;
 use crate::chunk_table::TracedChunk;
-use crate::origin::{Origin, Provenance};
+use crate::origin::{PointerOrigin, Provenance};
 use crate::shadow::{Full, Shadow};
 use a64_bits::plain;
 use a64_registers::Regs;
-use heap_bounds::{Allocation, freed_by, made_by};
-use mte_svc::{AnsweredCall, READ};
+
+/// What a heap call that was answered did to chunks.
+#[derive(Clone, Copy, Debug, PartialEq, Eq)]
+pub struct ChunkChange {
+    /// The call's number, from 1.
+    pub number: u64,
+    /// The pointer that it returned, and the bytes that were asked for, where it made a chunk.
+    pub made: Option<(u64, u64)>,
+    /// The plain address of the chunk that it freed, or gave another size.
+    pub freed: Option<u64>,
+}
 
 impl Shadow {
-    /// Notes a service that completed and is no heap call: what it read for the tenant is no
+    /// Notes a service that completed and is no heap call: the bytes that it wrote are no
     /// pointer's, and neither is its result.
-    pub fn note_service(&mut self, before: &Regs, after: &Regs) {
-        if before.x[8] == READ {
-            self.memory.clear(plain(before.x[0]), after.x[0]);
+    pub fn note_service(&mut self, bytes: Option<AccessedBytes>, after: &Regs) {
+        if let Some(bytes) = bytes {
+            if bytes.is_write {
+                self.memory.clear(plain(bytes.addr), bytes.count);
+            }
         }
         self.set(0, Provenance::NONE, after);
     }
 
-    /// Notes a heap call that was answered, with its number from 1.
-    pub fn note_call(
-        &mut self,
-        call: &AnsweredCall,
-        number: u64,
-        after: &Regs,
-    ) -> Result<(), Full> {
-        let old = match freed_by(call) {
+    /// Notes a heap call that was answered.
+    pub fn note_call(&mut self, change: &ChunkChange, after: &Regs) -> Result<(), Full> {
+        let old = match change.freed {
             Some(start) => self.live_at(start),
             None => None,
         };
-        let made = match made_by(call) {
-            Some(made) => self.note_made(&made, number, old)?,
-            None => Origin::UNKNOWN,
+        let made = match change.made {
+            Some((pointer, size)) => {
+                let chunk = TracedChunk {
+                    number: change.number,
+                    pointer,
+                    size: u32::try_from(size).unwrap_or(u32::MAX),
+                    is_live: true,
+                };
+                self.note_made(chunk, old)?
+            }
+            None => PointerOrigin::UNKNOWN,
         };
         if let Some((index, _)) = old {
             if made.chunk() != Some(index) {
@@ -58,20 +73,13 @@ impl Shadow {
     /// Where the old one stays where it is, the pointers into it are those of the new one.
     fn note_made(
         &mut self,
-        made: &Allocation,
-        number: u64,
+        chunk: TracedChunk,
         old: Option<(usize, TracedChunk)>,
-    ) -> Result<Origin, Full> {
-        let chunk = TracedChunk {
-            number,
-            pointer: made.pointer,
-            size: u32::try_from(made.size).unwrap_or(u32::MAX),
-            is_live: true,
-        };
+    ) -> Result<PointerOrigin, Full> {
         match old {
             Some((index, old)) if old.start() == chunk.start() => {
                 self.chunks.replace(index, chunk);
-                let origin = Origin::of_chunk(index);
+                let origin = PointerOrigin::of_chunk(index);
                 self.memory.set_owner(old.end(), chunk.end(), origin)?;
                 Ok(origin)
             }
@@ -84,16 +92,17 @@ impl Shadow {
         &mut self,
         chunk: TracedChunk,
         old: Option<(usize, TracedChunk)>,
-    ) -> Result<Origin, Full> {
+    ) -> Result<PointerOrigin, Full> {
         if self.chunks.is_full() && !self.give_up_chunks()? {
             return Err(Full::Chunks);
         }
-        let origin = Origin::of_chunk(self.chunks.enter(chunk)?);
+        let origin = PointerOrigin::of_chunk(self.chunks.enter(chunk)?);
         self.memory.set_owner(chunk.start(), chunk.end(), origin)?;
         self.memory.clear(chunk.start(), u64::from(chunk.size));
         if let Some((_, old)) = old {
             let bytes = old.size.min(chunk.size);
-            self.memory.copy(old.start(), chunk.start(), u64::from(bytes))?;
+            self.memory
+                .copy(old.start(), chunk.start(), u64::from(bytes))?;
         }
         Ok(origin)
     }

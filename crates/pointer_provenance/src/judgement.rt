@@ -1,15 +1,13 @@
 //! Whether an access or a free is one that its pointer's own chunk allows.
 
+use crate::access::{AccessedBytes, RegisterAccess};
 use crate::chunk_table::TracedChunk;
-use crate::origin::{Origin, OriginKind};
+use crate::origin::{OriginKind, PointerOrigin};
 use crate::pointer_sums::Sign;
 use crate::shadow::{Shadow, is_in_heap};
 use a64_bits::plain;
 use a64_instr::Instr;
-use a64_registers::Regs;
 use address_map::PAGE_SIZE;
-use heap_bounds::{MemoryAccess, access_of};
-use mte_svc::{FREE, READ, REALLOC, WRITE};
 use std::alloc::AllocError;
 
 /// What a pointer was used for that its chunk does not allow.
@@ -29,17 +27,6 @@ pub enum MisuseKind {
     InnerFree,
 }
 
-/// The bytes that are accessed.
-#[derive(Clone, Copy, Debug, PartialEq, Eq)]
-pub struct AccessedBytes {
-    /// The address of the first, with the pointer's tag.
-    pub addr: u64,
-    /// How many there are; 0 for a free.
-    pub bytes: u64,
-    /// Whether they are written.
-    pub is_write: bool,
-}
-
 /// A use of a pointer that its chunk does not allow.
 #[derive(Clone, Copy, Debug, PartialEq, Eq)]
 pub struct Misuse {
@@ -57,47 +44,27 @@ pub struct Misuse {
 }
 
 impl Shadow {
-    /// What is wrong with what an instruction loads or stores, by the registers before it. Where it
-    /// did not complete, only what is known of its pointer counts.
+    /// What is wrong with what an instruction loads or stores, of which nothing is noted yet. Where
+    /// it did not complete, only what is known of its pointer counts.
     pub fn judge(
         &mut self,
         instr: &Instr,
-        before: &Regs,
+        access: &RegisterAccess,
         is_completed: bool,
     ) -> Result<Option<Misuse>, AllocError> {
-        let Some(access) = access_of(instr, before) else {
-            return Ok(None);
-        };
         let origin = self.address_origin(instr)?;
-        if origin == Origin::STACK || !(is_completed || origin.chunk().is_some()) {
+        if origin == PointerOrigin::STACK || !(is_completed || origin.chunk().is_some()) {
             return Ok(None);
         }
-        Ok(self.judge_registers(origin, &access))
-    }
-
-    /// What is wrong with the bytes of one register or two.
-    fn judge_registers(&self, origin: Origin, access: &MemoryAccess) -> Option<Misuse> {
-        let MemoryAccess {
-            addr,
-            bytes,
-            is_write,
-            ..
-        } = *access;
-        let first = AccessedBytes {
-            addr,
-            bytes,
-            is_write,
-        };
-        let found = self.judge_bytes(origin, first);
+        let found = self.judge_bytes(origin, access.bytes);
         if found.is_some() || access.second.is_none() {
-            return found;
+            return Ok(found);
         }
-        let addr = addr.wrapping_add(bytes);
-        self.judge_bytes(origin, AccessedBytes { addr, ..first })
+        Ok(self.judge_bytes(origin, access.bytes.next()))
     }
 
     /// Where the pointer points by which an instruction loads or stores.
-    fn address_origin(&mut self, instr: &Instr) -> Result<Origin, AllocError> {
+    fn address_origin(&mut self, instr: &Instr) -> Result<PointerOrigin, AllocError> {
         match *instr {
             Instr::LdStReg {
                 size,
@@ -108,7 +75,11 @@ impl Shadow {
                 ..
             } => {
                 let is_plain = option % 4 == 3 && (s == 0 || size == 0);
-                let index = if is_plain { self.pointer(rm) } else { Origin::UNKNOWN };
+                let index = if is_plain {
+                    self.pointer(rm)
+                } else {
+                    PointerOrigin::UNKNOWN
+                };
                 self.combined(self.base(rn), index, Sign::Plus)
             }
             Instr::LdStImm { rn, .. }
@@ -119,35 +90,22 @@ impl Shadow {
             | Instr::PairOff { rn, .. }
             | Instr::PairPre { rn, .. }
             | Instr::StGP { rn, .. } => Ok(self.base(rn)),
-            _ => Ok(Origin::UNKNOWN),
+            _ => Ok(PointerOrigin::UNKNOWN),
         }
     }
 
-    /// What is wrong with the bytes of a service: WRITE reads them and READ writes them. One that
-    /// completed took as many as its result says; of one that failed only what is known of its
-    /// pointer counts.
-    pub fn judge_service(&self, before: &Regs, after: &Regs, is_completed: bool) -> Option<Misuse> {
-        let service = before.x[8];
-        let bytes = if is_completed { after.x[0] } else { before.x[1] };
+    /// What is wrong with the bytes that a service accesses by the pointer in x0. Where it did not
+    /// complete, only what is known of the pointer counts.
+    pub fn judge_service(&self, bytes: AccessedBytes, is_completed: bool) -> Option<Misuse> {
         let origin = self.pointer(0);
-        let is_judged = is_completed || origin.chunk().is_some();
-        if service != READ && service != WRITE || bytes == 0 || !is_judged {
+        if bytes.count == 0 || !(is_completed || origin.chunk().is_some()) {
             return None;
         }
-        let access = AccessedBytes {
-            addr: before.x[0],
-            bytes,
-            is_write: service == READ,
-        };
-        self.judge_bytes(origin, access)
+        self.judge_bytes(origin, bytes)
     }
 
-    /// What is wrong with the pointer that a service is to free or to give another size.
-    pub fn judge_free(&self, before: &Regs) -> Option<Misuse> {
-        let (service, pointer) = (before.x[8], before.x[0]);
-        if service != FREE && service != REALLOC || pointer == 0 {
-            return None;
-        }
+    /// What is wrong with the pointer in x0, which a heap call is to free or to give another size.
+    pub fn judge_free(&self, pointer: u64) -> Option<Misuse> {
         let chunk = *self.chunk(self.pointer(0))?;
         let kind = if !chunk.is_live {
             MisuseKind::DoubleFree
@@ -161,7 +119,7 @@ impl Shadow {
             addr: plain(pointer),
             access: AccessedBytes {
                 addr: pointer,
-                bytes: 0,
+                count: 0,
                 is_write: true,
             },
             chunk: Some(chunk),
@@ -170,7 +128,7 @@ impl Shadow {
     }
 
     /// What is wrong with an access by a pointer.
-    fn judge_bytes(&self, origin: Origin, access: AccessedBytes) -> Option<Misuse> {
+    fn judge_bytes(&self, origin: PointerOrigin, access: AccessedBytes) -> Option<Misuse> {
         match origin.kind() {
             OriginKind::Stack => None,
             OriginKind::Chunk(index) => {
@@ -209,7 +167,7 @@ fn judge_in(chunk: TracedChunk, access: AccessedBytes, is_by_address: bool) -> O
     let addr = plain(access.addr);
     let kind = if !chunk.is_live {
         MisuseKind::AfterFree
-    } else if chunk.holds(addr, access.bytes)
+    } else if chunk.holds(addr, access.count)
         || is_part_of_word(&chunk, access)
         || addr < PAGE_SIZE
     {
@@ -232,17 +190,12 @@ fn judge_in(chunk: TracedChunk, access: AccessedBytes, is_by_address: bool) -> O
 /// Whether an access reads an aligned word that begins in a chunk: functions that look at whole
 /// words read past its end, and look at none of those bytes.
 fn is_part_of_word(chunk: &TracedChunk, access: AccessedBytes) -> bool {
-    let AccessedBytes {
-        addr,
-        bytes,
-        is_write,
-    } = access;
-    let addr = plain(addr);
-    let is_aligned = match bytes {
+    let addr = plain(access.addr);
+    let is_aligned = match access.count {
         2 => addr % 2 == 0,
         4 => addr % 4 == 0,
         8 => addr % 8 == 0,
         _ => false,
     };
-    !is_write && is_aligned && chunk.begins_in(addr)
+    !access.is_write && is_aligned && chunk.begins_in(addr)
 }

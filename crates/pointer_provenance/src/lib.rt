@@ -1,7 +1,9 @@
-//! Where the pointers of a tenant come from: beside its registers and its memory this keeps of which
-//! chunk each value is a pointer, judges accesses by it, and finds the chunks that nothing reaches.
+//! Where the pointers of a tenant come from: beside its registers and its memory this keeps of
+//! which chunk each value is a pointer, judges accesses by it, and finds the chunks that nothing
+//! reaches.
 #![tactic(auto)]
 
+mod access;
 mod access_rules;
 mod chunk_table;
 mod heap_calls;
@@ -13,12 +15,13 @@ mod reach;
 mod register_rules;
 mod shadow;
 mod shadow_page;
-
 #[cfg(test)]
 mod tests;
 
+pub use access::{AccessedBytes, RegisterAccess};
 pub use chunk_table::TracedChunk;
-pub use judgement::{AccessedBytes, Misuse, MisuseKind};
-pub use origin::{Origin, OriginKind, Provenance};
+pub use heap_calls::ChunkChange;
+pub use judgement::{Misuse, MisuseKind};
+pub use origin::{OriginKind, PointerOrigin, Provenance};
 pub use reach::{LostChunk, Reach, ReachTable, RootRange};
 pub use shadow::{Full, Shadow, Step};

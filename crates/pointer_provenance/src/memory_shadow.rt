@@ -1,6 +1,6 @@
 //! What is known of the words of a tenant's memory.
 
-use crate::origin::{Origin, Provenance};
+use crate::origin::{PointerOrigin, Provenance};
 use crate::shadow_page::ShadowPage;
 use address_map::{ADDRESS_END, GRANULE_SIZE, PAGE_SIZE};
 use std::alloc::{AllocError, Global};
@@ -129,15 +129,20 @@ impl MemoryShadow {
     }
 
     /// The newest chunk that the granule of a plain address was in.
-    pub fn owner(&self, addr: u64) -> Origin {
+    pub fn owner(&self, addr: u64) -> PointerOrigin {
         match self.page(addr) {
             Some(page) => page.owner(addr),
-            None => Origin::UNKNOWN,
+            None => PointerOrigin::UNKNOWN,
         }
     }
 
     /// Enters the chunk that the granules are in which have bytes of a range.
-    pub fn set_owner(&mut self, start: u64, end: u64, owner: Origin) -> Result<(), AllocError> {
+    pub fn set_owner(
+        &mut self,
+        start: u64,
+        end: u64,
+        owner: PointerOrigin,
+    ) -> Result<(), AllocError> {
         for granule in start / GRANULE_SIZE..end.div_ceil(GRANULE_SIZE) {
             let addr = granule.wrapping_mul(GRANULE_SIZE);
             self.make_page(addr)?;

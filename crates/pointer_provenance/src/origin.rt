@@ -2,7 +2,7 @@
 
 /// Where a value points. It has four bytes, since each word of memory has one.
 #[derive(Clone, Copy, Debug, PartialEq, Eq, PartialOrd, Ord)]
-pub struct Origin {
+pub struct PointerOrigin {
     number: u32,
 }
 
@@ -25,30 +25,30 @@ const FIRST_CHUNK: u32 = 2;
 /// The number of the first sum.
 const FIRST_SUM: u32 = 0x8000_0000;
 
-impl Origin {
+impl PointerOrigin {
     /// None is known.
-    pub const UNKNOWN: Origin = Origin { number: 0 };
+    pub const UNKNOWN: PointerOrigin = PointerOrigin { number: 0 };
 
     /// The stack.
-    pub const STACK: Origin = Origin { number: 1 };
+    pub const STACK: PointerOrigin = PointerOrigin { number: 1 };
 
     /// The chunk at an index, of those that have a number.
-    pub fn of_chunk(index: usize) -> Origin {
+    pub fn of_chunk(index: usize) -> PointerOrigin {
         match u32::try_from(index) {
-            Ok(index) if index < FIRST_SUM - FIRST_CHUNK => Origin {
+            Ok(index) if index < FIRST_SUM - FIRST_CHUNK => PointerOrigin {
                 number: index + FIRST_CHUNK,
             },
-            _ => Origin::UNKNOWN,
+            _ => PointerOrigin::UNKNOWN,
         }
     }
 
     /// The sum at an index, of those that have a number.
-    pub fn of_sum(index: usize) -> Origin {
+    pub fn of_sum(index: usize) -> PointerOrigin {
         match u32::try_from(index) {
-            Ok(index) if index < FIRST_SUM => Origin {
+            Ok(index) if index < FIRST_SUM => PointerOrigin {
                 number: index + FIRST_SUM,
             },
-            _ => Origin::UNKNOWN,
+            _ => PointerOrigin::UNKNOWN,
         }
     }
 
@@ -76,7 +76,7 @@ impl Origin {
     }
 
     /// The same, or that of another where it is not known.
-    pub fn or(self, other: Origin) -> Origin {
+    pub fn or(self, other: PointerOrigin) -> PointerOrigin {
         if self.is_known() { self } else { other }
     }
 }
@@ -84,12 +84,12 @@ impl Origin {
 /// How many bytes a pointer has.
 const POINTER_SIZE: u8 = 8;
 
-/// Of which pointer's bytes a value is made: `count` bytes of it from `first` on, the lowest byte of
-/// the value being the first of them.
+/// Of which pointer's bytes a value is made: `count` bytes of it from `first` on, the lowest byte
+/// of the value being the first of them.
 #[derive(Clone, Copy, Debug, PartialEq, Eq)]
 pub struct Provenance {
     /// Where the pointer points.
-    pub origin: Origin,
+    pub origin: PointerOrigin,
     /// The first of its bytes, 0 to 7.
     pub first: u8,
     /// How many bytes, at most 8.
@@ -99,13 +99,13 @@ pub struct Provenance {
 impl Provenance {
     /// Of none that is known.
     pub const NONE: Provenance = Provenance {
-        origin: Origin::UNKNOWN,
+        origin: PointerOrigin::UNKNOWN,
         first: 0,
         count: 0,
     };
 
     /// All bytes of a pointer.
-    pub fn whole(origin: Origin) -> Provenance {
+    pub fn whole(origin: PointerOrigin) -> Provenance {
         if origin.is_known() {
             Provenance {
                 origin,
@@ -118,11 +118,11 @@ impl Provenance {
     }
 
     /// Where it points, if it is a whole pointer.
-    pub fn pointer(self) -> Origin {
+    pub fn pointer(self) -> PointerOrigin {
         if self.count == POINTER_SIZE {
             self.origin
         } else {
-            Origin::UNKNOWN
+            PointerOrigin::UNKNOWN
         }
     }
 

@@ -1,6 +1,6 @@
 //! Sums and differences of pointers, which are kept as such until one pointer is left.
 
-use crate::origin::{Origin, OriginKind};
+use crate::origin::{OriginKind, PointerOrigin};
 use std::alloc::{AllocError, Global};
 use std::collections::BTreeMap;
 
@@ -49,14 +49,14 @@ impl Sign {
 #[derive(Clone, Copy, Debug, PartialEq, Eq, PartialOrd, Ord)]
 pub struct Term {
     /// Where it points.
-    pub origin: Origin,
+    pub origin: PointerOrigin,
     /// How it enters.
     pub sign: Sign,
 }
 
 /// No pointer.
 const NO_TERM: Term = Term {
-    origin: Origin::UNKNOWN,
+    origin: PointerOrigin::UNKNOWN,
     sign: Sign::Plus,
 };
 
@@ -122,7 +122,7 @@ impl TermList {
     }
 
     /// The one pointer that is left, if it is not subtracted.
-    fn only(&self) -> Option<Origin> {
+    fn only(&self) -> Option<PointerOrigin> {
         let first = self.terms[0];
         if self.count == 1 && first.sign != Sign::Minus {
             Some(first.origin)
@@ -183,32 +183,36 @@ impl PointerSums {
         self.sums.as_slice()
     }
 
-    /// Where a value points that is made of two, the second of which enters by a sign. Unknown where
-    /// a sum would have more than four pointers, and where the stack is one of two.
+    /// Where a value points that is made of two, the second of which enters by a sign. Unknown
+    /// where a sum would have more than four pointers, and where the stack is one of two.
     pub fn combine(
         &mut self,
-        one: Origin,
-        other: Origin,
+        one: PointerOrigin,
+        other: PointerOrigin,
         sign: Sign,
-    ) -> Result<Origin, AllocError> {
+    ) -> Result<PointerOrigin, AllocError> {
         if !other.is_known() {
             return Ok(one);
         }
         if !one.is_known() && sign != Sign::Minus {
             return Ok(other);
         }
-        if one == Origin::STACK || other == Origin::STACK {
-            return Ok(Origin::UNKNOWN);
+        if one == PointerOrigin::STACK || other == PointerOrigin::STACK {
+            return Ok(PointerOrigin::UNKNOWN);
         }
         let mut terms = TermList::new();
-        let own = if sign == Sign::Exclusive { sign } else { Sign::Plus };
+        let own = if sign == Sign::Exclusive {
+            sign
+        } else {
+            Sign::Plus
+        };
         self.add_terms(&mut terms, one, own);
         self.add_terms(&mut terms, other, sign);
         self.origin_of(&terms)
     }
 
     /// Adds the terms of an operand.
-    fn add_terms(&self, terms: &mut TermList, operand: Origin, sign: Sign) {
+    fn add_terms(&self, terms: &mut TermList, operand: PointerOrigin, sign: Sign) {
         match operand.kind() {
             OriginKind::Sum(index) => {
                 if let Some(sum) = self.sums.get(index) {
@@ -222,33 +226,33 @@ impl PointerSums {
     }
 
     /// Where a value points that has these terms.
-    fn origin_of(&mut self, terms: &TermList) -> Result<Origin, AllocError> {
+    fn origin_of(&mut self, terms: &TermList) -> Result<PointerOrigin, AllocError> {
         if let Some(origin) = terms.only() {
             return Ok(origin);
         }
         if terms.count == 0 || terms.count > TERMS {
-            return Ok(Origin::UNKNOWN);
+            return Ok(PointerOrigin::UNKNOWN);
         }
         self.index(terms.sum())
     }
 
     /// The origin of a sum, which is entered where it is new. Unknown where the table is full.
-    fn index(&mut self, sum: PointerSum) -> Result<Origin, AllocError> {
+    fn index(&mut self, sum: PointerSum) -> Result<PointerOrigin, AllocError> {
         if let Some(index) = self.indices.get(&sum) {
-            return Ok(Origin::of_sum(*index));
+            return Ok(PointerOrigin::of_sum(*index));
         }
         let index = self.sums.len();
         if index >= MOST_SUMS {
-            return Ok(Origin::UNKNOWN);
+            return Ok(PointerOrigin::UNKNOWN);
         }
         self.sums.push(sum)?;
         self.indices.insert(sum, index)?;
-        Ok(Origin::of_sum(index))
+        Ok(PointerOrigin::of_sum(index))
     }
 }
 
 /// Adds a term, unless it is of no pointer.
-fn add_known(terms: &mut TermList, origin: Origin, sign: Sign) {
+fn add_known(terms: &mut TermList, origin: PointerOrigin, sign: Sign) {
     if origin.is_known() {
         terms.add(Term { origin, sign });
     }

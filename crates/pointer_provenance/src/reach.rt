@@ -1,6 +1,6 @@
 //! Which chunks a tenant can still reach.
 
-use crate::origin::{Origin, OriginKind};
+use crate::origin::{OriginKind, PointerOrigin};
 use crate::shadow::Shadow;
 use a64_bits::plain;
 use a64_registers::Regs;
@@ -206,7 +206,7 @@ impl ReachTable {
     fn enter(
         &mut self,
         shadow: &Shadow,
-        origin: Origin,
+        origin: PointerOrigin,
         number: u64,
         reach: Reach,
     ) -> Result<(), AllocError> {
@@ -223,12 +223,7 @@ impl ReachTable {
     }
 
     /// Enters what the pointers of a sum point into.
-    fn enter_sum(
-        &mut self,
-        shadow: &Shadow,
-        index: usize,
-        reach: Reach,
-    ) -> Result<(), AllocError> {
+    fn enter_sum(&mut self, shadow: &Shadow, index: usize, reach: Reach) -> Result<(), AllocError> {
         let Some(sum) = shadow.sums.get(index) else {
             return Ok(());
         };

@@ -1,6 +1,6 @@
 //! What instructions that work on registers make of pointers.
 
-use crate::origin::{Origin, Provenance};
+use crate::origin::{PointerOrigin, Provenance};
 use crate::pointer_sums::Sign;
 use crate::shadow::{Shadow, Step};
 use a64_bits::bit_masks;
@@ -40,7 +40,7 @@ impl Shadow {
     }
 
     /// Enters that a register has a pointer, or what is left of it in 32 bits.
-    fn set_pointer(&mut self, step: &Step<'_>, sf: u8, rd: u8, origin: Origin) {
+    fn set_pointer(&mut self, step: &Step<'_>, sf: u8, rd: u8, origin: PointerOrigin) {
         let value = if sf == 1 {
             Provenance::whole(origin)
         } else {
@@ -84,18 +84,18 @@ impl Shadow {
         let origin = if sf == 1 {
             self.combined(one, other, sign)?
         } else {
-            Origin::UNKNOWN
+            PointerOrigin::UNKNOWN
         };
         self.set_pointer(step, sf, rd, origin);
         Ok(())
     }
 
     /// Where the pointer in a register points, where the register enters as it is.
-    fn pointer_where(&self, n: u8, is_plain: bool) -> Origin {
+    fn pointer_where(&self, n: u8, is_plain: bool) -> PointerOrigin {
         if is_plain {
             self.pointer(n)
         } else {
-            Origin::UNKNOWN
+            PointerOrigin::UNKNOWN
         }
     }
 
@@ -153,14 +153,14 @@ impl Shadow {
     fn logical_origin(
         &mut self,
         step: &Step<'_>,
-        one: Origin,
-        other: Origin,
-    ) -> Result<Origin, AllocError> {
+        one: PointerOrigin,
+        other: PointerOrigin,
+    ) -> Result<PointerOrigin, AllocError> {
         let Instr::LogShift { opc, n, rm, rn, .. } = *step.instr else {
-            return Ok(Origin::UNKNOWN);
+            return Ok(PointerOrigin::UNKNOWN);
         };
         if !one.is_known() && !other.is_known() {
-            return Ok(Origin::UNKNOWN);
+            return Ok(PointerOrigin::UNKNOWN);
         }
         match (opc, n) {
             (2, 0) => self.combined(one, other, Sign::Exclusive),
@@ -170,7 +170,7 @@ impl Shadow {
             }
             (0 | 3, _) if !other.is_known() => Ok(kept_by(one, inverted_if(n, value(step, rm)))),
             (0 | 3, 0) if !one.is_known() => Ok(kept_by(other, value(step, rn))),
-            _ => Ok(Origin::UNKNOWN),
+            _ => Ok(PointerOrigin::UNKNOWN),
         }
     }
 
@@ -236,11 +236,11 @@ impl Shadow {
     }
 
     /// The pointer that is multiplied by 1.
-    fn product_with_one(&self, step: &Step<'_>) -> Origin {
+    fn product_with_one(&self, step: &Step<'_>) -> PointerOrigin {
         match *step.instr {
             Instr::MulAdd { o0: 0, rm, rn, .. } if value(step, rm) == 1 => self.pointer(rn),
             Instr::MulAdd { o0: 0, rm, rn, .. } if value(step, rn) == 1 => self.pointer(rm),
-            _ => Origin::UNKNOWN,
+            _ => PointerOrigin::UNKNOWN,
         }
     }
 
@@ -273,11 +273,11 @@ fn inverted_if(n: u8, mask: u64) -> u64 {
 }
 
 /// A pointer of which a mask leaves the address but for its lowest bits.
-fn kept_by(origin: Origin, mask: u64) -> Origin {
+fn kept_by(origin: PointerOrigin, mask: u64) -> PointerOrigin {
     if mask & PAGE_BITS == PAGE_BITS {
         origin
     } else {
-        Origin::UNKNOWN
+        PointerOrigin::UNKNOWN
     }
 }
 

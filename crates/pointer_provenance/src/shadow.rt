@@ -1,8 +1,9 @@
 //! What is known of a tenant's registers and memory beside their values.
 
+use crate::access::RegisterAccess;
 use crate::chunk_table::{ChunkTable, TracedChunk};
 use crate::memory_shadow::MemoryShadow;
-use crate::origin::{Origin, OriginKind, Provenance};
+use crate::origin::{OriginKind, PointerOrigin, Provenance};
 use crate::pointer_sums::{PointerSums, Sign};
 use a64_bits::plain;
 use a64_instr::Instr;
@@ -19,6 +20,8 @@ const REGISTERS: usize = 31;
 pub struct Step<'a> {
     /// The instruction.
     pub instr: &'a Instr,
+    /// What it loaded or stored, if it did.
+    pub access: Option<RegisterAccess>,
     /// The registers before it.
     pub before: &'a Regs,
     /// The registers after it.
@@ -90,15 +93,15 @@ impl Shadow {
     }
 
     /// Where the pointer in a numbered register points; 31 is the zero register.
-    pub(crate) fn pointer(&self, n: u8) -> Origin {
+    pub(crate) fn pointer(&self, n: u8) -> PointerOrigin {
         self.register(n).pointer()
     }
 
     /// Where the pointer in a numbered register points; 31 is SP.
-    pub(crate) fn base(&self, n: u8) -> Origin {
+    pub(crate) fn base(&self, n: u8) -> PointerOrigin {
         match self.registers.get(usize::from(n)) {
             Some(value) => value.pointer(),
-            None => Origin::STACK,
+            None => PointerOrigin::STACK,
         }
     }
 
@@ -116,28 +119,28 @@ impl Shadow {
     /// Where a value points that is made of two.
     pub(crate) fn combined(
         &mut self,
-        one: Origin,
-        other: Origin,
+        one: PointerOrigin,
+        other: PointerOrigin,
         sign: Sign,
-    ) -> Result<Origin, AllocError> {
+    ) -> Result<PointerOrigin, AllocError> {
         self.sums.combine(one, other, sign)
     }
 
     /// The chunk that a number points into, if it is a pointer to a live one with the chunk's tag.
-    pub(crate) fn by_value(&self, number: u64) -> Origin {
+    pub(crate) fn by_value(&self, number: u64) -> PointerOrigin {
         let addr = plain(number);
         if !is_in_heap(addr) || number >= 1 << 60 {
-            return Origin::UNKNOWN;
+            return PointerOrigin::UNKNOWN;
         }
         let owner = self.memory.owner(addr);
         match self.chunk(owner) {
             Some(chunk) if chunk.is_live && tag_of(chunk.pointer) == tag_of(number) => owner,
-            _ => Origin::UNKNOWN,
+            _ => PointerOrigin::UNKNOWN,
         }
     }
 
     /// The chunk of an origin, if it is one.
-    pub fn chunk(&self, origin: Origin) -> Option<&TracedChunk> {
+    pub fn chunk(&self, origin: PointerOrigin) -> Option<&TracedChunk> {
         self.chunks.get(origin.chunk()?)
     }
 
@@ -187,14 +190,14 @@ impl Shadow {
 const STACK_SIZE: u32 = 8_192;
 
 /// Marks chunks.
-fn mark_all(marks: &mut [bool], origins: &[Origin]) {
+fn mark_all(marks: &mut [bool], origins: &[PointerOrigin]) {
     for origin in origins {
         mark(marks, *origin);
     }
 }
 
 /// Marks a chunk.
-fn mark(marks: &mut [bool], origin: Origin) {
+fn mark(marks: &mut [bool], origin: PointerOrigin) {
     if let OriginKind::Chunk(index) = origin.kind() {
         if let Some(place) = marks.get_mut(index) {
             *place = true;

@@ -1,6 +1,6 @@
 //! What is known of the words of one page.
 
-use crate::origin::{Origin, Provenance};
+use crate::origin::{PointerOrigin, Provenance};
 use address_map::PAGE_SIZE;
 use std::alloc::{AllocError, Global};
 
@@ -17,25 +17,29 @@ const GRANULES: usize = 256;
 /// bytes are that pointer's, a bit each; for each granule the newest chunk that it was in.
 #[derive(Drop)]
 pub struct ShadowPage {
-    origins: Vec<Origin>,
+    origins: Vec<PointerOrigin>,
     held: Vec<u8>,
-    owners: Vec<Origin>,
+    owners: Vec<PointerOrigin>,
 }
 
 impl ShadowPage {
     /// A page of which nothing is known.
     pub fn new(alloc: Global) -> Result<ShadowPage, AllocError> {
         Ok(ShadowPage {
-            origins: vec![in alloc; Origin::UNKNOWN; WORDS]?,
+            origins: vec![in alloc; PointerOrigin::UNKNOWN; WORDS]?,
             held: vec![in alloc; 0u8; WORDS]?,
-            owners: vec![in alloc; Origin::UNKNOWN; GRANULES]?,
+            owners: vec![in alloc; PointerOrigin::UNKNOWN; GRANULES]?,
         })
     }
 
     /// Of which pointer's bytes those are that lie at an address, at most eight within a word.
     pub fn load(&self, addr: u64, bytes: u8) -> Provenance {
         let word = word_of(addr);
-        let origin = self.origins.get(word).copied().unwrap_or(Origin::UNKNOWN);
+        let origin = self
+            .origins
+            .get(word)
+            .copied()
+            .unwrap_or(PointerOrigin::UNKNOWN);
         if !origin.is_known() {
             return Provenance::NONE;
         }
@@ -56,7 +60,8 @@ impl ShadowPage {
     pub fn store(&mut self, addr: u64, bytes: u8, value: Provenance) {
         let (word, first) = (word_of(addr), byte_in_word(addr));
         let mask = byte_mask(first, bytes);
-        let (Some(origin), Some(held)) = (self.origins.get_mut(word), self.held.get_mut(word)) else {
+        let (Some(origin), Some(held)) = (self.origins.get_mut(word), self.held.get_mut(word))
+        else {
             return;
         };
         if value.origin.is_known() && value.first == first && value.count >= bytes {
@@ -68,31 +73,34 @@ impl ShadowPage {
         } else if origin.is_known() {
             *held &= !mask;
             if *held == 0 {
-                *origin = Origin::UNKNOWN;
+                *origin = PointerOrigin::UNKNOWN;
             }
         }
     }
 
     /// The newest chunk that the granule of an address was in.
-    pub fn owner(&self, addr: u64) -> Origin {
+    pub fn owner(&self, addr: u64) -> PointerOrigin {
         let granule = granule_of(addr);
-        self.owners.get(granule).copied().unwrap_or(Origin::UNKNOWN)
+        self.owners
+            .get(granule)
+            .copied()
+            .unwrap_or(PointerOrigin::UNKNOWN)
     }
 
     /// Enters the chunk that the granule of an address is in.
-    pub fn set_owner(&mut self, addr: u64, owner: Origin) {
+    pub fn set_owner(&mut self, addr: u64, owner: PointerOrigin) {
         if let Some(place) = self.owners.get_mut(granule_of(addr)) {
             *place = owner;
         }
     }
 
     /// The origins of its words.
-    pub fn origins(&self) -> &[Origin] {
+    pub fn origins(&self) -> &[PointerOrigin] {
         self.origins.as_slice()
     }
 
     /// The owners of its granules.
-    pub fn owners(&self) -> &[Origin] {
+    pub fn owners(&self) -> &[PointerOrigin] {
         self.owners.as_slice()
     }
 }

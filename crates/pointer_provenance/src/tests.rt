@@ -1,17 +1,20 @@
 //! Short courses of instructions, and what is known after each.
 
+use crate::access::{AccessedBytes, RegisterAccess};
+use crate::heap_calls::ChunkChange;
 use crate::judgement::MisuseKind;
-use crate::origin::{Origin, Provenance};
+use crate::origin::{PointerOrigin, Provenance};
 use crate::shadow::{Full, Shadow, Step};
+use a64_bits::plain;
 use a64_instr::Instr;
 use a64_registers::Regs;
-use mte_svc::{AnsweredCall, FREE};
-use scudo_heap::HeapCall;
+use a64_registers::operands::byte_count;
 use std::alloc::Global;
 use std::test::Fail;
 
 /// Two chunks of 24 bytes, with their tags.
 const FIRST: u64 = 0x0100_0000_1200_0010;
+
 const SECOND: u64 = 0x0600_0000_1200_0100;
 
 /// A shadow and the registers beside it.
@@ -31,47 +34,59 @@ impl Course {
             calls: 0,
         };
         course.regs.x = [FIRST; 31];
-        course.call(HeapCall::Malloc { size: 24 }, SECOND)?;
+        course.make(SECOND, 24)?;
         course.regs.x[1] = SECOND;
         course.run(moved(1, 0))?;
-        course.call(HeapCall::Malloc { size: 24 }, FIRST)?;
+        course.make(FIRST, 24)?;
         Ok(course)
     }
 
-    /// A heap call with an answer.
-    fn call(&mut self, call: HeapCall, answer: u64) -> Result<(), Full> {
+    /// A heap call that makes a chunk.
+    fn make(&mut self, pointer: u64, size: u64) -> Result<(), Full> {
+        self.call(Some((pointer, size)), None)
+    }
+
+    /// A heap call that makes a chunk, frees one, or both.
+    fn call(&mut self, made: Option<(u64, u64)>, freed: Option<u64>) -> Result<(), Full> {
         self.calls = self.calls.saturating_add(1);
-        self.regs.x[0] = answer;
-        self.shadow.note_call(&AnsweredCall { call, answer }, self.calls, &self.regs)
+        self.regs.x[0] = made.map_or(0, |made| made.0);
+        let change = ChunkChange {
+            number: self.calls,
+            made,
+            freed: freed.map(plain),
+        };
+        self.shadow.note_call(&change, &self.regs)
     }
 
     /// An instruction that leaves the registers as they are.
     fn run(&mut self, instr: Instr) -> Result<(), Full> {
         self.shadow.note(&Step {
             instr: &instr,
+            access: access_of(&instr, &self.regs),
             before: &self.regs,
             after: &self.regs,
         })
     }
 
-    /// What is wrong with a load of a byte at x0, which is set.
+    /// What is wrong with a load at x0, which is set.
     fn load_at(&mut self, addr: u64, size: u8) -> Result<Option<MisuseKind>, Fail> {
         self.regs.x[0] = addr;
-        let load = loaded(2, 0, size);
-        let found = self.shadow.judge(&load, &self.regs, true)?;
+        let load = transfer(1, 2, 0, size, 0);
+        let Some(access) = access_of(&load, &self.regs) else {
+            return Ok(None);
+        };
+        let found = self.shadow.judge(&load, &access, true)?;
         Ok(found.map(|misuse| misuse.kind))
     }
 
     /// What is wrong with a free of x0.
     fn free(&mut self, pointer: u64) -> Option<MisuseKind> {
-        self.regs.x[8] = FREE;
-        self.regs.x[0] = pointer;
-        let found = self.shadow.judge_free(&self.regs);
+        let found = self.shadow.judge_free(pointer);
         found.map(|misuse| misuse.kind)
     }
 
     /// Where the pointer in a register points.
-    fn origin(&self, n: u8) -> Origin {
+    fn origin(&self, n: u8) -> PointerOrigin {
         self.shadow.register(n).pointer()
     }
 }
@@ -109,26 +124,40 @@ fn sum(op: u8, rd: u8, rn: u8, rm: u8) -> Instr {
     }
 }
 
-/// A load of `2^size` bytes.
-fn loaded(rt: u8, rn: u8, size: u8) -> Instr {
+/// A load (1) or a store (0) of `2^size` bytes at an offset that counts them.
+fn transfer(opc: u8, rt: u8, rn: u8, size: u8, imm12: u16) -> Instr {
     Instr::LdStImm {
         size,
-        opc: 1,
-        imm12: 0,
+        opc,
+        imm12,
         rn,
         rt,
     }
 }
 
-/// A store of `2^size` bytes at an offset that counts them.
-fn stored(rt: u8, rn: u8, size: u8, imm12: u16) -> Instr {
-    Instr::LdStImm {
+/// What such an instruction accesses.
+fn access_of(instr: &Instr, regs: &Regs) -> Option<RegisterAccess> {
+    let Instr::LdStImm {
         size,
-        opc: 0,
+        opc,
         imm12,
         rn,
         rt,
-    }
+    } = *instr
+    else {
+        return None;
+    };
+    let count = byte_count(size);
+    let base = regs.x.get(usize::from(rn)).copied().unwrap_or(regs.sp);
+    Some(RegisterAccess {
+        bytes: AccessedBytes {
+            addr: base.wrapping_add(u64::from(imm12).wrapping_mul(count)),
+            count,
+            is_write: opc == 0,
+        },
+        first: rt,
+        second: None,
+    })
 }
 
 /// LSR of 64 bits by eight.
@@ -173,22 +202,28 @@ fn bytes_make_a_pointer(rt: HostRuntime) -> Result<(), Fail> {
     course.regs.x[3] = 0x2000;
     course.run(moved(4, 0))?;
     for byte in 0..8u16 {
-        course.run(stored(4, 3, 0, byte))?;
+        course.run(transfer(0, 4, 3, 0, byte))?;
         course.run(shifted(4, 4))?;
     }
     course.regs.x[5] = FIRST;
-    course.run(loaded(5, 3, 3))?;
+    course.run(transfer(1, 5, 3, 3, 0))?;
     assert!(rt; course.origin(5) == first);
-    course.run(stored(31, 3, 0, 2))?;
+    course.run(transfer(0, 31, 3, 0, 2))?;
     course.regs.x[5] = 0;
-    course.run(loaded(5, 3, 3))?;
+    course.run(transfer(1, 5, 3, 3, 0))?;
     assert!(rt; course.shadow.register(5) == Provenance::NONE);
     course.regs.x[5] = FIRST + 8;
-    course.run(loaded(5, 3, 3))?;
-    assert!(rt; course.origin(5) == first, "a whole word is a pointer by its value");
+    course.run(transfer(1, 5, 3, 3, 0))?;
+    assert!(rt;
+        course.origin(5) == first,
+        "a whole word is a pointer by its value"
+    );
     course.regs.x[5] = SECOND ^ 0x0300_0000_0000_0000;
-    course.run(loaded(5, 3, 3))?;
-    assert!(rt; !course.origin(5).is_known(), "but with another tag it is none");
+    course.run(transfer(1, 5, 3, 3, 0))?;
+    assert!(rt;
+        !course.origin(5).is_known(),
+        "but with another tag it is none"
+    );
     Ok(())
 }
 
@@ -206,8 +241,11 @@ fn accesses_are_judged(rt: HostRuntime) -> Result<(), Fail> {
     for (addr, size, wanted) in table {
         assert!(rt; course.load_at(addr, size)? == wanted, "at {addr:x}");
     }
-    course.call(HeapCall::Malloc { size: 21 }, FIRST + 0x1000)?;
-    assert!(rt; course.load_at(FIRST + 0x1010, 3)?.is_none(), "an aligned word begins inside");
+    course.make(FIRST + 0x1000, 21)?;
+    assert!(rt;
+        course.load_at(FIRST + 0x1010, 3)?.is_none(),
+        "an aligned word begins inside"
+    );
     Ok(())
 }
 
@@ -217,8 +255,8 @@ fn frees_are_judged(rt: HostRuntime) -> Result<(), Fail> {
     assert!(rt; course.free(FIRST).is_none());
     assert!(rt; course.free(FIRST + 4) == Some(MisuseKind::InnerFree));
     course.run(moved(2, 0))?;
-    course.call(HeapCall::Free { pointer: FIRST }, 0)?;
-    course.call(HeapCall::Malloc { size: 24 }, FIRST)?;
+    course.call(None, Some(FIRST))?;
+    course.make(FIRST, 24)?;
     assert!(rt; course.free(FIRST).is_none(), "the new chunk of the block");
     course.run(moved(0, 2))?;
     assert!(rt; course.free(FIRST) == Some(MisuseKind::DoubleFree));
@@ -230,29 +268,18 @@ fn frees_are_judged(rt: HostRuntime) -> Result<(), Fail> {
 fn a_resized_chunk_keeps_its_pointers(rt: HostRuntime) -> Result<(), Fail> {
     let mut course = Course::new(rt.alloc())?;
     let second = course.origin(1);
-    course.run(stored(1, 0, 3, 1))?;
+    course.run(transfer(0, 1, 0, 3, 1))?;
     course.run(moved(2, 0))?;
-    let call = HeapCall::Realloc {
-        pointer: FIRST,
-        size: 28,
-    };
-    course.call(call, FIRST)?;
-    assert!(rt; course.origin(0) == course.origin(2), "it stayed where it is");
+    course.call(Some((FIRST, 28)), Some(FIRST))?;
+    assert!(rt;
+        course.origin(0) == course.origin(2),
+        "it stayed where it is"
+    );
     let moved_to = FIRST + 0x1000;
-    let call = HeapCall::Realloc {
-        pointer: FIRST,
-        size: 2000,
-    };
-    course.call(call, moved_to)?;
+    course.call(Some((moved_to, 2000)), Some(FIRST))?;
     assert!(rt; course.origin(0) != course.origin(2));
     course.regs.x[3] = SECOND;
-    course.run(Instr::LdStImm {
-        size: 3,
-        opc: 1,
-        imm12: 1,
-        rn: 0,
-        rt: 3,
-    })?;
+    course.run(transfer(1, 3, 0, 3, 1))?;
     assert!(rt; course.origin(3) == second);
     course.run(moved(0, 2))?;
     assert!(rt; course.load_at(FIRST, 0)? == Some(MisuseKind::AfterFree));
@@ -264,8 +291,8 @@ fn chunks_are_given_up(rt: HostRuntime) -> Result<(), Fail> {
     let mut course = Course::new(rt.alloc())?;
     course.run(moved(2, 0))?;
     for _ in 0..200_000u32 {
-        course.call(HeapCall::Free { pointer: FIRST }, 0)?;
-        course.call(HeapCall::Malloc { size: 24 }, FIRST)?;
+        course.call(None, Some(FIRST))?;
+        course.make(FIRST, 24)?;
     }
     assert!(rt; course.shadow.chunks.len() <= 65_536);
     course.run(moved(0, 2))?;

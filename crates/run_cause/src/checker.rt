@@ -6,12 +6,13 @@ use crate::exact::{Finding, ForbiddenAccess, Span};
 use crate::violation::Violation;
 use a64_decode::decode;
 use a64_registers::Regs;
+use heap_bounds::{MemoryAccess, access_of, freed_by, made_by};
 use instruction_trace::{Moment, SVC};
 use mte_backtrace::Callers;
-use mte_svc::AnsweredCall;
+use mte_svc::{AnsweredCall, FREE, READ, REALLOC, WRITE};
 use mte_tags::Tagged;
 use mte_tenant::TenantParts;
-use pointer_provenance::{Full, Misuse, Shadow, Step};
+use pointer_provenance::{AccessedBytes, ChunkChange, Full, Misuse, RegisterAccess, Shadow, Step};
 use std::alloc::{AllocError, Global};
 
 /// Watches a tenant up to the first use of a pointer that the pointer's own chunk does not allow.
@@ -94,16 +95,33 @@ impl Checker {
         let Some(instr) = decode(word) else {
             return Ok(None);
         };
-        let is_completed = parts.is_running();
-        let found = self.shadow.judge(&instr, &moment.regs, is_completed)?;
-        if found.is_none() && is_completed {
-            self.shadow.note(&Step {
+        self.judge_instruction(
+            &Step {
                 instr: &instr,
+                access: access_of(&instr, &moment.regs).map(|access| of_registers(&access)),
                 before: &moment.regs,
                 after: &parts.regs,
-            })?;
+            },
+            parts.is_running(),
+        )
+    }
+
+    /// The same of an instruction other than SVC.
+    fn judge_instruction(
+        &mut self,
+        step: &Step<'_>,
+        is_completed: bool,
+    ) -> Result<Option<Misuse>, Full> {
+        if let Some(access) = &step.access {
+            let found = self.shadow.judge(step.instr, access, is_completed)?;
+            if found.is_some() {
+                return Ok(found);
+            }
         }
-        Ok(found)
+        if is_completed {
+            self.shadow.note(step)?;
+        }
+        Ok(None)
     }
 
     /// The same of a service.
@@ -114,17 +132,68 @@ impl Checker {
         call: Option<&AnsweredCall>,
     ) -> Result<Option<Misuse>, Full> {
         let (after, is_completed) = (&parts.regs, parts.is_running());
-        let found = self.shadow
-            .judge_free(before)
-            .or(self.shadow.judge_service(before, after, is_completed));
+        let bytes = bytes_of_service(before, after, is_completed);
+        let found = match bytes {
+            Some(bytes) => self.shadow.judge_service(bytes, is_completed),
+            None if is_free(before) => self.shadow.judge_free(before.x[0]),
+            None => None,
+        };
         if found.is_some() || !is_completed {
             return Ok(found);
         }
         match call {
-            Some(call) => self.shadow.note_call(call, parts.history.calls.count(), after)?,
-            None => self.shadow.note_service(before, after),
+            Some(call) => {
+                let change = change_by(call, parts.history.calls.count());
+                self.shadow.note_call(&change, after)?;
+            }
+            None => self.shadow.note_service(bytes, after),
         }
         Ok(None)
+    }
+}
+
+/// What an instruction accesses, as it is judged.
+fn of_registers(access: &MemoryAccess) -> RegisterAccess {
+    RegisterAccess {
+        bytes: AccessedBytes {
+            addr: access.addr,
+            count: access.bytes,
+            is_write: access.is_write,
+        },
+        first: access.first,
+        second: access.second,
+    }
+}
+
+/// The bytes that a service reads or writes for the tenant: as many as its result says, or as were
+/// asked for where it did not complete.
+fn bytes_of_service(before: &Regs, after: &Regs, is_completed: bool) -> Option<AccessedBytes> {
+    let service = before.x[8];
+    if service != READ && service != WRITE {
+        return None;
+    }
+    Some(AccessedBytes {
+        addr: before.x[0],
+        count: if is_completed {
+            after.x[0]
+        } else {
+            before.x[1]
+        },
+        is_write: service == READ,
+    })
+}
+
+/// Whether a service is to free the pointer in x0, or to give its chunk another size.
+fn is_free(before: &Regs) -> bool {
+    matches!(before.x[8], FREE | REALLOC) && before.x[0] != 0
+}
+
+/// What a heap call with a number did to chunks.
+fn change_by(call: &AnsweredCall, number: u64) -> ChunkChange {
+    ChunkChange {
+        number,
+        made: made_by(call).map(|made| (made.pointer, made.size)),
+        freed: freed_by(call),
     }
 }
 
@@ -136,7 +205,7 @@ fn forbidden(misuse: &Misuse) -> ForbiddenAccess {
         addr: misuse.addr,
         span: Span {
             addr: access.addr,
-            bytes: access.bytes,
+            bytes: access.count,
             is_write: access.is_write,
         },
     }

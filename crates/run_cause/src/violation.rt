@@ -63,7 +63,8 @@ fn misuse_words(misuse: &Misuse) -> &'static str {
         (MisuseKind::Overflow, false) => "is past the end of the pointer's chunk",
         (MisuseKind::Underflow, false) => "is in front of the pointer's chunk",
         (MisuseKind::AfterFree, true) => {
-            "is of a chunk that was freed (by the address: where the pointer came from is not known)"
+            "is of a chunk that was freed (by the address: where the pointer came from is not \
+             known)"
         }
         (MisuseKind::Overflow | MisuseKind::Underflow, true) => {
             "is past the size of the chunk there (by the address: where the pointer came from is \
