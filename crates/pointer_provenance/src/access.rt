@@ -20,6 +20,8 @@ pub struct AccessedBytes {
     pub count: u64,
     /// Whether they are written.
     pub is_write: bool,
+    /// Whether they are those of a register, of which some may be read for nothing.
+    pub is_register: bool,
 }
 
 impl AccessedBytes {

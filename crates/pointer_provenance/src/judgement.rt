@@ -121,6 +121,7 @@ impl Shadow {
                 addr: pointer,
                 count: 0,
                 is_write: true,
+                is_register: false,
             },
             chunk: Some(chunk),
             is_by_address: false,
@@ -187,7 +188,7 @@ fn judge_in(chunk: TracedChunk, access: AccessedBytes, is_by_address: bool) -> O
     })
 }
 
-/// Whether an access reads an aligned word that begins in a chunk: functions that look at whole
+/// Whether an instruction reads an aligned word that begins in a chunk: functions that look at whole
 /// words read past its end, and look at none of those bytes.
 fn is_part_of_word(chunk: &TracedChunk, access: AccessedBytes) -> bool {
     let addr = plain(access.addr);
@@ -197,5 +198,5 @@ fn is_part_of_word(chunk: &TracedChunk, access: AccessedBytes) -> bool {
         8 => addr % 8 == 0,
         _ => false,
     };
-    !access.is_write && is_aligned && chunk.begins_in(addr)
+    access.is_register && !access.is_write && is_aligned && chunk.begins_in(addr)
 }

@@ -154,6 +154,7 @@ fn access_of(instr: &Instr, regs: &Regs) -> Option<RegisterAccess> {
             addr: base.wrapping_add(u64::from(imm12).wrapping_mul(count)),
             count,
             is_write: opc == 0,
+            is_register: true,
         },
         first: rt,
         second: None,

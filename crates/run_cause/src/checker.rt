@@ -159,6 +159,7 @@ fn of_registers(access: &MemoryAccess) -> RegisterAccess {
             addr: access.addr,
             count: access.bytes,
             is_write: access.is_write,
+            is_register: true,
         },
         first: access.first,
         second: access.second,
@@ -180,6 +181,7 @@ fn bytes_of_service(before: &Regs, after: &Regs, is_completed: bool) -> Option<A
             before.x[1]
         },
         is_write: service == READ,
+        is_register: false,
     })
 }
 
