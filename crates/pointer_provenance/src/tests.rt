@@ -30,10 +30,12 @@ impl Course {
     fn new(alloc: Global) -> Result<Course, Full> {
         let mut course = Course {
             shadow: Shadow::new(alloc)?,
-            regs: Regs::new(0x1000, 0x3fff_ff00),
+            regs: Regs {
+                x: [FIRST; 31],
+                ..Regs::new(0x1000, 0x3fff_ff00)
+            },
             calls: 0,
         };
-        course.regs.x = [FIRST; 31];
         course.make(SECOND, 24)?;
         course.regs.x[1] = SECOND;
         course.run(moved(1, 0))?;
@@ -48,12 +50,16 @@ impl Course {
 
     /// A heap call that makes a chunk, frees one, or both.
     fn call(&mut self, made: Option<(u64, u64)>, freed: Option<u64>) -> Result<(), Full> {
+        let freed = match freed {
+            Some(pointer) => Some(plain(pointer)),
+            None => None,
+        };
         self.calls = self.calls.saturating_add(1);
         self.regs.x[0] = made.map_or(0, |made| made.0);
         let change = ChunkChange {
             number: self.calls,
             made,
-            freed: freed.map(plain),
+            freed,
         };
         self.shadow.note_call(&change, &self.regs)
     }
