@@ -188,8 +188,8 @@ fn judge_in(chunk: TracedChunk, access: AccessedBytes, is_by_address: bool) -> O
     })
 }
 
-/// Whether an instruction reads an aligned word that begins in a chunk: functions that look at whole
-/// words read past its end, and look at none of those bytes.
+/// Whether an instruction reads an aligned word that begins in a chunk: functions that look at
+/// whole words read past its end, and look at none of those bytes.
 fn is_part_of_word(chunk: &TracedChunk, access: AccessedBytes) -> bool {
     let addr = plain(access.addr);
     let is_aligned = match access.count {
