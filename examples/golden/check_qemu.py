@@ -19,7 +19,7 @@ import tempfile
 from collections.abc import Iterator
 from dataclasses import dataclass
 
-from golden_steps import State, Step, Tally, compare_file, differences, is_over_two_pages
+from golden_steps import State, Step, Tally, are_near, compare_file, differences
 
 HERE = pathlib.Path(__file__).resolve().parent
 BASE = "0x5512340000"
@@ -136,7 +136,7 @@ def known(step: Step, end: str, told: list[str]) -> str:
         return "Q1 the stack pointer's alignment is not checked"
     if end == wanted(step) and end.startswith("fault") and names == {"granule"}:
         return "Q2 a store that faults has stored its first bytes"
-    if is_over_two_pages(end, wanted(step)):
+    if end != wanted(step) and are_near(end, wanted(step)):
         return "Q3 another byte of an access over two pages faults first"
     if step.row == "Hint" and word >> 5 & 127 in POINTER_AUTHENTICATION and names <= {"x17", "x30"}:
         return "Q4 hints of pointer authentication, which this core has"

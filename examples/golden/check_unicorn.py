@@ -15,8 +15,7 @@ import sys
 from collections.abc import Iterator
 
 from golden_steps import (
-    CODE, MAP, TAG_ROWS, State, Step, Tally, compare_file, differences,
-    end_text, is_over_two_pages,
+    CODE, MAP, TAG_ROWS, State, Step, Tally, are_near, compare_file, differences, end_text,
 )
 
 ARM64, ARM, HOOK_INTR, HOOK_INVALID = 2, 0, 1, 1008
@@ -171,7 +170,7 @@ def known(step: Step, end: str, told: list[str]) -> str:
         return "U3 the PC's alignment is not checked"
     if step.row == "Refused" and end != "illegal":
         return "U4 words outside the profile that Unicorn executes"
-    if is_over_two_pages(end, want) or (kind and end == want and names == {"granule"}):
+    if names <= {"ends", "granule"} and are_near(end, want):
         return "U5 a store that faults has stored its first bytes, or another byte faults first"
     return ""
 

@@ -137,12 +137,12 @@ def end_text(end: dict[str, Any]) -> str:
     return str(end["is"])
 
 
-def is_over_two_pages(end: str, other: str) -> bool:
-    """Whether two ends are faults at addresses of one access that lie in different pages."""
+def are_near(end: str, other: str) -> bool:
+    """Whether two ends are faults at addresses that one access may have."""
     if not (end.startswith("fault") and other.startswith("fault")):
         return False
     one, two = (int(it.split()[-1], 16) for it in (end, other))
-    return abs(one - two) < 32 and one >> 12 != two >> 12
+    return abs(one - two) < 32
 
 
 @dataclass
