@@ -1,10 +1,11 @@
-"""Golden steps: what a file has, that Unicorn and QEMU agree with it but for what is known, and that
-each of them finds a step that was altered."""
+"""Golden steps: what a file has, that Unicorn and QEMU agree with it but for what is known, and
+that each of them finds a step that was altered."""
 
 import collections
 import ctypes
 import json
 import pathlib
+import re
 import sys
 from collections.abc import Callable, Iterator
 from typing import Any
@@ -13,6 +14,7 @@ import pytest
 
 from tests.support.library import shared_object
 from tests.support.once import make_once
+from tests.support.pages import parts_of, read_page
 from tests.support.places import EXAMPLES, ROOT
 from tests.support.running import Ran, run, succeed
 from tests.support.tools import give_up, need
@@ -58,8 +60,8 @@ def check(consumer: str, path: pathlib.Path) -> Ran:
 
 
 def test_a_file_has_each_row_as_often(shared: pathlib.Path) -> None:
-    """Twenty steps of each row, refused words and faulting fetches; all kinds of faults, both modes;
-    the seed of IRG's generator in each step, and another one behind each draw."""
+    """Twenty steps of each row, refused words and faulting fetches; all kinds of faults, both
+    modes; a flag of the asynchronous mode that is set."""
     steps = steps_of(golden(shared))
     counts = collections.Counter(it["row"] for it in steps)
     names = {line.split()[0] for line in (ROOT / "isa/a64.rows").read_text().splitlines()
@@ -69,8 +71,6 @@ def test_a_file_has_each_row_as_often(shared: pathlib.Path) -> None:
     assert {it["end"]["kind"] for it in steps if it["end"]["is"] == "fault"} == KINDS
     assert {it["mode"] for it in steps} == {"sync", "async"}
     assert all(it["end"]["is"] == "illegal" for it in steps if it["row"] == "Refused")
-    drawn = [it for it in steps if it["row"] == "Irg"]
-    assert sum("rgsr" in it["after"] for it in drawn) >= EACH // 2
     assert any(it["after"].get("pending") for it in steps)
 
 
@@ -88,6 +88,43 @@ def test_emulators_agree(shared: pathlib.Path, consumer: str) -> None:
     assert "different 0," in ran.output
 
 
+def next_bit(seed: int) -> int:
+    """The bit that the generator of IRG puts on top of its state (Arm ARM, NextRandomTagBit)."""
+    return (seed >> 5 ^ seed >> 3 ^ seed >> 2 ^ seed) & 1
+
+
+def drawn_tag(rgsr: list[int], exclude: int) -> tuple[int, list[int]]:
+    """A tag that IRG draws, and the generator's state behind it (Arm ARM, ChooseNonExcludedTag)."""
+    tag, seed, offset = rgsr[0], rgsr[1], 0
+    for place in range(4):
+        bit = next_bit(seed)
+        seed, offset = bit << 15 | seed >> 1, offset | bit << place
+    if exclude == 0xFFFF:
+        return 0, [0, seed]
+    for _ in range(max(offset, 1)):
+        tag = (tag + (offset > 0)) % 16
+        while exclude >> tag & 1:
+            tag = (tag + 1) % 16
+    return tag, [tag, seed]
+
+
+def test_draws_of_irg(shared: pathlib.Path) -> None:
+    """IRG's tag and state are those of the manual's functions, written out here: no program can set
+    the state under an emulator's user mode."""
+    steps = [it for it in steps_of(golden(shared)) if it["row"] == "Irg"]
+    for it in steps:
+        word, before, after = int(it["word"], 16), it["before"], it["after"]
+        number, source, to = word >> 16 & 31, word >> 5 & 31, word & 31
+        mask = 0 if number == 31 else int(before["x"][number], 16) & 0xFFFF
+        address = int(before["sp"] if source == 31 else before["x"][source], 16)
+        tag, rgsr = drawn_tag(before["rgsr"], mask | 1)
+        want = address & ~(15 << 56) | tag << 56
+        behind = after.get("sp", before["sp"]) if to == 31 else after.get("x", {}).get(
+            str(to), before["x"][to])
+        assert (int(behind, 16), after.get("rgsr", before["rgsr"])) == (want, rgsr), it
+    assert len(steps) == EACH
+
+
 def flip(of: dict[str, Any], name: str) -> None:
     """Changes the lowest bit of a number, also of one in hexadecimal digits."""
     number = of[name]
@@ -96,7 +133,7 @@ def flip(of: dict[str, Any], name: str) -> None:
 
 def alter_register(it: dict[str, Any]) -> bool:
     """Another value of a register that an addition writes."""
-    found = it["row"] == "AddSubShift" and "x" in it["after"]
+    found = bool(it["row"] == "AddSubShift" and "x" in it["after"])
     if found:
         flip(it["after"]["x"], next(iter(it["after"]["x"])))
     return found
@@ -104,7 +141,7 @@ def alter_register(it: dict[str, Any]) -> bool:
 
 def alter_flags(it: dict[str, Any]) -> bool:
     """Another V behind a comparison."""
-    found = it["row"] == "CondCmp"
+    found = bool(it["row"] == "CondCmp")
     if found:
         it["after"].setdefault("nzcv", it["before"]["nzcv"])
         flip(it["after"], "nzcv")
@@ -113,7 +150,7 @@ def alter_flags(it: dict[str, Any]) -> bool:
 
 def alter_pc(it: dict[str, Any]) -> bool:
     """Another PC behind a step that goes on."""
-    found = it["row"] == "MoveWide"
+    found = bool(it["row"] == "MoveWide")
     if found:
         it["after"]["pc"] = f"{int(it['after']['pc'], 16) + 4:x}"
     return found
@@ -129,7 +166,7 @@ def alter_memory(it: dict[str, Any]) -> bool:
     """Another byte that a store writes, through a pointer without a tag."""
     granules = it["after"].get("granules", {})
     rows = ("LdStImm", "LdStUnscaled", "LdStPost", "Pair")
-    found = it["row"].startswith(rows) and bool(granules) and base(it) >> 56 == 0
+    found = bool(it["row"].startswith(rows) and granules and base(it) >> 56 == 0)
     if found:
         first = next(iter(granules))
         granules[first][0] = f"{int(granules[first][0], 16) ^ 1:032x}"
@@ -138,7 +175,7 @@ def alter_memory(it: dict[str, Any]) -> bool:
 
 def alter_end(it: dict[str, Any]) -> bool:
     """A fault where there is none."""
-    found = it["row"] == "Brk"
+    found = bool(it["row"] == "Brk")
     if found:
         it["end"] = {"is": "fault", "kind": "Permission", "access": "read", "at": "110000",
                      "pointer_tag": 0, "memory_tag": 0}
@@ -148,7 +185,7 @@ def alter_end(it: dict[str, Any]) -> bool:
 def alter_tag(it: dict[str, Any]) -> bool:
     """Another tag that a store of tags leaves."""
     granules = it["after"].get("granules", {})
-    found = it["row"] == "StG" and bool(granules)
+    found = bool(it["row"] == "StG" and granules)
     if found:
         first = next(iter(granules))
         granules[first][1] ^= 1
@@ -183,7 +220,7 @@ def test_a_planted_difference_is_found(
     assert ran.output.startswith(f"step {number} ") and "different 1," in ran.output
 
 
-WRONG = {
+WRONG: dict[str, tuple[Callable[[str], str], str]] = {
     "no head": (lambda text: text.split("\n", 1)[1], "step 0: the first line does not name"),
     "cut": (lambda text: text[:-40], "step 860: "),
     "no state": (lambda text: text.replace('"before"', '"behind"', 1), "step 1: 'before'"),
@@ -210,3 +247,11 @@ def test_a_wrong_command_line_is_refused(words: list[str]) -> None:
     for program in ("check_unicorn.py", "check_qemu.py", "make_golden.py"):
         ran = run([sys.executable, GOLDEN / program, *words])
         assert ran.status in (1, 2) and ran.errors and ran.output == ""
+
+
+def test_the_page_shows_a_step(shared: pathlib.Path) -> None:
+    """The step that docs/GOLDEN.md shows is the one of that number in the file that it makes."""
+    found = [part for part in parts_of("docs/GOLDEN.md") if part.language == "json"]
+    number = re.search(r"Step (\d+) of the file above", read_page("docs/GOLDEN.md"))
+    assert len(found) == 1 and number
+    assert json.loads(found[0].text) == steps_of(golden(shared))[int(number[1]) - 1]

@@ -1,12 +1,12 @@
 #!/usr/bin/env python3
-"""Which behaviours of LLVM's Scudo the heap of this repository has: each is measured in both, in one
-run.
+"""Which behaviours of LLVM's Scudo the heap of this repository has: each is measured in both, in
+one run.
 
     beside_scudo.py
 
 Writes the table of docs/ALLOCATORS.md. Scudo is that of Debian's libclang-rt-14-dev, natively on
-x86-64, where it has no tags; ours is the library (TOMBOLOPAN, as tombolopan.py says). Status 1 where
-a row is not as this file says: the same in both, or not.
+x86-64, where it has no tags; ours is the library (TOMBOLOPAN, as tombolopan.py says). Status 1
+where a row is not as this file says: the same in both, or not.
 """
 from __future__ import annotations
 
@@ -54,6 +54,11 @@ def fresh(value: str) -> str:
     return "by address" if set(value.split()) == {"1"} else "shuffled"
 
 
+def last_word(value: str) -> str:
+    """What is left, without where the chunk is."""
+    return value.split()[-1]
+
+
 def entry(*names: str) -> Callable[[str], str]:
     """Some entries of a list of NAME:VALUE."""
     def show(value: str) -> str:
@@ -99,8 +104,9 @@ ROWS = [
     Row("the same with a quarantine (`quarantine_size_kb=256`)", "reuse_quarantine", False, order,
         "no quarantine"),
     Row("blocks that were never used", "fresh", False, fresh),
-    Row("bytes of a freed chunk, in the next one", "left_of_freed", False),
-    Row("the same with `zero_contents=1`", "left_of_freed_zeroing", False, str, "always"),
+    Row("bytes of a freed chunk, in the next one", "left_of_freed", False, last_word),
+    Row("the same with `zero_contents=1`", "left_of_freed_zeroing", False, last_word,
+        "none, always"),
     Row("bytes that are not 0 behind calloc", "left_in_calloc"),
     Row("usable size of a request", "usable", True, entries_but()),
     Row("memalign of 1, 2, 8 .. 4096", "alignments", True,
@@ -149,10 +155,10 @@ def main() -> int:
             print(f"beside_scudo.py: {row.text}: {theirs[row.fact]} and "
                   f"{ours.get(row.fact, row.ours)}", file=sys.stderr)
             status = 1
-    breaks = zip(theirs["classes"].split(), ours["classes"].split())
-    print(f"\n{sum(a == b for a, b in breaks)} of {len(theirs['classes'].split())} sizes of blocks, "
-          f"and the first request that gets each, are the same; "
-          f"{sum(row.is_same for row in ROWS)} of {len(ROWS)} rows.")
+    sizes = list(zip(theirs["classes"].split(), ours["classes"].split()))
+    print(f"\n{sum(a == b for a, b in sizes)} of {len(sizes)} sizes of blocks, and the first "
+          f"request that gets each, are the same; so are {sum(row.is_same for row in ROWS)} of "
+          f"{len(ROWS)} rows.")
     return status
 
 

@@ -47,10 +47,12 @@ def build_probe(folder: pathlib.Path) -> pathlib.Path:
     return program
 
 
-def run_probe(program: pathlib.Path, options: str) -> tuple[Facts, list[tuple[int, int]]]:
+def run_probe(
+    program: pathlib.Path, options: str = "", words_of: tuple[str, ...] = ()
+) -> tuple[Facts, list[tuple[int, int]]]:
     """What the program tells with some options of Scudo's; and words of headers with the addresses
     of their chunks."""
-    ran = subprocess.run([program], stdout=subprocess.PIPE, text=True, check=True,
+    ran = subprocess.run([program, *words_of], stdout=subprocess.PIPE, text=True, check=True,
                          env={**os.environ, "SCUDO_OPTIONS": options})
     facts: Facts = {}
     words = []
@@ -92,11 +94,11 @@ def facts_of_scudo() -> Facts:
     """All of LLVM's Scudo."""
     with tempfile.TemporaryDirectory(prefix="scudo-") as folder:
         program = build_probe(pathlib.Path(folder))
-        facts, words = run_probe(program, "")
+        facts, words = run_probe(program)
         facts["checksum"] = checksum_fact(words)
-        zeroing, _ = run_probe(program, "zero_contents=1")
+        zeroing, _ = run_probe(program, "zero_contents=1", ("few",))
         facts["left_of_freed_zeroing"] = zeroing["left_of_freed"]
-        held, _ = run_probe(program, QUARANTINE)
+        held, _ = run_probe(program, QUARANTINE, ("few",))
         facts["reuse_quarantine"] = held["reuse_24_3"]
         for name in MISTAKES:
             facts[f"mistake_{name}"] = mistake_of(program, name)
@@ -106,8 +108,8 @@ def facts_of_scudo() -> Facts:
 # The heap of this repository.
 
 class Heap:
-    """A heap whose calls are entered one by one: each makes all calls so far anew, on a heap that is
-    the same each time."""
+    """A heap whose calls are entered one by one: each makes all calls so far anew, on a heap that
+    is the same each time."""
 
     def __init__(self, pages: int = 64) -> None:
         self.made: list[tuple[int, int, int]] = []
@@ -133,7 +135,7 @@ class Heap:
 
 def our_block_size(size: int) -> int:
     """The size of the blocks that requests of a size get."""
-    chunks = tb.heap_calls([(tb.MALLOC, size, 0)] * 6, pages=512 if size > 8000 else 64)
+    chunks = tb.heap_calls([(tb.MALLOC, size, 0)] * 6, pages=8 + size * 8 // 4096)
     first, *rest = (it.answer & PLAIN for it in chunks)
     return math.gcd(*(it - first for it in rest))
 

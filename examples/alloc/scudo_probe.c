@@ -2,6 +2,7 @@
  * Tells what LLVM's Scudo does, as lines "NAME VALUES": it is linked with
  * libclang_rt.scudo_standalone. beside_scudo.py builds and reads it.
  *     scudo_probe             all that ends
+ *     scudo_probe few         what options of Scudo's change
  *     scudo_probe MISTAKE     one call that Scudo refuses, which ends the program
  */
 #define _GNU_SOURCE
@@ -124,7 +125,8 @@ static void tell_zeroing(void) {
     again = malloc(24);
     for (int i = 0; i < 24; i++)
         left += again[i] == 0x5a;
-    printf("left_of_freed %s %s\n", again == chunk ? "reused" : "elsewhere", left ? "some" : "none");
+    printf("left_of_freed %s %s\n", again == chunk ? "reused" : "elsewhere",
+           left ? "some" : "none");
     chunk = calloc(1, 24);
     for (int i = left = 0; i < 24; i++)
         left += chunk[i] != 0;
@@ -234,17 +236,19 @@ static void make_mistake(const char *name) {
 
 int main(int count, char **words) {
     setvbuf(stdout, 0, _IOFBF, 1 << 16);
-    if (count > 1) {
+    if (count > 1 && strcmp(words[1], "few") != 0) {
         make_mistake(words[1]);
         return 0;
     }
-    tell_headers();
     tell_reuse(24, 3);
+    tell_zeroing();
+    if (count > 1)
+        return 0;
+    tell_headers();
     tell_reuse(72, 28);
     tell_reuse(136, 64);
     tell_reuse(600, 64);
     tell_fresh();
-    tell_zeroing();
     tell_alignments();
     tell_usable();
     tell_realloc();

@@ -3,9 +3,9 @@
 
     check_unicorn.py FILE [SHOWN]
 
-Prints the first SHOWN steps that differ (20) and the counts; status 1 where one differs in a way
-that is not known (docs/GOLDEN.md, "Where Unicorn differs"). Steps of the rows of memory tagging, and
-steps that a tag decides, are left out: Unicorn has no tags.
+Prints the first SHOWN steps that differ (20) and the counts; status 1 where one differs in a
+way that is not known (docs/GOLDEN.md, "Where Unicorn differs"). Steps of the rows of memory
+tagging, and steps that a tag decides, are left out: Unicorn has no tags.
 """
 from __future__ import annotations
 
@@ -77,7 +77,7 @@ class Unicorn:
             self.interrupt = number
             self.library.uc_emu_stop(self.engine)
 
-        def fail(_engine: object, _kind: int, at: int, _size: int, _new: int, _data: object) -> bool:
+        def fail(_engine: object, _kind: int, at: int, *_rest: object) -> bool:
             self.failed = at
             return False
 
@@ -122,7 +122,7 @@ class Unicorn:
 
     def take(self) -> State:
         """The state, with each granule that is not zero; memory is zero behind it."""
-        granules = {}
+        granules: dict[int, tuple[bytes, int]] = {}
         for start, count, _ in MAP:
             data = self.read(start, 4096 * count)
             if any(data):

@@ -195,7 +195,7 @@ def check_rest(memory: tb.Memory, granules: list[int], pc: int) -> None:
             stray = [at for at in range(0, len(data), 16)
                      if any(data[at:at + 16]) and start + at not in named]
             if stray:
-                sys.exit(f"make_golden.py: a step changes {start + stray[0]:#x}, far from its access")
+                sys.exit(f"make_golden.py: a step changes {start + stray[0]:#x}")
 
 
 def end_of(stop: tb.Stop) -> dict[str, Any]:
