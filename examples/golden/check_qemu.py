@@ -5,8 +5,9 @@
 
 Prints the first SHOWN steps that differ (20) and the counts; status 1 where one differs in a way
 that is not known (docs/GOLDEN.md, "Where QEMU differs"). It needs Debian's packages qemu-user and
-gcc-aarch64-linux-gnu. Left out are what a program cannot set or see: system calls, the state of
-IRG's generator, the flag of the asynchronous mode (its steps run without checks).
+gcc-aarch64-linux-gnu. Left out are what a program cannot set or see: system calls, and the state of
+IRG's generator. A step in the asynchronous mode is made without checks of tags, and once more with
+them, which tells whether the flag has to be set.
 """
 from __future__ import annotations
 
@@ -67,11 +68,28 @@ def why_left(step: Step) -> str:
     return ""
 
 
-def request(step: Step) -> bytes:
+@dataclass(frozen=True)
+class Attempt:
+    """A step that is made, with checks of tags or without."""
+
+    step: Step
+    is_checked: bool
+
+
+def attempts_of(step: Step) -> list[Attempt]:
+    """How a step is made: in the asynchronous mode without checks, and, where it goes on, once more
+    with them, which tells whether a tag differs."""
+    made = [Attempt(step, not step.asynchronous)]
+    if step.asynchronous and step.end["is"] == "next":
+        made.append(Attempt(step, True))
+    return made
+
+
+def request(it: Attempt) -> bytes:
     """What the harness reads of a step."""
-    old = step.before
+    step, old = it.step, it.step.before
     granules = list(old.granules.items())[:ROOM]
-    head = REQUEST.pack(*old.x, old.sp, old.pc, old.nzcv, not step.asynchronous,
+    head = REQUEST.pack(*old.x, old.sp, old.pc, old.nzcv, it.is_checked,
                         step.word is not None, step.word or 0, len(granules))
     made = b"".join(GRANULE.pack(at, data, tag) for at, (data, tag) in granules)
     return head + made.ljust(ROOM * GRANULE.size, b"\0")
@@ -90,7 +108,7 @@ def read_answers(data: bytes) -> Iterator[Answer]:
                      address & PLAIN)
 
 
-def attempt(steps: list[Step]) -> list[Answer]:
+def attempt(steps: list[Attempt]) -> list[Answer]:
     """Makes steps under QEMU."""
     with tempfile.TemporaryDirectory(prefix="golden-") as folder:
         program = pathlib.Path(folder) / "qemu_steps"
@@ -145,9 +163,9 @@ def known(step: Step, end: str, told: list[str]) -> str:
     return ""
 
 
-def compare_step(step: Step, it: Answer, tally: Tally) -> None:
-    """Compares a step."""
-    want = step.after
+def compare_step(step: Step, answers: list[Answer], tally: Tally) -> None:
+    """Compares a step with how it was made: once, or without and with checks."""
+    want, it = step.after, answers[0]
     want.granules = {at: held for at, held in want.granules.items() if at >= 0x110000}
     told = differences(want, it.state, STATE)
     end = ended(step, it)
@@ -155,20 +173,25 @@ def compare_step(step: Step, it: Answer, tally: Tally) -> None:
         told.insert(0, f"ends {end}")
     elif end == "next" and it.state.pc & PLAIN != want.pc:
         told.append(f"pc {it.state.pc:#x} not {want.pc:#x}")
+    if step.asynchronous and step.end["is"] == "next":
+        flag = step.before.pending or ended(step, answers[-1]).startswith("fault TagCheck")
+        if flag != want.pending:
+            told.append(f"pending {flag} not {want.pending}")
     tally.enter(step, told, known(step, end, told))
 
 
 def compare(steps: Iterator[Step], tally: Tally) -> None:
     """Compares all steps of a file."""
-    made = []
+    made: list[Step] = []
     for step in steps:
         why = why_left(step)
         if why:
             tally.leave(why)
         else:
             made.append(step)
-    for step, it in zip(made, attempt(made)):
-        compare_step(step, it, tally)
+    answers = iter(attempt([it for step in made for it in attempts_of(step)]))
+    for step in made:
+        compare_step(step, [next(answers) for _ in attempts_of(step)], tally)
 
 
 if __name__ == "__main__":
