@@ -26,7 +26,8 @@ HERE = pathlib.Path(__file__).resolve().parent
 BASE = "0x5512340000"
 BUILD = ["aarch64-linux-gnu-gcc", "-O1", "-march=armv8.5-a+memtag", "-static",
          "-no-pie", f"-Wl,-Ttext-segment={BASE}"]
-EMULATOR = ["qemu-aarch64", "-cpu", "max"]
+# The keys of pointer authentication are drawn by the seed.
+EMULATOR = ["qemu-aarch64", "-seed", "1", "-cpu", "max"]
 REQUEST, GRANULE, ANSWER, ROOM = struct.Struct("<38Q"), struct.Struct("<Q16sQ"), \
     struct.Struct("<38Q"), 8
 # What a signal and its code say of a fault.
