@@ -25,6 +25,8 @@ REALLOCATIONS = ((24, 40), (24, 16), (24, 48), (24, 49), (100, 112), (100, 113),
 REUSES = ((24, 3), (72, 28), (136, 64), (600, 64))
 QUARANTINE = "thread_local_quarantine_size_kb=64:quarantine_size_kb=256:" \
              "quarantine_max_chunk_size=2048"
+# Without GWP-ASan, which puts one chunk in some 5,000, chosen at random, between guard pages.
+OPTIONS = "GWP_ASAN_Enabled=false"
 Facts = dict[str, str]
 
 
@@ -47,13 +49,18 @@ def build_probe(folder: pathlib.Path) -> pathlib.Path:
     return program
 
 
+def with_options(more: str) -> dict[str, str]:
+    """The variables of a run with options of Scudo's."""
+    return {**os.environ, "SCUDO_OPTIONS": f"{OPTIONS}:{more}" if more else OPTIONS}
+
+
 def run_probe(
     program: pathlib.Path, options: str = "", words_of: tuple[str, ...] = ()
 ) -> tuple[Facts, list[tuple[int, int]]]:
     """What the program tells with some options of Scudo's; and words of headers with the addresses
     of their chunks."""
     ran = subprocess.run([program, *words_of], stdout=subprocess.PIPE, text=True, check=True,
-                         env={**os.environ, "SCUDO_OPTIONS": options})
+                         env=with_options(options))
     facts: Facts = {}
     words = []
     for line in ran.stdout.splitlines():
@@ -69,7 +76,7 @@ def run_probe(
 def mistake_of(program: pathlib.Path, name: str) -> str:
     """How Scudo ends a program that makes a mistake."""
     ran = subprocess.run([program, name], stdout=subprocess.DEVNULL, stderr=subprocess.PIPE,
-                         text=True, check=False)
+                         text=True, check=False, env=with_options(""))
     found = [ours for text, ours in MESSAGES.items() if f"Scudo ERROR: {text}" in ran.stderr]
     return found[0] if found else f"signal {-ran.returncode}" if ran.returncode else "nothing"
 
@@ -85,9 +92,8 @@ def bsd(cookie: int, at: int, word: int) -> int:
 def checksum_fact(words: list[tuple[int, int]]) -> str:
     """Whether the top 16 bits of all headers are the BSD checksum of the rest for one cookie, which
     is not known: all 65,536 are tried."""
-    fitting = [it for it in range(1 << 16) if bsd(it, *words[0]) == words[0][1] >> 48]
-    fitting = [it for it in fitting if all(bsd(it, *held) == held[1] >> 48 for held in words)]
-    return "the BSD sum" if len(fitting) == 1 else "another"
+    fits = any(all(bsd(it, *held) == held[1] >> 48 for held in words) for it in range(1 << 16))
+    return "the BSD sum" if fits else "another"
 
 
 def facts_of_scudo() -> Facts:
