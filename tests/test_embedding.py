@@ -198,14 +198,24 @@ def test_sessions_of_eight_threads(shared: pathlib.Path, folders: list[pathlib.P
     assert (ran.status, ran.output) == (0, f"8 threads: {count} of {count} as wanted\n"), ran.errors
 
 
+# Runs the examples in the texts of all modules of the package.
+DOCTESTS = """
+import doctest, importlib, pkgutil, tombolopan
+parts = [it.name for it in pkgutil.iter_modules(tombolopan.__path__) if it.name != "__main__"]
+modules = [tombolopan, *(importlib.import_module(f"tombolopan.{it}") for it in parts)]
+found = [doctest.testmod(it) for it in modules]
+tried = sum(it.attempted for it in found)
+print(f"{tried - sum(it.failed for it in found)} of {tried}")
+"""
+
+
 def test_the_examples_of_the_python_module(shared: pathlib.Path) -> None:
-    """What the module's own text shows."""
+    """What the texts of the package show."""
     it = in_python(shared, EMBED / "tombolopan")
-    words = [sys.executable, "-B", "-m", "doctest", "-v", "tombolopan.py"]
-    ran = run(words, cwd=EMBED, extra=it.extra)
+    ran = run([sys.executable, "-B", "-c", DOCTESTS], cwd=EMBED, extra=it.extra)
     assert ran.status == 0, ran.output[-3000:]
-    found = re.search(r"^(\d+) passed", ran.output, re.M)
-    assert found and int(found[1]) > 30
+    found = re.search(r"^(\d+) of (\d+)$", ran.output, re.M)
+    assert found and found[1] == found[2] and int(found[1]) > 80
 
 
 OUT_OF_RANGE = [

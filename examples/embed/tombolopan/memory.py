@@ -17,7 +17,7 @@ PAGE = 4096
 # The most pages of a memory: 1 GiB. A search goes through them one by one.
 MOST_PAGES = 1 << 18
 _PLAIN = (1 << 56) - 1
-_PLACE = ctypes.sizeof(_Page)
+_PLACE, _BYTES, _TAGS = ctypes.sizeof(_Page), _Page.bytes.offset, _Page.tags.offset
 # So many places are searched at no cost worth a thought; those behind them come forward at need.
 _FRONT = 16
 
@@ -210,7 +210,7 @@ class Memory:
 
     def _held(self, place: int, at: int, size: int) -> bytes:
         """Bytes of one place, from the address in its page on."""
-        begin = ctypes.addressof(self._places) + place * _PLACE + _Page.bytes.offset
+        begin = ctypes.addressof(self._places) + place * _PLACE + _BYTES
         return ctypes.string_at(begin + at % PAGE, size)
 
     def peek(self, address: int, length: int) -> bytes:
@@ -225,6 +225,9 @@ class Memory:
 
     def _peek_or_zero(self, address: int, length: int) -> int:
         """The number of some bytes, the lowest first; one that is not mapped is 0."""
+        place = self._index.get((address & _PLAIN) // PAGE)
+        if place is not None and address % PAGE + length <= PAGE:
+            return int.from_bytes(self._held(place, address, length), "little")
         found = b"".join(
             bytes(size) if place is None else self._held(place, at, size)
             for at, size, place in self._pieces(address, length)
@@ -298,8 +301,9 @@ class Memory:
                 "pages": pages}
 
     def _content(self, at: int) -> tuple[int, bytes, bytes]:
-        it = self._places[at]
-        return it.attrs & 15, bytes(it.bytes), bytes(it.tags)
+        attrs = self._places[at].attrs & 15
+        begin = ctypes.addressof(self._places) + at * _PLACE
+        return attrs, ctypes.string_at(begin + _BYTES, PAGE), ctypes.string_at(begin + _TAGS, 256)
 
     def __setstate__(self, state: dict[str, Any]) -> None:
         limit, pages = state["limit"], state["pages"]
@@ -307,8 +311,9 @@ class Memory:
         self._state.pending = state["pending"]
         for number, attrs, data, tags in pages:
             self.map(number * PAGE, PAGE, attrs)
-            it = self._places[self._index[number]]
-            it.bytes[:], it.tags[:] = data, tags
+            begin = ctypes.addressof(self._places) + self._index[number] * _PLACE
+            ctypes.memmove(begin + _BYTES, data, PAGE)
+            ctypes.memmove(begin + _TAGS, tags, 256)
 
     def __repr__(self) -> str:
         """The first of its regions."""

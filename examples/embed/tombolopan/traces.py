@@ -1,20 +1,20 @@
 """The accesses of a run to memory."""
 from __future__ import annotations
 
+import sys
 from ctypes import byref, memmove, sizeof
-from dataclasses import dataclass
+from typing import NamedTuple
 
 from .abi import EXEC, FAULT, OK, PERMISSION, TAGGED, TRANSLATION
-from .abi import _library, _Page, _Stop, _TagState
+from .abi import _library, _Page, _Regs, _Stop, _TagState
 from .enums import Code
 from .memory import _PLAIN, PAGE, Memory
-from .ranges import in_bits
+from .ranges import in_bits, in_range
 from .registers import Regs
-from .runs import Stop, _stop_of, step
+from .runs import Stop, _stop_of
 
 
-@dataclass(frozen=True)
-class Access:
+class Access(NamedTuple):
     """An access of an instruction to memory: the instruction's address and word, the address that
     was used (its tag in bits 59 to 56), how many bytes (of LDG and STG the granule's 16, of ST2G
     32), whether it is a store, the number of the bytes there after it, and the allocation tag."""
@@ -57,31 +57,36 @@ class _CodePage:
         self._places, self._state, self.stop = (_Page * 1)(), _TagState(), _Stop()
         self.number = -1
 
-    def take(self, page: _Page, number: int) -> None:
+    def take(self, memory: Memory, number: int) -> None:
         """Copies a page, unless it is there."""
         if self.number != number:
+            page = memory._places[memory._index[number]]
             memmove(self._places, byref(page), sizeof(_Page))
             self._places[0].attrs, self.number = EXEC, number
 
-    def run(self, regs: Regs, steps: int) -> int:
+    def run(self, held: _Regs, steps: int) -> int:
         """Attempts instructions."""
         code: int = _library.tb_run(
-            self._places, 1, byref(self._state), byref(regs._held), steps, byref(self.stop)
+            self._places, 1, byref(self._state), byref(held), steps, byref(self.stop)
         )
         return code
 
-    def forget(self, address: int, size: int) -> None:
-        """It is to be copied again if these bytes are in it."""
-        last = (address + size - 1 & _PLAIN) // PAGE
-        if self.number in ((address & _PLAIN) // PAGE, last):
+    def may_access(self, memory: Memory) -> bool:
+        """Whether what faulted here may have an access in the memory, since a page is there."""
+        fault = self.stop.fault
+        return fault.kind in (TRANSLATION, PERMISSION) and memory._page_of(fault.addr) is not None
+
+    def access(self, memory: Memory, pc: int, word: int) -> Access:
+        """The access that faulted here, of an instruction that was attempted in the memory. A
+        store into the page makes that it is copied anew."""
+        fault, size = self.stop.fault, access_size(word)
+        address, page = fault.ptr_tag << 56 | fault.addr, memory._page_of(fault.addr)
+        tag = page.tags[address % PAGE // 16] & 15 if page and page.attrs & TAGGED else 0
+        last = (fault.addr + size - 1 & _PLAIN) // PAGE
+        if fault.write and self.number in (fault.addr // PAGE, last):
             self.number = -1
-
-
-def _access(memory: Memory, pc: int, word: int, address: int, write: bool) -> Access:
-    """The access of an instruction that was attempted."""
-    size, page = access_size(word), memory._page_of(address)
-    tag = page.tags[address % PAGE // 16] & 15 if page and page.attrs & TAGGED else 0
-    return Access(pc, word, address, size, write, memory._peek_or_zero(address, size), tag)
+        value = memory._peek_or_zero(address, size)
+        return Access(pc, word, address, size, bool(fault.write), value, tag)
 
 
 def _is_fetched(memory: Memory, pc: int) -> bool:
@@ -100,38 +105,30 @@ def trace(
     Instructions without an access run in a copy of their page. One with an access faults there,
     which tells its address, and then is attempted in the memory itself.
     """
-    left, page = in_bits("steps", steps, 64), _CodePage()
+    left, page, stop, held = in_bits("steps", steps, 64), _CodePage(), _Stop(), regs._held
+    most = None if room is None else in_range("room", room, 0, sys.maxsize)
     while left > 0:
-        number = (regs.pc & _PLAIN) // PAGE
-        if not _is_fetched(memory, regs.pc):
-            return _stop_of(FAULT, _faulting(memory, regs), left - 1)
-        page.take(memory._places[memory._index[number]], number)
-        code = page.run(regs, left)
-        if code != FAULT:
-            return _stop_of(code, page.stop, page.stop.left)
-        left, pc = page.stop.left + 1, regs.pc
-        if (pc & _PLAIN) // PAGE != number or pc % 4:
-            continue
-        fault = page.stop.fault
-        may_have = fault.kind in (TRANSLATION, PERMISSION) and memory._page_of(fault.addr)
-        if room is not None and len(accesses) >= room and may_have:
+        pc = held.pc
+        number = (pc & _PLAIN) // PAGE
+        may_have = False
+        if page.number == number or _is_fetched(memory, pc):
+            page.take(memory, number)
+            code = page.run(held, left)
+            if code != FAULT:
+                return _stop_of(code, page.stop, page.stop.left)
+            left, pc = page.stop.left + 1, held.pc
+            if (pc & _PLAIN) // PAGE != number:
+                continue
+            may_have = page.may_access(memory)
+        if may_have and most is not None and len(accesses) >= most:
             return Stop(Code.NO_ROOM, 0, left, None)
-        address, write = fault.ptr_tag << 56 | fault.addr, bool(fault.write)
-        word, stop = memory._peek_or_zero(pc, 4), step(memory, regs)
+        word = memory._peek_or_zero(pc, 4)
+        code = _library.tb_step(*memory._lent(), byref(held), byref(stop))
         left -= 1
-        if stop.code != Code.OK:
-            return Stop(stop.code, stop.number, left, stop.fault)
-        accesses.append(_access(memory, pc, word, address, write))
-        if write:
-            page.forget(address, 32)
-    return Stop(Code.of(OK), 0, 0, None)
-
-
-def _faulting(memory: Memory, regs: Regs) -> _Stop:
-    """The stop of an instruction that cannot be fetched."""
-    stop = _Stop()
-    _library.tb_step(*memory._lent(), byref(regs._held), byref(stop))
-    return stop
+        if code != OK:
+            return _stop_of(code, stop, left)
+        accesses.append(page.access(memory, pc, word))
+    return Stop(Code.OK, 0, 0, None)
 
 
 def trace_step(
