@@ -1,5 +1,6 @@
 """The package of Python: names, ranges, a memory that grows, what is kept, traces, the wheel."""
 
+import importlib.util
 import os
 import pathlib
 import re
@@ -11,8 +12,8 @@ from tests.support import library
 from tests.support.embedding.built import EMBED, in_python
 from tests.support.expected import compare
 from tests.support.places import ROOT
-from tests.support.running import Ran, run, succeed
-from tests.support.tools import need
+from tests.support.running import Ran, Word, run, succeed
+from tests.support.tools import give_up, need
 
 PACKAGE = EMBED / "tombolopan"
 SAMPLES = EMBED / "from_unicorn"
@@ -388,9 +389,15 @@ def test_types(tmp_path: pathlib.Path) -> None:
     path = tmp_path / "program.py"
     path.write_text("from tombolopan import Memory, Regs\nRegs().x0 = 1\nRegs().w3 = 'x'\n"
                     "Memory().peek('0')\nRegs().x[0] = 2\n", encoding="utf-8")
-    words = ["mypy", "--strict", "--cache-dir", tmp_path / "cache", path]
+    words: list[Word] = ["mypy", "--strict", "--cache-dir", tmp_path / "cache", path]
     ran = run(words, extra={"MYPYPATH": str(EMBED)})
     assert set(re.findall(r"^.*program\.py:(\d+): error", ran.output, re.M)) == {"3", "4"}
+
+
+def need_pip() -> None:
+    """Skips the test where there is no pip."""
+    if importlib.util.find_spec("pip") is None:
+        give_up("missing: pip (tests/packages.txt has the Debian packages)")
 
 
 @pytest.fixture(scope="module")
@@ -404,6 +411,7 @@ def wheel(shared: pathlib.Path, tmp_path_factory: pytest.TempPathFactory) -> pat
 
 def test_the_wheel_is_installed(wheel: pathlib.Path, tmp_path: pathlib.Path) -> None:
     """pip installs it without a network, and it finds the library that is inside."""
+    need_pip()
     succeed([sys.executable, "-m", "pip", "install", "-q", "--no-index", "--target", tmp_path,
              wheel])
     assert re.fullmatch(r"tombolopan-[\w.+]+-py3-none-manylinux_2_\d+_\w+\.whl", wheel.name)
@@ -420,6 +428,7 @@ def test_the_wheel_is_a_function_of_its_sources(
     shared: pathlib.Path, wheel: pathlib.Path, tmp_path: pathlib.Path
 ) -> None:
     """Made by pip from the checkout, it has the same bytes."""
+    need_pip()
     archive = library.static_library(shared)
     succeed([sys.executable, "-m", "pip", "wheel", "-q", "--no-index", "--no-deps", "-w", tmp_path,
              "--config-settings", f"library={archive}", ROOT])

@@ -10,8 +10,9 @@
 #     PREFIX/lib/pkgconfig        tombolopan.pc
 #     PREFIX/share/man            pages of the programs (1) and of the library and its calls (3)
 #     PREFIX/share/bash-completion, share/zsh, share/fish: completions
-#     PREFIX/share/tombolopan     the package of Python, tombolopan.rs, start.c, examples, the C library of
-#                                 tenants where it is built, installed (the list of all this)
+#     PREFIX/share/tombolopan     tombolopan (the package of Python), tombolopan.rs, start.c,
+#                                 examples, the C library of tenants where it is built, installed
+#                                 (the list of all this)
 #     PREFIX/share/doc/tombolopan the pages
 #
 # A copy of PREFIX elsewhere works too. What is not built yet is proved and built first

@@ -79,7 +79,7 @@ class Memory:
         self._limit = MOST_PAGES if places is None else in_range("places", places, 0, MOST_PAGES)
         self._places = (_Page * (_FRONT if places is None else max(self._limit, 1)))()
         self._state = _TagState()
-        # Of each page the place, how many places in front are searched, those of them that are free.
+        # Of each page the place; how many places are searched; which of them are free.
         self._index: dict[int, int] = {}
         self._used = 0
         self._free: list[int] = []

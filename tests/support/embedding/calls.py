@@ -1,5 +1,5 @@
-"""Answers the lines of calls.c by the package tombolopan: the library's calls with their structures, and
-what the module makes of them."""
+"""Answers the lines of calls.c by the package tombolopan: the library's calls with their
+structures, and what the package makes of them."""
 
 import ctypes
 import sys
