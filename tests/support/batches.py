@@ -14,9 +14,11 @@ BATCH = ROOT / "tools" / "batch"
 # A tombolopan.py that goes wrong before some sessions: {act} has what it does with a session's
 # frames, script and files.
 FAULTY = """import os, pathlib, signal, sys, time
-del sys.modules["tombolopan"]
+_faulty = sys.modules.pop("tombolopan")
 sys.path.insert(0, {real!r})
 import tombolopan as _real
+del sys.path[0]
+sys.modules["tombolopan"] = _faulty
 ScriptError = _real.ScriptError
 
 def once(name):
