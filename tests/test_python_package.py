@@ -374,6 +374,35 @@ print(stop.fault, Code.SVC.number, Code("svc"))
 """) == "Translation: a read at 0x0 2 svc\n"
 
 
+def test_nothing_grows(shared: pathlib.Path) -> None:
+    """Thousands of sessions, tenants, heaps, runs and copies take no more memory than hundreds."""
+    assert told(shared, """
+import resource
+image, script = example("hi.elf"), (b"admit 1 image 1 input 0 seed 0000000000000001 frames 5 out 16"
+                                    b"\\nslice 1 100\\n")
+memory, regs = Memory(), Regs(pc=0x10000, x2=0x11000)
+memory.map(0x10000, 0x2000, R | W | X)
+memory.load(0x10000, bytes.fromhex("410000f9" "ffffff17"))  # str x1, [x2]; b to it
+
+def turn():
+    session(11, script, [image])
+    alone(image)
+    heap_calls([(MALLOC, 24, 0)])
+    trace(memory, regs, 9, [])
+    refused(lambda: memory.peek(0, 1), Fault)
+    memory.copy().map(0x20000, 20 * 4096, R)
+
+def peak(turns):
+    for _ in range(turns):
+        turn()
+    return resource.getrusage(resource.RUSAGE_SELF).ru_maxrss
+
+before = peak(500)
+grown = peak(3000) - before
+print(grown if grown > 2000 else "")
+""") == "\n"
+
+
 @pytest.mark.parametrize("name", ["watch", "protect", "context"])
 def test_samples(shared: pathlib.Path, name: str) -> None:
     """The samples for those who come from Unicorn write what the architecture says."""

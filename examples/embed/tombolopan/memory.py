@@ -77,7 +77,7 @@ class Memory:
 
     def __init__(self, places: int | None = None, asynchronous: bool = False) -> None:
         self._limit = MOST_PAGES if places is None else in_range("places", places, 0, MOST_PAGES)
-        self._places = (_Page * (_FRONT if places is None else max(self._limit, 1)))()
+        self._places = (_Page * max(min(self._limit, _FRONT), 1))()
         self._state = _TagState()
         # Of each page the place; how many places are searched; which of them are free.
         self._index: dict[int, int] = {}

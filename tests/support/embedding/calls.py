@@ -24,6 +24,7 @@ class Calls:
     def lent(self) -> tuple[Any, ...]:
         """The memory as a call takes it: all of its places."""
         it = self.memory
+        assert it._limit <= len(it._places)
         return it._places, it._limit, byref(it._state)
 
     def look(self, code: int) -> str:
