@@ -139,10 +139,13 @@ print(refused(lambda: session(11, "slice 1 1", []), TypeError))
 print(refused(lambda: session(11, b"", ["text"]), TypeError))
 print(refused(lambda: Memory().load(0, "text"), TypeError))
 print(refused(lambda: Regs(x31=1), TypeError))
+print(refused(lambda: Regs().x["0"], TypeError), "|", refused(lambda: Regs().x[31], IndexError))
 """).splitlines() == [
         "places is a number, and not a float", "pc is a number, and not a str",
         "script is bytes, and not a str", "files[0] is bytes, and not a str",
         "data is bytes, and not a str", "there is no register x31",
+        "'str' object cannot be interpreted as an integer | there is no register x31: they are x0 "
+        "to x30",
     ]
 
 

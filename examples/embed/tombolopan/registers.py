@@ -2,6 +2,7 @@
 from __future__ import annotations
 
 import ctypes
+import operator
 from collections.abc import Iterable, Iterator, MutableSequence
 from typing import Any, SupportsIndex, overload
 
@@ -127,7 +128,7 @@ class Numbered(MutableSequence[int]):
 
     @staticmethod
     def _of(at: SupportsIndex) -> int:
-        number = at.__index__()
+        number = operator.index(at)
         if not -COUNT <= number < COUNT:
             raise IndexError(f"there is no register x{number}: they are x0 to x30")
         return number % COUNT
