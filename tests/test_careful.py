@@ -23,6 +23,17 @@ def test_exact_tells_careful_programs_from_others(
         assert not (tmp_path / "careless").exists()
 
 
+def test_check_tells_them_apart_too(alone: pathlib.Path, tmp_path: pathlib.Path) -> None:
+    """With `--check` in place of `--exact`, by which the script runs each."""
+    checked = tmp_path / "checked"
+    checked.write_text(f"#!/bin/sh\nshift\nexec '{alone}' --check \"$@\"\n", encoding="utf-8")
+    checked.chmod(0o755)
+    words = [str(EXAMPLES / "careful.py"), str(checked), str(PROGRAMS), "3"]
+    ran = run([sys.executable, *words], cwd=tmp_path, seconds=2 * SECONDS)
+    line = r"120 careful programs and 120 with one wrong access: 0 not told as they should be\n"
+    assert ran.status == 0 and re.fullmatch(line, ran.output), ran.errors[-2000:]
+
+
 def test_a_program_that_says_nothing_is_noticed(tmp_path: pathlib.Path) -> None:
     """The script fails, and keeps the image, where a program finds nothing."""
     silent = tmp_path / "silent"

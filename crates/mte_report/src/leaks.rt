@@ -3,6 +3,7 @@
 use crate::context::Context;
 use crate::report::Report;
 use mte_backtrace::{FrameAddresses, FrameNames};
+use pointer_provenance::LostChunk;
 use run_book::{BookChunk, BookEntry, Bytes, Count};
 use std::alloc::{AllocError, Global};
 use std::io;
@@ -108,6 +109,52 @@ impl<'a> Report<'a> {
         let frames = self.frames(alloc, places)?;
         let names = self.names.of_frames(alloc, &frames)?;
         write_named(alloc, out, self, &names, places)
+    }
+
+    /// Writes the chunks that nothing reaches at the end, by the calls that made them: the first
+    /// 256 places. Those that only other lost chunks lead to are counted.
+    pub fn write_lost<W: Write>(
+        &self,
+        alloc: Global,
+        out: &mut W,
+        lost: &[LostChunk],
+    ) -> io::Result<()> {
+        let (places, led_to) = self.lost_places(alloc, lost)?;
+        let (chunks, bytes) = (chunk_count(places.chunks), Bytes(places.bytes));
+        write!(out, "lost at the end: {chunks}, {bytes}")?;
+        let (chunks, bytes) = (chunk_count(led_to.chunks), Bytes(led_to.bytes));
+        writeln!(out, "; by these alone was led to {chunks}, {bytes}")?;
+        let places = places.places.as_slice();
+        let frames = self.frames(alloc, places)?;
+        let names = self.names.of_frames(alloc, &frames)?;
+        write_named(alloc, out, self, &names, places)
+    }
+
+    /// The places of lost chunks whose calls are kept, and those of chunks that they lead to.
+    fn lost_places(
+        &self,
+        alloc: Global,
+        lost: &[LostChunk],
+    ) -> Result<(Places, Places), AllocError> {
+        let (mut places, mut led_to) = (Places::new(alloc), Places::new(alloc));
+        for chunk in lost {
+            let target = if chunk.is_indirect {
+                &mut led_to
+            } else {
+                &mut places
+            };
+            if let Some(entry) = self.entry(chunk.number) {
+                target.enter(entry, chunk.size)?;
+            }
+        }
+        Ok((places, led_to))
+    }
+
+    /// The heap call with a number, where it is kept.
+    fn entry(&self, number: u64) -> Option<&'a BookEntry> {
+        let entries = self.book.entries();
+        let oldest = entries.front()?.number;
+        entries.get(usize::try_from(number.checked_sub(oldest)?).ok()?)
     }
 
     /// The places of the chunks that are live.

@@ -15,7 +15,7 @@ use mte_tenant::{Status, TenantParts};
 use run_book::{Book, Bytes, ChunkOwner, ChunkQuery};
 use run_cause::{
     Cause, Evidence, Finding, ForbiddenAccess, LastStore, abort_words, breakpoint_words, family_of,
-    fault_words, is_undefined, trespass_words,
+    fault_words, is_undefined,
 };
 use run_statistics::StatisticsTable;
 use scudo_heap::HeapAbort;
@@ -211,12 +211,19 @@ impl<'a> fmt::Display for At<'a> {
 
 /// An access that a chunk's bounds forbid, of the instruction at an address.
 fn tell_wrong<W: Write>(out: &mut W, wrong: &ForbiddenAccess, at: At<'_>) -> io::Result<()> {
-    let access = Accessing(wrong.span.is_write, AccessSize(Some(wrong.span.bytes)));
     let (addr, first) = (wrong.addr, plain(wrong.span.addr));
-    let why = trespass_words(wrong.trespass);
+    let (finder, why) = (wrong.violation.finder(), wrong.violation.words());
+    if wrong.violation.is_free() {
+        let pointer = wrong.span.addr;
+        return writeln!(
+            out,
+            "{finder}: a free of {pointer:#018x} by the instruction at {at}: {why}"
+        );
+    }
+    let access = Accessing(wrong.span.is_write, AccessSize(Some(wrong.span.bytes)));
     write!(
         out,
-        "exact: a {access} from {first:#018x} by the instruction at {at}: "
+        "{finder}: a {access} from {first:#018x} by the instruction at {at}: "
     )?;
     writeln!(out, "the byte at {addr:#018x} {why}")
 }

@@ -34,10 +34,13 @@ impl<'a> Report<'a> {
     }
 
     /// A cause, behind what found it.
-    pub fn found<'b>(&self, cause: &'b Cause) -> FoundCause<'b> {
+    pub fn found<'b>(&self, cause: &'b Cause) -> FoundCause<'b>
+    where
+        'a: 'b,
+    {
         FoundCause {
             cause,
-            is_exact: self.finding.is_some(),
+            wrong: self.finding.map(|finding| &finding.wrong),
         }
     }
 

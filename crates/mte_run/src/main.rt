@@ -4,6 +4,7 @@
 mod core_dump;
 mod debugging;
 mod files;
+mod lost;
 mod map;
 mod running;
 mod telling;

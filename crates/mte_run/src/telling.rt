@@ -2,6 +2,7 @@
 
 use crate::core_dump::dump_core;
 use crate::files::Image;
+use crate::lost::lost_chunks;
 use crate::map::draw_map;
 use address_map::GRANULE_SIZE;
 use elf_core::CoreSubject;
@@ -12,12 +13,13 @@ use mte_report::Report;
 use mte_svc::{AnsweredCall, HeapCalls, TenantParts};
 use mte_tags::{Paged, TagMode};
 use mte_tenant::Status;
+use pointer_provenance::{Full, LostChunk};
 use report_documents::Document;
 use run_options::{Exactness, Failure, FileFault, Options};
 use std::alloc::{AllocError, Global};
 use std::fs::File;
 use std::io;
-use std::io::BufWriter;
+use std::io::{BufWriter, Write};
 use tenant_run::{LastLine, Log, Observer, TenantBench, TenantEnding};
 
 /// What is said of a run beside its tenant.
@@ -61,10 +63,22 @@ fn end_watch<'a>(
     if !observer.is_complete() {
         return Err(Failure::Memory);
     }
+    if let Some(full) = observer.full() {
+        return Err(failure_of(full));
+    }
     if observer.is_cut {
         let _ = eprintln!(rt; "mte_run: output was cut: there was no more room (--out)");
     }
     Ok(())
+}
+
+/// The failure to note more of the tenant's pointers.
+fn failure_of<'a>(full: Full) -> Failure<'a> {
+    match full {
+        Full::OutOfMemory => Failure::Memory,
+        Full::Chunks => Failure::Check("it keeps 655,360 chunks"),
+        Full::Pages => Failure::Check("it keeps what 8,192 pages have"),
+    }
 }
 
 /// The failure to write the lines of a trace.
@@ -95,9 +109,12 @@ fn tell_parts<'a>(
         reserved: reserved_pages(rt.alloc(), options, memory)?,
         seed: run.seed,
     };
-    let named = named_bytes(&run.image, is_told(parts, observer, options));
+    let lost = lost_chunks(rt.alloc(), parts, observer, memory)?;
+    let is_named = !lost.is_empty() || is_told(parts, observer, options);
+    let named = named_bytes(&run.image, is_named);
     let names = Names::of(rt.alloc(), named)?;
     let report = report_of(parts, observer, options, &names, run.image.name, numbers);
+    tell_lost(rt, &report, lost.as_slice())?;
     tell_run(rt, &report, options, memory)
 }
 
@@ -222,7 +239,8 @@ fn ending_of(report: &Report<'_>, options: &Options) -> TenantEnding {
 fn tell_unseen(rt: &HostRuntime, report: &Report<'_>, options: &Options) {
     let log = &report.parts.history;
     let is_exit = matches!(log.status, Status::Exited(_));
-    if is_exit && options.output.exact == Exactness::Tags && may_have_spare_bytes(&log.calls) {
+    let is_unseen = options.output.exact == Exactness::Tags && !options.output.check;
+    if is_exit && is_unseen && may_have_spare_bytes(&log.calls) {
         let _ = eprintln!(rt;
             "mte_run: no tag differed; a tag is that of 16 bytes, so up to 15 bytes past a chunk's \
              size are compared by --exact alone"
@@ -247,6 +265,16 @@ fn tell_leaks(rt: &HostRuntime, report: &Report<'_>, options: &Options) -> io::R
     }
     let mut out = BufWriter::new(rt.alloc(), rt.stderr())?;
     report.write_leaks(rt.alloc(), &mut out)
+}
+
+/// Writes the chunks that nothing reaches, on standard error, where there are any.
+fn tell_lost(rt: &HostRuntime, report: &Report<'_>, lost: &[LostChunk]) -> io::Result<()> {
+    if lost.is_empty() {
+        return Ok(());
+    }
+    let mut out = BufWriter::new(rt.alloc(), rt.stderr())?;
+    write!(out, "mte_run: ")?;
+    report.write_lost(rt.alloc(), &mut out, lost)
 }
 
 /// Writes the numbers of the run, on standard error, where they are wanted.

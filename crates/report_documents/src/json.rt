@@ -248,11 +248,12 @@ struct FindingObject<'a>(&'a Finding);
 impl<'a> fmt::Display for FindingObject<'a> {
     fn fmt<W: fmt::Write>(&self, f: &mut fmt::Formatter<W>) -> fmt::Result {
         let wrong = &self.0.wrong;
-        let (trespass, addr, span) = (&wrong.trespass, wrong.addr, &wrong.span);
+        let (violation, addr, span) = (&wrong.violation, wrong.addr, &wrong.span);
+        let finder = violation.finder();
         let (first, bytes, write, pc) = (span.addr, span.bytes, span.is_write, self.0.before.pc);
         write!(
             f,
-            "{{\"kind\":\"exact\",\"name\":\"{trespass:?}\",\"address\":\"{addr:#x}\","
+            "{{\"kind\":\"{finder}\",\"name\":\"{violation}\",\"address\":\"{addr:#x}\","
         )?;
         write!(
             f,

@@ -2,12 +2,14 @@
 
 use crate::evidence::{Evidence, NEAR};
 use crate::exact::ForbiddenAccess;
+use crate::violation::Violation;
 use a64_bits::plain;
 use address_map::{IMAGE_START, PAGE_SIZE, STACK_END, STACK_START};
 use heap_bounds::{Block, Trespass};
 use mte_svc::FREE;
 use mte_tags::{FaultKind, MemFault, tag_of};
 use mte_tenant::{Record, Status};
+use pointer_provenance::{Misuse, MisuseKind};
 use run_book::{Book, BookChunk, BookEntry, Bytes, ChunkQuery};
 use scudo_heap::HeapCall;
 use std::fmt;
@@ -109,8 +111,39 @@ impl Cause {
 
     /// The cause of an access that a chunk's bounds forbid.
     pub fn of_wrong(book: &Book, wrong: &ForbiddenAccess) -> Cause {
-        let addr = wrong.addr;
-        let wanted = match wrong.trespass {
+        match &wrong.violation {
+            Violation::Bounds(trespass) => Cause::of_trespass(book, wrong.addr, *trespass),
+            Violation::Provenance(misuse) => Cause::of_misuse(book, misuse),
+        }
+    }
+
+    /// The cause of a use of a pointer that the pointer's own chunk does not allow.
+    fn of_misuse(book: &Book, misuse: &Misuse) -> Cause {
+        let found = misuse.chunk.and_then(|chunk| numbered(book, chunk.number));
+        let Some(chunk) = found else {
+            return Cause::NoChunkThere;
+        };
+        let offset = misuse.addr.saturating_sub(chunk.start());
+        match misuse.kind {
+            MisuseKind::AfterFree => {
+                match book.newest(&ChunkQuery::Holding(misuse.addr)) {
+                    Some(young) if young.freed.is_none() => {
+                        Cause::StalePointer(chunk, offset, young)
+                    }
+                    _ => Cause::UseAfterFree(chunk, offset),
+                }
+            }
+            MisuseKind::Overflow | MisuseKind::Underflow | MisuseKind::NoChunk => {
+                Cause::of_neighbour(misuse.addr, chunk)
+            }
+            MisuseKind::DoubleFree => Cause::DoubleFree(chunk),
+            MisuseKind::InnerFree => Cause::InsideChunk(chunk, offset),
+        }
+    }
+
+    /// The cause of an access to an address of the heap that no live chunk has.
+    fn of_trespass(book: &Book, addr: u64, trespass: Trespass) -> Cause {
+        let wanted = match trespass {
             Trespass::PastSize | Trespass::Freed => ChunkQuery::InGranules(addr),
             Trespass::NoChunk => match Block::of(addr) {
                 Some(block) => ChunkQuery::InBlock(block.start),
@@ -118,7 +151,7 @@ impl Cause {
             },
         };
         match book.newest(&wanted) {
-            Some(chunk) if wrong.trespass == Trespass::Freed => {
+            Some(chunk) if trespass == Trespass::Freed => {
                 let offset = addr.saturating_sub(chunk.start());
                 Cause::UseAfterFree(chunk, offset)
             }
@@ -326,6 +359,23 @@ impl Cause {
     }
 }
 
+/// The chunk that the heap call with a number returned, with the call that freed it, where they are
+/// kept.
+fn numbered(book: &Book, number: u64) -> Option<BookChunk> {
+    let oldest = book.entries().front()?.number;
+    let index = usize::try_from(number.checked_sub(oldest)?).ok()?;
+    let chunk = book.entries().get(index)?.made()?;
+    for entry in book.entries().iter() {
+        if entry.number > number && entry.ended() == Some(chunk.start()) {
+            return Some(BookChunk {
+                freed: Some(*entry),
+                ..chunk
+            });
+        }
+    }
+    Some(chunk)
+}
+
 /// The pointer that a chunk was freed by, where it has another tag than the chunk's own: it is one
 /// to an older chunk of the block.
 fn stale_pointer(chunk: &BookChunk) -> Option<u64> {
@@ -368,23 +418,27 @@ impl fmt::Display for Cause {
     }
 }
 
-/// A cause, behind what found it: a tag, a chunk's bounds or neither.
+/// A cause, behind what found it: a tag, a chunk's bounds, a pointer's own chunk or neither.
 #[derive(Clone, Copy)]
 pub struct FoundCause<'a> {
     /// The cause.
     pub cause: &'a Cause,
-    /// Whether the bounds of chunks found it.
-    pub is_exact: bool,
+    /// The access that a chunk's bounds forbid, where one did.
+    pub wrong: Option<&'a ForbiddenAccess>,
 }
 
 impl<'a> fmt::Display for FoundCause<'a> {
     fn fmt<W: fmt::Write>(&self, f: &mut fmt::Formatter<W>) -> fmt::Result {
-        let FoundCause { cause, is_exact } = *self;
-        let finder = if is_exact {
-            "[exact]: "
-        } else {
-            cause.finder()
-        };
-        write!(f, "{finder}{cause}")
+        let FoundCause { cause, wrong } = *self;
+        match wrong {
+            Some(wrong) => {
+                let finder = wrong.violation.finder();
+                write!(f, "[{finder}]: {cause}")
+            }
+            None => {
+                let finder = cause.finder();
+                write!(f, "{finder}{cause}")
+            }
+        }
     }
 }

@@ -2,9 +2,10 @@
 
 ghost use Rattle.std.specs.Prelude.{◌≡◌};
 
+use crate::violation::Violation;
 use a64_decode::decode;
 use a64_registers::Regs;
-use heap_bounds::{Bounds, Trespass, access_of};
+use heap_bounds::{Bounds, access_of};
 use instruction_trace::{Moment, SVC};
 use mte_backtrace::Callers;
 use mte_svc::{AnsweredCall, READ, WRITE};
@@ -23,11 +24,11 @@ pub struct Span {
     pub is_write: bool,
 }
 
-/// An access to bytes of the heap that no live chunk has.
+/// An access to bytes of the heap that no live chunk has, or that its pointer's own chunk has not.
 #[derive(Clone, Copy)]
 pub struct ForbiddenAccess {
     /// What it does there.
-    pub trespass: Trespass,
+    pub violation: Violation,
     /// The plain address of the first such byte.
     pub addr: u64,
     /// The access.
@@ -118,7 +119,7 @@ impl Exact {
         }
         let (addr, trespass) = self.bounds.check(span.addr, span.bytes)?;
         Some(ForbiddenAccess {
-            trespass,
+            violation: Violation::Bounds(trespass),
             addr,
             span,
         })

@@ -3,15 +3,19 @@
 #![tactic(auto)]
 
 mod cause;
+mod checker;
 mod evidence;
 mod exact;
 mod families;
 mod jump;
+mod violation;
 mod words;
 
 pub use cause::{Cause, FoundCause};
+pub use checker::Checker;
 pub use evidence::Evidence;
 pub use exact::{Exact, Finding, ForbiddenAccess, Span, span_of};
 pub use families::{breakpoint_words, family_of, is_undefined};
 pub use jump::{LastStore, StoreWatch, TargetLoad, branch_in};
-pub use words::{abort_words, fault_words, trespass_words};
+pub use violation::Violation;
+pub use words::{abort_words, fault_words};

@@ -1,6 +1,5 @@
-//! What faults, refused pointers and trespasses mean.
+//! What faults and refused pointers mean.
 
-use heap_bounds::Trespass;
 use mte_tags::FaultKind;
 use scudo_heap::HeapAbort;
 
@@ -25,14 +24,5 @@ pub fn abort_words(abort: HeapAbort) -> &'static str {
         HeapAbort::InvalidState => "its header says that it is free",
         HeapAbort::NotABlock => "its header names no block of the heap",
         HeapAbort::AlreadyFree => "its block is free",
-    }
-}
-
-/// What an access does that a chunk's bounds forbid.
-pub fn trespass_words(trespass: Trespass) -> &'static str {
-    match trespass {
-        Trespass::PastSize => "is past the size of its chunk",
-        Trespass::Freed => "is of a chunk that was freed",
-        Trespass::NoChunk => "is of no chunk",
     }
 }

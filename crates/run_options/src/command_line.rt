@@ -123,6 +123,8 @@ fn terms_options<'a>(alloc: Global, command: Command<'a>) -> Result<Command<'a>,
     let command = command.arg(seed(alloc))?;
     let command = command.arg(seeds(alloc))?;
     let command = command.arg(exact(alloc))?;
+    let help = "Ends it at the first use of a pointer that its own chunk does not allow";
+    let command = command.arg(flag(alloc, "check", help))?;
     let help = "The asynchronous tag mode";
     Ok(command.arg(flag(alloc, "async", help))?)
 }

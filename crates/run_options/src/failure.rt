@@ -64,6 +64,8 @@ pub enum Failure<'a> {
     WriteFile(&'a str, FileFault),
     /// A script's first faulty line, counted from 1, what is wrong with it, and which word.
     Script(u64, ScriptFault, WrongWord),
+    /// What watches the tenant's pointers could note no more, and why.
+    Check(&'static str),
 }
 
 impl<'a> Failure<'a> {
@@ -108,7 +110,7 @@ impl<'a> Failure<'a> {
     /// The exit status.
     fn status(&self) -> u8 {
         match self {
-            Failure::Memory => 4,
+            Failure::Memory | Failure::Check(_) => 4,
             Failure::Read(_, _) => 5,
             Failure::Write | Failure::WriteFile(_, _) => 6,
             Failure::Script(_, _, _) => 3,
@@ -126,6 +128,7 @@ impl<'a> fmt::Display for Failure<'a> {
             Failure::Script(line, fault, wrong) => {
                 write!(f, "script line {line}: {fault}: {wrong}")
             }
+            Failure::Check(why) => write!(f, "--check can note no more: {why}"),
         }
     }
 }

@@ -76,6 +76,8 @@ pub struct OutputOptions {
     pub sarif: Option<String>,
     /// Whether accesses are to keep to the bytes of chunks.
     pub exact: Exactness,
+    /// Whether each pointer is to be used as its own chunk allows, and lost chunks are told.
+    pub check: bool,
     /// The name of the file that the tenant's core is written into.
     pub core: Option<String>,
     /// Whether output for which there is no room is a failure.
@@ -314,6 +316,7 @@ impl OutputOptions {
             core: name_of(alloc, matches, "core")?,
             is_whole: matches.get_flag("whole-output"),
             is_raw: matches.get_flag("raw-output"),
+            check: matches.get_flag("check"),
             exact: match matches.get_str("exact") {
                 None => Exactness::Tags,
                 Some("writes") => Exactness::Writes,

@@ -26,6 +26,7 @@ pub fn observer_of<'a, 'i>(
     let exact = exact_of(rt.alloc(), output.exact);
     let observer = Observer::new(rt.alloc(), output.last, exact, tracer)?;
     let observer = observer.with_turns(rt.alloc(), output.turns)?;
+    let observer = observer.with_checker(rt.alloc(), output.check)?;
     Ok(observer.with_statistics(output.statistics))
 }
 

@@ -9,8 +9,9 @@ use instruction_trace::{Moment, SVC, Turn};
 use mte_svc::WRITE;
 use mte_tags::Paged;
 use mte_tenant::{Status, TenantParts, Watch};
+use pointer_provenance::Full;
 use run_book::Book;
-use run_cause::{Exact, Finding, LastStore, TargetLoad};
+use run_cause::{Checker, Exact, Finding, LastStore, TargetLoad};
 use run_options::Exactness;
 use run_statistics::{Statistics, StatisticsTable};
 use std::alloc::{AllocError, Global};
@@ -35,6 +36,8 @@ pub struct Observer<'a, W: Write + Drop> {
     tracer: Option<Tracer<'a, W>>,
     /// The bounds of chunks, where accesses are to keep to them.
     exact: Option<Exact>,
+    /// Where pointers come from, where each is to be used as its own chunk allows.
+    checker: Option<Checker>,
     /// The numbers of the run, where they are wanted.
     statistics: Option<Statistics>,
     /// Whether a service wrote fewer bytes than it was handed.
@@ -58,6 +61,7 @@ impl<'a, W: Write + Drop> Observer<'a, W> {
             turns: None,
             tracer,
             exact,
+            checker: None,
             statistics: None,
             is_cut: false,
             store: None,
@@ -84,9 +88,24 @@ impl<'a, W: Write + Drop> Observer<'a, W> {
         self
     }
 
+    /// The same that also watches where pointers come from, where that is wanted.
+    pub fn with_checker(
+        mut self,
+        alloc: Global,
+        wanted: bool,
+    ) -> Result<Observer<'a, W>, AllocError> {
+        if wanted {
+            self.checker = Some(Checker::new(alloc)?);
+        }
+        Ok(self)
+    }
+
     /// Whether it must watch from the first step on: it writes or counts or ends what it sees.
     pub fn needs_each_step(&self) -> bool {
-        self.tracer.is_some() || self.exact.is_some() || self.statistics.is_some()
+        self.tracer.is_some()
+            || self.exact.is_some()
+            || self.checker.is_some()
+            || self.statistics.is_some()
     }
 
     /// The last instructions.
@@ -112,7 +131,22 @@ impl<'a, W: Write + Drop> Observer<'a, W> {
 
     /// The access that ended the tenant beyond what its tags forbid, if one did.
     pub fn finding(&self) -> Option<&Finding> {
+        if let Some(checker) = &self.checker {
+            if let Some(finding) = checker.finding() {
+                return Some(finding);
+            }
+        }
         self.exact.as_ref()?.finding()
+    }
+
+    /// What is known of the tenant's pointers, where it is watched for that.
+    pub fn checker(&self) -> Option<&Checker> {
+        self.checker.as_ref()
+    }
+
+    /// Why what watches the pointers could note no more, if that is so.
+    pub fn full(&self) -> Option<Full> {
+        self.checker.as_ref()?.full()
     }
 
     /// The load that brought the target of the jump to no code that ended the tenant, if one did.
@@ -146,7 +180,7 @@ impl<'a, W: Write + Drop> Watcher for Observer<'a, W> {
     }
 
     fn has_ended(&self) -> bool {
-        self.is_watching && self.finding().is_some()
+        self.is_watching && (self.finding().is_some() || self.full().is_some())
     }
 }
 
@@ -182,6 +216,9 @@ impl<'a, W: Write + Drop> Watch for Observer<'a, W> {
         }
         if let Some(exact) = &mut self.exact {
             exact.note(moment, parts, call.as_ref(), memory);
+        }
+        if let Some(checker) = &mut self.checker {
+            checker.note(moment, parts, call.as_ref(), memory);
         }
     }
 }

@@ -72,7 +72,8 @@ fn ending_under<'x>(
     seed: u64,
 ) -> Result<TenantEnding, Obstacle<AdmitError>> {
     let exact = exact_of(alloc, options.output.exact);
-    let mut observer: Observer<'_, Log> = Observer::new(alloc, 1, exact, None)?;
+    let observer: Observer<'_, Log> = Observer::new(alloc, 1, exact, None)?;
+    let mut observer = observer.with_checker(alloc, options.output.check)?;
     let mut bench = TenantBench::new(alloc, &admission_of(options, image, input, seed))?;
     observer.is_watching = observer.needs_each_step();
     let mut out = OutputStream::silent();

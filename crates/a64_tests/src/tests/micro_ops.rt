@@ -26,9 +26,11 @@ fn blocks_go_on_behind_sums_and_not_behind_branches(rt: HostRuntime) -> Result<(
     };
     let goes_on = execute_op(&add, CODE, &mut regs, &mut memory, &mut outcome);
     assert!(rt; goes_on && regs.x[0] == 42 && regs.pc == 0);
+    outcome = Outcome::Next;
     let jump = Op::Jump { imm26: 2 };
     let goes_on = execute_op(&jump, CODE, &mut regs, &mut memory, &mut outcome);
     assert!(rt; !goes_on && regs.pc == CODE + 8);
+    outcome = Outcome::Next;
     // ldr x0, [x1] faults, since no page is mapped, at its own address.
     let load = Op::Load {
         imm12: 0,

@@ -1,0 +1,109 @@
+//! What services do to chunks and pointers.
+
+use crate::access::AccessedBytes;
+use crate::chunk_table::TracedChunk;
+use crate::origin::{PointerOrigin, Provenance};
+use crate::shadow::{Full, Shadow};
+use a64_bits::plain;
+use a64_registers::Regs;
+
+/// What a heap call that was answered did to chunks.
+#[derive(Clone, Copy, Debug, PartialEq, Eq)]
+pub struct ChunkChange {
+    /// The call's number, from 1.
+    pub number: u64,
+    /// The pointer that it returned, and the bytes that were asked for, where it made a chunk.
+    pub made: Option<(u64, u64)>,
+    /// The plain address of the chunk that it freed, or gave another size.
+    pub freed: Option<u64>,
+}
+
+impl Shadow {
+    /// Notes a service that completed and is no heap call: the bytes that it wrote are no
+    /// pointer's, and neither is its result.
+    pub fn note_service(&mut self, bytes: Option<AccessedBytes>, after: &Regs) {
+        if let Some(bytes) = bytes {
+            if bytes.is_write {
+                self.memory.clear(plain(bytes.addr), bytes.count);
+            }
+        }
+        self.set(0, Provenance::NONE, after);
+    }
+
+    /// Notes a heap call that was answered.
+    pub fn note_call(&mut self, change: &ChunkChange, after: &Regs) -> Result<(), Full> {
+        let old = match change.freed {
+            Some(start) => self.live_at(start),
+            None => None,
+        };
+        let made = match change.made {
+            Some((pointer, size)) => {
+                let chunk = TracedChunk {
+                    number: change.number,
+                    pointer,
+                    size: u32::try_from(size).unwrap_or(u32::MAX),
+                    is_live: true,
+                };
+                self.note_made(chunk, old)?
+            }
+            None => PointerOrigin::UNKNOWN,
+        };
+        if let Some((index, _)) = old {
+            if made.chunk() != Some(index) {
+                self.chunks.free(index);
+            }
+        }
+        self.set(0, Provenance::whole(made), after);
+        if self.memory.is_short {
+            return Err(Full::Pages);
+        }
+        Ok(())
+    }
+
+    /// The live chunk that begins at a plain address, with its index.
+    fn live_at(&self, start: u64) -> Option<(usize, TracedChunk)> {
+        let index = self.memory.owner(start).chunk()?;
+        match self.chunks.get(index) {
+            Some(chunk) if chunk.is_live && chunk.start() == start => Some((index, *chunk)),
+            _ => None,
+        }
+    }
+
+    /// Enters a chunk that a call returned, in place of an old one where it gave that another size.
+    /// Where the old one stays where it is, the pointers into it are those of the new one.
+    fn note_made(
+        &mut self,
+        chunk: TracedChunk,
+        old: Option<(usize, TracedChunk)>,
+    ) -> Result<PointerOrigin, Full> {
+        match old {
+            Some((index, old)) if old.start() == chunk.start() => {
+                self.chunks.replace(index, chunk);
+                let origin = PointerOrigin::of_chunk(index);
+                self.memory.set_owner(old.end(), chunk.end(), origin)?;
+                Ok(origin)
+            }
+            _ => self.note_new(chunk, old),
+        }
+    }
+
+    /// Enters a new chunk, with the pointers that were copied into it from an old one.
+    fn note_new(
+        &mut self,
+        chunk: TracedChunk,
+        old: Option<(usize, TracedChunk)>,
+    ) -> Result<PointerOrigin, Full> {
+        if self.chunks.is_full() && !self.give_up_chunks()? {
+            return Err(Full::Chunks);
+        }
+        let origin = PointerOrigin::of_chunk(self.chunks.enter(chunk)?);
+        self.memory.set_owner(chunk.start(), chunk.end(), origin)?;
+        self.memory.clear(chunk.start(), u64::from(chunk.size));
+        if let Some((_, old)) = old {
+            let bytes = old.size.min(chunk.size);
+            self.memory
+                .copy(old.start(), chunk.start(), u64::from(bytes))?;
+        }
+        Ok(origin)
+    }
+}

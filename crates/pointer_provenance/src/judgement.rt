@@ -1,0 +1,202 @@
+//! Whether an access or a free is one that its pointer's own chunk allows.
+
+use crate::access::{AccessedBytes, RegisterAccess};
+use crate::chunk_table::TracedChunk;
+use crate::origin::{OriginKind, PointerOrigin};
+use crate::pointer_sums::Sign;
+use crate::shadow::{Shadow, is_in_heap};
+use a64_bits::plain;
+use a64_instr::Instr;
+use address_map::PAGE_SIZE;
+use std::alloc::AllocError;
+
+/// What a pointer was used for that its chunk does not allow.
+#[derive(Clone, Copy, Debug, PartialEq, Eq)]
+pub enum MisuseKind {
+    /// An access to a chunk that was freed.
+    AfterFree,
+    /// An access past a chunk's end.
+    Overflow,
+    /// An access in front of a chunk.
+    Underflow,
+    /// An access to bytes of the heap that no chunk has, by a pointer of which nothing is known.
+    NoChunk,
+    /// A free of a chunk that was freed.
+    DoubleFree,
+    /// A free of a pointer into a chunk that is not the one to its start.
+    InnerFree,
+}
+
+/// A use of a pointer that its chunk does not allow.
+#[derive(Clone, Copy, Debug, PartialEq, Eq)]
+pub struct Misuse {
+    /// What is wrong.
+    pub kind: MisuseKind,
+    /// The plain address of the first byte that is wrong.
+    pub addr: u64,
+    /// The bytes that are accessed, of one register of a pair.
+    pub access: AccessedBytes,
+    /// The pointer's own chunk; where nothing is known of the pointer, the one that is or was at
+    /// the address.
+    pub chunk: Option<TracedChunk>,
+    /// Whether nothing is known of the pointer.
+    pub is_by_address: bool,
+}
+
+impl Shadow {
+    /// What is wrong with what an instruction loads or stores, of which nothing is noted yet. Where
+    /// it did not complete, only what is known of its pointer counts.
+    pub fn judge(
+        &mut self,
+        instr: &Instr,
+        access: &RegisterAccess,
+        is_completed: bool,
+    ) -> Result<Option<Misuse>, AllocError> {
+        let origin = self.address_origin(instr)?;
+        if origin == PointerOrigin::STACK || !(is_completed || origin.chunk().is_some()) {
+            return Ok(None);
+        }
+        let found = self.judge_bytes(origin, access.bytes);
+        if found.is_some() || access.second.is_none() {
+            return Ok(found);
+        }
+        Ok(self.judge_bytes(origin, access.bytes.next()))
+    }
+
+    /// Where the pointer points by which an instruction loads or stores.
+    fn address_origin(&mut self, instr: &Instr) -> Result<PointerOrigin, AllocError> {
+        match *instr {
+            Instr::LdStReg {
+                size,
+                rm,
+                option,
+                s,
+                rn,
+                ..
+            } => {
+                let is_plain = option % 4 == 3 && (s == 0 || size == 0);
+                let index = if is_plain {
+                    self.pointer(rm)
+                } else {
+                    PointerOrigin::UNKNOWN
+                };
+                self.combined(self.base(rn), index, Sign::Plus)
+            }
+            Instr::LdStImm { rn, .. }
+            | Instr::LdStUnscaled { rn, .. }
+            | Instr::LdStPost { rn, .. }
+            | Instr::LdStPre { rn, .. }
+            | Instr::PairPost { rn, .. }
+            | Instr::PairOff { rn, .. }
+            | Instr::PairPre { rn, .. }
+            | Instr::StGP { rn, .. } => Ok(self.base(rn)),
+            _ => Ok(PointerOrigin::UNKNOWN),
+        }
+    }
+
+    /// What is wrong with the bytes that a service accesses by the pointer in x0. Where it did not
+    /// complete, only what is known of the pointer counts.
+    pub fn judge_service(&self, bytes: AccessedBytes, is_completed: bool) -> Option<Misuse> {
+        let origin = self.pointer(0);
+        if bytes.count == 0 || !(is_completed || origin.chunk().is_some()) {
+            return None;
+        }
+        self.judge_bytes(origin, bytes)
+    }
+
+    /// What is wrong with the pointer in x0, which a heap call is to free or to give another size.
+    pub fn judge_free(&self, pointer: u64) -> Option<Misuse> {
+        let chunk = *self.chunk(self.pointer(0))?;
+        let kind = if !chunk.is_live {
+            MisuseKind::DoubleFree
+        } else if plain(pointer) != chunk.start() {
+            MisuseKind::InnerFree
+        } else {
+            return None;
+        };
+        Some(Misuse {
+            kind,
+            addr: plain(pointer),
+            access: AccessedBytes {
+                addr: pointer,
+                count: 0,
+                is_write: true,
+                is_register: false,
+            },
+            chunk: Some(chunk),
+            is_by_address: false,
+        })
+    }
+
+    /// What is wrong with an access by a pointer.
+    fn judge_bytes(&self, origin: PointerOrigin, access: AccessedBytes) -> Option<Misuse> {
+        match origin.kind() {
+            OriginKind::Stack => None,
+            OriginKind::Chunk(index) => {
+                let chunk = *self.chunks.get(index)?;
+                if self.stack == Some(index) && chunk.is_live {
+                    return None;
+                }
+                judge_in(chunk, access, false)
+            }
+            OriginKind::Unknown | OriginKind::Sum(_) => self.judge_by_address(access),
+        }
+    }
+
+    /// What is wrong with an access by a pointer of which nothing is known: by the chunk that is or
+    /// was at its address.
+    fn judge_by_address(&self, access: AccessedBytes) -> Option<Misuse> {
+        let addr = plain(access.addr);
+        if !is_in_heap(addr) {
+            return None;
+        }
+        match self.chunk(self.memory.owner(addr)) {
+            Some(chunk) => judge_in(*chunk, access, true),
+            None => Some(Misuse {
+                kind: MisuseKind::NoChunk,
+                addr,
+                access,
+                chunk: None,
+                is_by_address: true,
+            }),
+        }
+    }
+}
+
+/// What is wrong with an access to a chunk.
+fn judge_in(chunk: TracedChunk, access: AccessedBytes, is_by_address: bool) -> Option<Misuse> {
+    let addr = plain(access.addr);
+    let kind = if !chunk.is_live {
+        MisuseKind::AfterFree
+    } else if chunk.holds(addr, access.count)
+        || is_part_of_word(&chunk, access)
+        || addr < PAGE_SIZE
+    {
+        return None;
+    } else if addr < chunk.start() {
+        MisuseKind::Underflow
+    } else {
+        MisuseKind::Overflow
+    };
+    let is_past = kind == MisuseKind::Overflow && addr < chunk.end();
+    Some(Misuse {
+        kind,
+        addr: if is_past { chunk.end() } else { addr },
+        access,
+        chunk: Some(chunk),
+        is_by_address,
+    })
+}
+
+/// Whether an instruction reads an aligned word that begins in a chunk: functions that look at
+/// whole words read past its end, and look at none of those bytes.
+fn is_part_of_word(chunk: &TracedChunk, access: AccessedBytes) -> bool {
+    let addr = plain(access.addr);
+    let is_aligned = match access.count {
+        2 => addr % 2 == 0,
+        4 => addr % 4 == 0,
+        8 => addr % 8 == 0,
+        _ => false,
+    };
+    access.is_register && !access.is_write && is_aligned && chunk.begins_in(addr)
+}

@@ -1,0 +1,140 @@
+//! Where a value points.
+
+/// Where a value points. It has four bytes, since each word of memory has one.
+#[derive(Clone, Copy, Debug, PartialEq, Eq, PartialOrd, Ord)]
+pub struct PointerOrigin {
+    number: u32,
+}
+
+/// What an origin is.
+#[derive(Clone, Copy, Debug, PartialEq, Eq)]
+pub enum OriginKind {
+    /// None is known: the value is no pointer, or which one it is was lost.
+    Unknown,
+    /// The stack.
+    Stack,
+    /// The chunk at an index of the table of chunks.
+    Chunk(usize),
+    /// The sum at an index of the table of sums.
+    Sum(usize),
+}
+
+/// The number of the first chunk.
+const FIRST_CHUNK: u32 = 2;
+
+/// The number of the first sum.
+const FIRST_SUM: u32 = 0x8000_0000;
+
+impl PointerOrigin {
+    /// None is known.
+    pub const UNKNOWN: PointerOrigin = PointerOrigin { number: 0 };
+
+    /// The stack.
+    pub const STACK: PointerOrigin = PointerOrigin { number: 1 };
+
+    /// The chunk at an index, of those that have a number.
+    pub fn of_chunk(index: usize) -> PointerOrigin {
+        match u32::try_from(index) {
+            Ok(index) if index < FIRST_SUM - FIRST_CHUNK => PointerOrigin {
+                number: index + FIRST_CHUNK,
+            },
+            _ => PointerOrigin::UNKNOWN,
+        }
+    }
+
+    /// The sum at an index, of those that have a number.
+    pub fn of_sum(index: usize) -> PointerOrigin {
+        match u32::try_from(index) {
+            Ok(index) if index < FIRST_SUM => PointerOrigin {
+                number: index + FIRST_SUM,
+            },
+            _ => PointerOrigin::UNKNOWN,
+        }
+    }
+
+    /// What it is.
+    pub fn kind(self) -> OriginKind {
+        match self.number {
+            0 => OriginKind::Unknown,
+            1 => OriginKind::Stack,
+            number if number < FIRST_SUM => OriginKind::Chunk((number - FIRST_CHUNK) as usize),
+            number => OriginKind::Sum((number - FIRST_SUM) as usize),
+        }
+    }
+
+    /// Whether it is known.
+    pub fn is_known(self) -> bool {
+        self.number != 0
+    }
+
+    /// The index of the chunk that it is, if it is one.
+    pub fn chunk(self) -> Option<usize> {
+        match self.kind() {
+            OriginKind::Chunk(index) => Some(index),
+            _ => None,
+        }
+    }
+
+    /// The same, or that of another where it is not known.
+    pub fn or(self, other: PointerOrigin) -> PointerOrigin {
+        if self.is_known() { self } else { other }
+    }
+}
+
+/// How many bytes a pointer has.
+const POINTER_SIZE: u8 = 8;
+
+/// Of which pointer's bytes a value is made: `count` bytes of it from `first` on, the lowest byte
+/// of the value being the first of them.
+#[derive(Clone, Copy, Debug, PartialEq, Eq)]
+pub struct Provenance {
+    /// Where the pointer points.
+    pub origin: PointerOrigin,
+    /// The first of its bytes, 0 to 7.
+    pub first: u8,
+    /// How many bytes, at most 8.
+    pub count: u8,
+}
+
+impl Provenance {
+    /// Of none that is known.
+    pub const NONE: Provenance = Provenance {
+        origin: PointerOrigin::UNKNOWN,
+        first: 0,
+        count: 0,
+    };
+
+    /// All bytes of a pointer.
+    pub fn whole(origin: PointerOrigin) -> Provenance {
+        if origin.is_known() {
+            Provenance {
+                origin,
+                first: 0,
+                count: POINTER_SIZE,
+            }
+        } else {
+            Provenance::NONE
+        }
+    }
+
+    /// Where it points, if it is a whole pointer.
+    pub fn pointer(self) -> PointerOrigin {
+        if self.count == POINTER_SIZE {
+            self.origin
+        } else {
+            PointerOrigin::UNKNOWN
+        }
+    }
+
+    /// The value's bytes from one on, at most `count`.
+    pub fn part(self, first: u8, count: u8) -> Provenance {
+        if first >= self.count || count == 0 {
+            return Provenance::NONE;
+        }
+        Provenance {
+            origin: self.origin,
+            first: self.first.saturating_add(first),
+            count: count.min(self.count - first),
+        }
+    }
+}

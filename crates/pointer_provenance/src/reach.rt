@@ -1,0 +1,263 @@
+//! Which chunks a tenant can still reach.
+
+use crate::origin::{OriginKind, PointerOrigin};
+use crate::shadow::Shadow;
+use a64_bits::plain;
+use a64_registers::Regs;
+use mte_tags::Tagged;
+use std::alloc::{AllocError, Global};
+
+/// How a chunk is reached.
+#[derive(Clone, Copy, Debug, PartialEq, Eq)]
+pub enum Reach {
+    /// By no pointer, or it was freed.
+    Nothing,
+    /// From a register, the stack, writable memory of the image, or a chunk that is.
+    Reachable,
+    /// By nothing, but from the chunk itself.
+    Lost,
+    /// From a lost chunk alone.
+    IndirectlyLost,
+}
+
+/// A range of plain addresses whose words are looked at.
+#[derive(Clone, Copy, Debug, PartialEq, Eq)]
+pub struct RootRange {
+    /// The first address.
+    pub start: u64,
+    /// The address after the last.
+    pub end: u64,
+}
+
+/// How each chunk is reached, by its index.
+#[derive(Drop)]
+pub struct ReachTable {
+    states: Vec<Reach>,
+    /// The chunks whose words are still to be looked at.
+    waiting: Vec<usize>,
+}
+
+/// A live chunk that is not reached.
+#[derive(Clone, Copy, Debug, PartialEq, Eq)]
+pub struct LostChunk {
+    /// The number of the heap call that made it.
+    pub number: u64,
+    /// Its bytes.
+    pub size: u64,
+    /// Whether it is reached from another that is lost.
+    pub is_indirect: bool,
+}
+
+impl ReachTable {
+    /// How the chunks of a tenant are reached that ended, from its registers and the words of
+    /// ranges.
+    pub fn of<M: Tagged>(
+        alloc: Global,
+        shadow: &Shadow,
+        regs: &Regs,
+        roots: &[RootRange],
+        memory: &mut M,
+    ) -> Result<ReachTable, AllocError> {
+        let mut table = ReachTable {
+            states: vec![in alloc; Reach::Nothing; shadow.chunks.len()]?,
+            waiting: Vec::new(alloc),
+        };
+        table.enter_registers(shadow, regs)?;
+        table.enter_stack(shadow, regs.sp, memory)?;
+        for range in roots {
+            table.scan(shadow, range, Reach::Reachable, memory)?;
+        }
+        table.follow(shadow, Reach::Reachable, memory)?;
+        for index in 0..shadow.chunks.len() {
+            if table.is_unreached(shadow, index) {
+                table.lose(shadow, index, memory)?;
+            }
+        }
+        Ok(table)
+    }
+
+    /// The live chunks that are not reached, in the order of the table of chunks.
+    pub fn lost(&self, alloc: Global, shadow: &Shadow) -> Result<Vec<LostChunk>, AllocError> {
+        let mut lost = Vec::new(alloc);
+        for (index, state) in self.states.iter().enumerate() {
+            let is_indirect = match state {
+                Reach::Lost => false,
+                Reach::IndirectlyLost => true,
+                Reach::Nothing | Reach::Reachable => continue,
+            };
+            if let Some(chunk) = shadow.chunks.get(index) {
+                lost.push(LostChunk {
+                    number: chunk.number,
+                    size: u64::from(chunk.size),
+                    is_indirect,
+                })?;
+            }
+        }
+        Ok(lost)
+    }
+
+    /// How many chunks are reached.
+    pub fn reachable(&self) -> usize {
+        let mut count = 0usize;
+        for state in self.states.iter() {
+            if *state == Reach::Reachable {
+                count = count.saturating_add(1);
+            }
+        }
+        count
+    }
+
+    /// Whether a chunk is live and nothing was found that points into it.
+    fn is_unreached(&self, shadow: &Shadow, index: usize) -> bool {
+        let is_live = shadow.chunks.get(index).is_some_and(|chunk| chunk.is_live);
+        is_live && self.states.get(index) == Some(&Reach::Nothing)
+    }
+
+    /// Enters what the registers point into.
+    fn enter_registers(&mut self, shadow: &Shadow, regs: &Regs) -> Result<(), AllocError> {
+        for (n, number) in regs.x.iter().enumerate() {
+            let origin = shadow.register(u8::try_from(n).unwrap_or(31)).pointer();
+            self.enter(shadow, origin, *number, Reach::Reachable)?;
+        }
+        Ok(())
+    }
+
+    /// Enters the chunk that the stack is in, if it is in one, and what its words from SP on point
+    /// into.
+    fn enter_stack<M: Tagged>(
+        &mut self,
+        shadow: &Shadow,
+        sp: u64,
+        memory: &mut M,
+    ) -> Result<(), AllocError> {
+        let Some(index) = shadow.stack else {
+            return Ok(());
+        };
+        if let Some(state) = self.states.get_mut(index) {
+            *state = Reach::Reachable;
+        }
+        let Some(chunk) = shadow.chunks.get(index) else {
+            return Ok(());
+        };
+        let range = RootRange {
+            start: plain(sp).max(chunk.start()),
+            end: chunk.end(),
+        };
+        self.scan(shadow, &range, Reach::Reachable, memory)
+    }
+
+    /// Enters that a chunk is lost, and those that it leads to.
+    fn lose<M: Tagged>(
+        &mut self,
+        shadow: &Shadow,
+        index: usize,
+        memory: &mut M,
+    ) -> Result<(), AllocError> {
+        self.enter_chunk(shadow, index, Reach::IndirectlyLost)?;
+        self.follow(shadow, Reach::IndirectlyLost, memory)?;
+        if let Some(state) = self.states.get_mut(index) {
+            *state = Reach::Lost;
+        }
+        Ok(())
+    }
+
+    /// Looks at the words of the chunks that wait, and of those that they lead to.
+    fn follow<M: Tagged>(
+        &mut self,
+        shadow: &Shadow,
+        reach: Reach,
+        memory: &mut M,
+    ) -> Result<(), AllocError> {
+        for _ in 0..shadow.chunks.len().saturating_mul(2) {
+            let Some(index) = self.waiting.pop() else {
+                return Ok(());
+            };
+            if let Some(chunk) = shadow.chunks.get(index) {
+                let range = RootRange {
+                    start: chunk.start(),
+                    end: chunk.end(),
+                };
+                self.scan(shadow, &range, reach, memory)?;
+            }
+        }
+        Ok(())
+    }
+
+    /// Looks at the aligned words of a range.
+    fn scan<M: Tagged>(
+        &mut self,
+        shadow: &Shadow,
+        range: &RootRange,
+        reach: Reach,
+        memory: &mut M,
+    ) -> Result<(), AllocError> {
+        for word in range.start.div_ceil(8)..range.end / 8 {
+            let addr = plain(word.wrapping_mul(8));
+            let mut bytes = [0; 8];
+            if memory.read(addr, &mut bytes, false).is_ok() {
+                let origin = shadow.memory.load(addr, 8).pointer();
+                self.enter(shadow, origin, u64::from_le_bytes(bytes), reach)?;
+            }
+        }
+        Ok(())
+    }
+
+    /// Enters what a value points into: by where it came from, else by its number.
+    fn enter(
+        &mut self,
+        shadow: &Shadow,
+        origin: PointerOrigin,
+        number: u64,
+        reach: Reach,
+    ) -> Result<(), AllocError> {
+        match origin.kind() {
+            OriginKind::Chunk(index) => self.enter_chunk(shadow, index, reach),
+            OriginKind::Sum(index) => self.enter_sum(shadow, index, reach),
+            OriginKind::Unknown | OriginKind::Stack => {
+                match shadow.by_value(number).chunk() {
+                    Some(index) => self.enter_chunk(shadow, index, reach),
+                    None => Ok(()),
+                }
+            }
+        }
+    }
+
+    /// Enters what the pointers of a sum point into.
+    fn enter_sum(&mut self, shadow: &Shadow, index: usize, reach: Reach) -> Result<(), AllocError> {
+        let Some(sum) = shadow.sums.get(index) else {
+            return Ok(());
+        };
+        for term in sum.terms().iter() {
+            if let Some(index) = term.origin.chunk() {
+                self.enter_chunk(shadow, index, reach)?;
+            }
+        }
+        Ok(())
+    }
+
+    /// Enters that a chunk is reached, where it is live and was not. A chunk that counts as lost is
+    /// reached from another that is.
+    fn enter_chunk(
+        &mut self,
+        shadow: &Shadow,
+        index: usize,
+        reach: Reach,
+    ) -> Result<(), AllocError> {
+        let is_live = shadow.chunks.get(index).is_some_and(|chunk| chunk.is_live);
+        let Some(state) = self.states.get_mut(index) else {
+            return Ok(());
+        };
+        if !is_live {
+            return Ok(());
+        }
+        match *state {
+            Reach::Nothing => {
+                *state = reach;
+                self.waiting.push(index)?;
+            }
+            Reach::Lost => *state = Reach::IndirectlyLost,
+            Reach::Reachable | Reach::IndirectlyLost => {}
+        }
+        Ok(())
+    }
+}
