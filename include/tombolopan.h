@@ -504,6 +504,10 @@ static inline uint32_t tb_trace_step(tb_page *pages, size_t count, tb_tag_state 
     tb_give_back(pages, count);
     if (code != TB_FAULT || stop->fault.kind != TB_PERMISSION)
         return code;
+    /* A fetch that failed is no access. */
+    place = tb_place_of(pages, count, regs->pc);
+    if (place == count || (pages[place].attrs & TB_EXEC) == 0)
+        return code;
     if (accesses->count >= accesses->room) {
         static const tb_fault none = {0, 0, 0, 0, 0};
         stop->code = TB_NO_ROOM;

@@ -16,7 +16,7 @@ from tests.support.tools import need
 STRUCTS = {
     "LentPage": ("tb_page", "Page", "_Page"),
     "LentTagState": ("tb_tag_state", "TagState", "_TagState"),
-    "LentRegs": ("tb_regs", "Regs", "Regs"),
+    "LentRegs": ("tb_regs", "Regs", "_Regs"),
     "FaultReport": ("tb_fault", "Fault", "_Fault"),
     "StopReport": ("tb_stop", "Stop", "_Stop"),
     "HeapSetup": ("tb_heap_setup", "HeapSetup", "_HeapSetup"),

@@ -35,7 +35,7 @@ FILES = {
     "libtombolopan-dev": (r"usr/lib/[\w-]+/libtombolopan\.(a|so)", "usr/include/tombolopan.h",
                           r"usr/lib/[\w-]+/pkgconfig/tombolopan\.pc",
                           "usr/share/man/man3/(tombolopan|tb_run).3.gz"),
-    "python3-tombolopan": ("usr/lib/python3/dist-packages/tombolopan.py",),
+    "python3-tombolopan": (r"usr/lib/python3/dist-packages/tombolopan/(\w+\.py|py\.typed)",),
     "tombolopan-doc": ("usr/share/doc/tombolopan/README.md",
                        "usr/share/doc/tombolopan/docs/HOST.md",
                        "usr/share/doc/tombolopan/tombolopan.spdx.json"),
@@ -178,11 +178,11 @@ def test_library(root: Root, tmp_path: pathlib.Path) -> None:
     script = (EXAMPLES / "embed" / "first.py").read_text(encoding="utf-8")
     told = "print(sys.modules['tombolopan'].__file__, file=sys.stderr)"
     ran = root.run(["/usr/bin/python3", "-c", f"import sys\n{script}\n{told}"], tmp_path)
-    module = root.usr / "lib" / "python3" / "dist-packages" / "tombolopan.py"
+    module = root.usr / "lib" / "python3" / "dist-packages" / "tombolopan" / "__init__.py"
     assert ran == Ran(0, wanted.out, f"{module}\n".encode())
     assert list(module.parent.rglob("*.pyc"))
     root.manage("--remove", "python3-tombolopan")
-    assert not module.parent.exists()
+    assert not module.parents[1].exists()
 
 
 def test_unproved(alone: pathlib.Path, tmp_path: pathlib.Path) -> None:

@@ -161,7 +161,7 @@ def folders(host: pathlib.Path, shared: pathlib.Path) -> list[pathlib.Path]:
 def test_sessions(shared: pathlib.Path, folders: list[pathlib.Path], variant: str) -> None:
     """Reports, lines on standard error and statuses by tb_session are those of mte_host."""
     if variant == "python":
-        it = in_python(shared, EMBED / "tombolopan.py")
+        it = in_python(shared, EMBED / "tombolopan")
     else:
         it = program(shared, variant, "session")
     different = []
@@ -178,7 +178,7 @@ def test_sessions(shared: pathlib.Path, folders: list[pathlib.Path], variant: st
 def test_frames_that_are_none(shared: pathlib.Path, host: pathlib.Path, variant: str) -> None:
     """A number of frames that no host has is a usage fault, as of mte_host."""
     if variant == "python":
-        it = in_python(shared, EMBED / "tombolopan.py")
+        it = in_python(shared, EMBED / "tombolopan")
     else:
         it = program(shared, variant, "session")
     for frames in ("0", "65537", str((1 << 32) + 11), "x"):
@@ -198,14 +198,24 @@ def test_sessions_of_eight_threads(shared: pathlib.Path, folders: list[pathlib.P
     assert (ran.status, ran.output) == (0, f"8 threads: {count} of {count} as wanted\n"), ran.errors
 
 
+# Runs the examples in the texts of all modules of the package.
+DOCTESTS = """
+import doctest, importlib, pkgutil, tombolopan
+parts = [it.name for it in pkgutil.iter_modules(tombolopan.__path__) if it.name != "__main__"]
+modules = [tombolopan, *(importlib.import_module(f"tombolopan.{it}") for it in parts)]
+found = [doctest.testmod(it) for it in modules]
+tried = sum(it.attempted for it in found)
+print(f"{tried - sum(it.failed for it in found)} of {tried}")
+"""
+
+
 def test_the_examples_of_the_python_module(shared: pathlib.Path) -> None:
-    """What the module's own text shows."""
-    it = in_python(shared, EMBED / "tombolopan.py")
-    words = [sys.executable, "-B", "-m", "doctest", "-v", "tombolopan.py"]
-    ran = run(words, cwd=EMBED, extra=it.extra)
+    """What the texts of the package show."""
+    it = in_python(shared, EMBED / "tombolopan")
+    ran = run([sys.executable, "-B", "-c", DOCTESTS], cwd=EMBED, extra=it.extra)
     assert ran.status == 0, ran.output[-3000:]
-    found = re.search(r"^(\d+) passed", ran.output, re.M)
-    assert found and int(found[1]) > 30
+    found = re.search(r"^(\d+) of (\d+)$", ran.output, re.M)
+    assert found and found[1] == found[2] and int(found[1]) >= 80
 
 
 OUT_OF_RANGE = [
@@ -227,7 +237,7 @@ def test_python_refuses_numbers_that_do_not_fit(shared: pathlib.Path) -> None:
     text = "from tombolopan import *\ntagged = Memory(1)\ntagged.map(0, 4096, 15)\n"
     for call in OUT_OF_RANGE:
         text += f"try:\n    {call}\n    print({call!r})\nexcept ValueError:\n    pass\n"
-    it = in_python(shared, EMBED / "tombolopan.py")
+    it = in_python(shared, EMBED / "tombolopan")
     ran = run([sys.executable, "-B", "-c", text], extra=it.extra)
     assert (ran.status, ran.output, ran.errors) == (0, "", "")
 

@@ -1,7 +1,7 @@
 #!/usr/bin/env python3
 """The border to C: its numbers are written once, and its structs and calls compared.
 
-    border.py --check    exit with 1 where the header, tombolopan.rs, tombolopan.py or
+    border.py --check    exit with 1 where the header, tombolopan.rs, the package of Python or
                          docs/EMBEDDING.md says something else than the crate tombolopan_c, or the
                          header does not compile as C99, C11 and C++17
     border.py --write    write what tools/border_to_c/codes.toml has into these files

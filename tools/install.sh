@@ -10,8 +10,9 @@
 #     PREFIX/lib/pkgconfig        tombolopan.pc
 #     PREFIX/share/man            pages of the programs (1) and of the library and its calls (3)
 #     PREFIX/share/bash-completion, share/zsh, share/fish: completions
-#     PREFIX/share/tombolopan     tombolopan.py, tombolopan.rs, start.c, examples, the C library of
-#                                 tenants where it is built, installed (the list of all this)
+#     PREFIX/share/tombolopan     tombolopan (the package of Python), tombolopan.rs, start.c,
+#                                 examples, the C library of tenants where it is built, installed
+#                                 (the list of all this)
 #     PREFIX/share/doc/tombolopan the pages
 #
 # A copy of PREFIX elsewhere works too. What is not built yet is proved and built first
@@ -126,9 +127,10 @@ PC
     ln -s libtombolopan.so.2 "$stage/lib/libtombolopan.so"
     put include "$top/include/tombolopan.h" "$top/examples/c/tenant.h"
     put lib/pkgconfig "$work/tombolopan.pc"
-    put share/tombolopan "$top/examples/embed/tombolopan.py" "$top/examples/embed/tombolopan.rs" \
-        "$top/examples/c/start.c"
-    chmod 644 "$stage"/share/tombolopan/tombolopan.*
+    put share/tombolopan "$top/examples/embed/tombolopan.rs" "$top/examples/c/start.c"
+    put share/tombolopan/tombolopan "$top"/examples/embed/tombolopan/*.py \
+        "$top/examples/embed/tombolopan/py.typed"
+    chmod 644 "$stage"/share/tombolopan/tombolopan.rs "$stage"/share/tombolopan/tombolopan/*
 }
 
 # The examples, but for what was built in them; what tenant-cc reads of the table; and tools/batch,

@@ -5,7 +5,7 @@ one run.
     beside_scudo.py
 
 Writes the table of docs/ALLOCATORS.md. Scudo is that of Debian's libclang-rt-14-dev, natively on
-x86-64, where it has no tags; ours is the library (TOMBOLOPAN, as tombolopan.py says). Status 1
+x86-64, where it has no tags; ours is the library (TOMBOLOPAN names it). Status 1
 where a row is not as this file says: the same in both, or not.
 """
 from __future__ import annotations

@@ -666,7 +666,8 @@ impl Memory {
         self.pages.iter_mut().for_each(|it| it.attrs = (it.attrs & 15) << 4 | it.attrs & TB_EXEC);
         let stop = self.step(regs);
         self.pages.iter_mut().for_each(|it| it.attrs = it.attrs >> 4 & 15);
-        if stop.code != TB_FAULT || stop.fault.kind != TB_PERMISSION {
+        let is_fetched = self.page_of(regs.pc).is_some_and(|it| it.attrs & TB_EXEC != 0);
+        if stop.code != TB_FAULT || stop.fault.kind != TB_PERMISSION || !is_fetched {
             return stop;
         }
         if accesses.len() >= room {

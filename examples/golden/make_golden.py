@@ -6,7 +6,7 @@ lines. docs/GOLDEN.md has the format.
 
 Steps are drawn for each row of isa/a64.rows, for words that are no instruction (Refused) and for
 fetches that fault (Fetch): the same number of each, but for a remainder. The same COUNT and SEED
-give the same steps. The library is found as tombolopan.py says (TOMBOLOPAN).
+give the same steps. The library is found as the package tombolopan says (TOMBOLOPAN).
 """
 from __future__ import annotations
 
@@ -102,7 +102,7 @@ class Maker:
 
     def probe(self, word: int, regs: tb.Regs) -> tb.Stop:
         """How a word's step ends where every access faults; it changes a copy alone."""
-        return tb.step(blind_memory(word, regs.pc), tb.Regs.from_buffer_copy(regs))
+        return tb.step(blind_memory(word, regs.pc), regs.copy())
 
     def aim(self, word: int, regs: tb.Regs) -> tuple[int, int] | None:
         """Moves the base register of a load or a store, so that it accesses one of FOCUS. The plain

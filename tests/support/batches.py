@@ -13,10 +13,12 @@ from tests.support.running import Ran, Word, run
 BATCH = ROOT / "tools" / "batch"
 # A tombolopan.py that goes wrong before some sessions: {act} has what it does with a session's
 # frames, script and files.
-FAULTY = """import importlib.util, os, pathlib, signal, sys, time
-_spec = importlib.util.spec_from_file_location("real", {real!r})
-_real = sys.modules["real"] = importlib.util.module_from_spec(_spec)
-_spec.loader.exec_module(_real)
+FAULTY = """import os, pathlib, signal, sys, time
+_faulty = sys.modules.pop("tombolopan")
+sys.path.insert(0, {real!r})
+import tombolopan as _real
+del sys.path[0]
+sys.modules["tombolopan"] = _faulty
 ScriptError = _real.ScriptError
 
 def once(name):
@@ -69,7 +71,7 @@ class Batch:
         """The same over a library that goes wrong."""
         folder = self.sessions.with_name("faulty")
         folder.mkdir()
-        text = FAULTY.format(real=str(EXAMPLES / "embed" / "tombolopan.py"), folder=str(folder),
+        text = FAULTY.format(real=str(EXAMPLES / "embed"), folder=str(folder),
                              act=act)
         (folder / "tombolopan.py").write_text(text, encoding="utf-8")
         return Batch(self.sessions, {**self.extra, "PYTHONPATH": str(folder)}, self.options)

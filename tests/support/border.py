@@ -11,7 +11,7 @@ from tests.support.places import ROOT
 CRATE = ROOT / "crates" / "tombolopan_c" / "src"
 HEADER = "include/tombolopan.h"
 RUST = "examples/embed/tombolopan.rs"
-PYTHON = "examples/embed/tombolopan.py"
+PYTHON = "examples/embed/tombolopan/abi.py"
 CODES = "crates/tombolopan_c/src/codes.rt"
 Changed = tuple[str, str]  # a path and its text
 

@@ -15,6 +15,8 @@ from tests.support.running import Ran, run
 NOT_RUN = {
     r"^(rt ci|tests/run.sh)$": "proves everything, or is this suite",
     r"^apt-get ": "changes the machine; tests/packages.txt has what is needed",
+    r"^pip install ":
+        "changes the machine; tests/test_python_package.py installs the wheel into a folder",
     r"(^|/)build\.py( --c\+\+)?$":
         "fetches 131 MB and takes two minutes; the tests of the C and C++ libraries run it",
     r"(^|/)check\.sh$|^make check$": "takes minutes; the tests of its folder do the same",

@@ -22,7 +22,7 @@ from batch.sessions import Job
 
 Replies = list[tuple[str, Reply]]
 Runner = Callable[[Sequence[Job]], Replies]
-# Where the library is, as tombolopan.py reads it.
+# Where the library is, as the package tombolopan reads it.
 LIBRARY = "TOMBOLOPAN"
 # Where mte_split is, in place of that of this checkout or prefix.
 SPLIT = "TOMBOLOPAN_SPLIT"
@@ -30,7 +30,8 @@ SPLIT = "TOMBOLOPAN_SPLIT"
 
 def find_library() -> str:
     """The path of the library: what the variable names, or that of this checkout, or of the prefix
-    in which this is installed. The folder of tombolopan.py is put on the path of imports."""
+    in which this is installed. The folder that has the package tombolopan is put on the path of
+    imports."""
     top = pathlib.Path(__file__).resolve().parents[2]
     embed = top / "examples" / "embed"
     if str(embed) not in sys.path:

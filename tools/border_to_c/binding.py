@@ -1,4 +1,5 @@
-"""Reads the declarations of tombolopan.py: numbers, structures of ctypes and types of arguments."""
+"""Reads the declarations of the package of Python (abi.py): numbers, structures of ctypes and
+types of arguments."""
 
 import ast
 from typing import Union

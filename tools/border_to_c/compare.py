@@ -57,7 +57,7 @@ def rust_border(text: str, names: Names) -> Border:
 
 @functools.cache
 def python_border(text: str, names: Names) -> Border:
-    """What tombolopan.py declares."""
+    """What the package of Python declares."""
     tree = ast.parse(text)
     found = Border(binding.numbers(tree), binding.structs(tree), binding.calls(tree))
     return by_c_names(found, dict(names))

@@ -99,6 +99,28 @@ def indented(pairs: str) -> str:
     return filled.replace("\0", " ")
 
 
+def class_name(name: str) -> str:
+    """The name of an enum in Python."""
+    return "".join(it.title() for it in name.removeprefix("tb_").split("_"))
+
+
+def python_enum(it: Enum) -> str:
+    """An enum of Python: of words where its numbers have texts, else of numbers."""
+    base = "Word" if it.texts else "IntFlag" if it.name == "tb_attrs" else "IntEnum"
+    about = textwrap.fill(f'"""{it.about}"""', WIDTH - 4, subsequent_indent="    ",
+                          break_on_hyphens=False)
+    text = f"class {class_name(it.name)}({base}):\n    {about}\n\n"
+    for entry in it.entries:
+        said = f', "{entry.text}"' if it.texts else ""
+        text += f"    {entry.name.removeprefix('STATUS_')} = {entry.number}{said}\n"
+    return text
+
+
+def python_enums(tables: Tables) -> str:
+    """All enums in Python."""
+    return "\n\n".join(python_enum(it) for it in tables.enums)
+
+
 def in_a_table(about: str) -> str:
     """The first sentence of what is said of an enum, as a table has it."""
     first = about.partition(". ")[0].rstrip(".")
@@ -119,7 +141,8 @@ def page_table(tables: Tables) -> str:
 C, RUST, PYTHON, PAGE = ("// ", ""), ("// ", ""), ("# ", ""), ("<!-- ", " -->")
 HEADER = "include/tombolopan.h"
 RUST_FILE = "examples/embed/tombolopan.rs"
-PYTHON_FILE = "examples/embed/tombolopan.py"
+PYTHON_FILE = "examples/embed/tombolopan/abi.py"
+PYTHON_ENUMS = "examples/embed/tombolopan/enums.py"
 PAGE_FILE = "docs/EMBEDDING.md"
 PARTS = [
     Part(HEADER, C, "the numbers", c_enums),
@@ -127,6 +150,7 @@ PARTS = [
     Part(RUST_FILE, RUST, "the numbers", rust_constants),
     Part(RUST_FILE, RUST, "the texts", rust_functions),
     Part(PYTHON_FILE, PYTHON, "the numbers and texts", python_tables),
+    Part(PYTHON_ENUMS, PYTHON, "the enums", python_enums),
     Part(PAGE_FILE, PAGE, "the numbers", page_table),
 ]
 

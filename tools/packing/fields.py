@@ -75,18 +75,13 @@ def control(package: Package, values: dict[str, str], kilobytes: int) -> str:
     return "\n".join([*lines, *(f" {line}" for line in package.description.splitlines()), ""])
 
 
-# Python keeps what it compiled beside a module, which no list of files has.
+# Python keeps what it compiled beside modules, which no list of files has.
 CLEAN = """#!/bin/sh
 set -e
 find "${{DPKG_ROOT:-}}{folder}" -type d -name __pycache__ -prune \\
     -exec rm -rf {{}} + 2>/dev/null || true
 """
-CLEAN_MODULE = """#!/bin/sh
-set -e
-folder="${DPKG_ROOT:-}/usr/lib/python3/dist-packages"
-rm -f "$folder"/__pycache__/tombolopan.*.pyc
-rmdir "$folder/__pycache__" 2>/dev/null || true
-"""
+MODULES = "/usr/lib/python3/dist-packages/tombolopan"
 COMPILE_MODULE = """#!/bin/sh
 set -e
 if [ "$1" = configure ] && [ -z "${DPKG_ROOT:-}" ] && command -v py3compile >/dev/null 2>&1; then
@@ -100,7 +95,7 @@ def scripts(name: str) -> dict[str, str]:
     if name == PROGRAMS:
         return {"prerm": CLEAN.format(folder="/usr/share/tombolopan")}
     if name == PYTHON:
-        return {"postinst": COMPILE_MODULE, "prerm": CLEAN_MODULE}
+        return {"postinst": COMPILE_MODULE, "prerm": CLEAN.format(folder=MODULES)}
     return {}
 
 

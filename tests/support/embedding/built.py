@@ -72,9 +72,10 @@ def in_rust(shared: pathlib.Path, source: pathlib.Path, edition: str = "2021") -
 
 
 def in_python(shared: pathlib.Path, source: pathlib.Path) -> Program:
-    """A program of Python, which finds tombolopan.py and the shared object."""
+    """A program of Python, which finds the package tombolopan and the shared object."""
     path = os.pathsep.join(map(str, (EMBED, ROOT)))
-    return Program((sys.executable, "-B", str(source)),
+    words = ("-m", source.name) if source.is_dir() else (str(source),)
+    return Program((sys.executable, "-B", *words),
                    {"PYTHONPATH": path, "TOMBOLOPAN": str(library.shared_object(shared))})
 
 

@@ -1,5 +1,5 @@
-"""Answers the lines of calls.c by tombolopan.py: the library's calls with their structures, and
-what the module makes of them."""
+"""Answers the lines of calls.c by the package tombolopan: the library's calls with their
+structures, and what the package makes of them."""
 
 import ctypes
 import sys
@@ -8,8 +8,9 @@ from ctypes import byref
 from typing import Any
 
 import tombolopan as tb
+from tombolopan import abi
 
-LIBRARY = tb._library
+LIBRARY = abi._library
 Words = Iterator[str]
 
 
@@ -21,8 +22,18 @@ class Calls:
         self.regs = tb.Regs()
 
     def lent(self) -> tuple[Any, ...]:
-        """The memory as a call takes it."""
-        return tuple(self.memory._lent())
+        """The memory as a call takes it: all of its places."""
+        it = self.memory
+        assert it._limit <= len(it._places)
+        return it._places, it._limit, byref(it._state)
+
+    def look(self, code: int) -> str:
+        """Tells the module what a call of the library has mapped or unmapped."""
+        it = self.memory
+        it._index = {place.number: at for at, place in enumerate(it._places) if place.mapped}
+        it._used = max(it._index.values(), default=-1) + 1
+        it._free = [at for at in range(it._used) if not it._places[at].mapped]
+        return told(code)
 
     def version(self, words: Words) -> str:
         """The library's version."""
@@ -40,31 +51,33 @@ class Calls:
 
     def map(self, words: Words) -> str:
         """Maps a page."""
-        return told(LIBRARY.tb_map(*self.lent()[:2], number(words), number(words)))
+        return self.look(LIBRARY.tb_map(*self.lent()[:2], number(words), number(words)))
 
     def range(self, words: Words) -> str:
         """Maps pages, by the module's own function; its exception has the text of the code."""
         first, length, attrs = number(words), number(words), number(words)
         try:
             self.memory.map(first * 4096, length * 4096, attrs)
-        except ValueError as error:
-            return told(next(code for code, text in tb.CODES.items() if text == str(error)))
+        except tb.MappingError as error:
+            return told(error.code.number)
+        except ValueError:
+            return told(tb.BAD_ARGUMENT)
         return told(tb.OK)
 
     def unmap(self, words: Words) -> str:
         """Unmaps a page."""
-        return told(LIBRARY.tb_unmap(*self.lent()[:2], number(words)))
+        return self.look(LIBRARY.tb_unmap(*self.lent()[:2], number(words)))
 
     def write(self, words: Words) -> str:
         """Writes bytes."""
-        fault, addr, check = tb._Fault(), number(words), number(words) != 0
-        data = tb._lend(raw(words))
+        fault, addr, check = abi._Fault(), number(words), number(words) != 0
+        data = abi._lend(raw(words))
         code = LIBRARY.tb_write(*self.lent(), addr, data.bytes, data.length, check, byref(fault))
         return told(code) + fault_of(fault) + told(self.memory._state.pending)
 
     def read(self, words: Words) -> str:
         """Reads bytes."""
-        fault, addr, check, length = tb._Fault(), number(words), number(words) != 0, number(words)
+        fault, addr, check, length = abi._Fault(), number(words), number(words) != 0, number(words)
         buffer = ctypes.create_string_buffer(max(length, 1))
         code = LIBRARY.tb_read(*self.lent(), addr, buffer, length, check, byref(fault))
         text = told(code) + fault_of(fault) + hexed(buffer.raw[:length])
@@ -72,25 +85,25 @@ class Calls:
 
     def load(self, words: Words) -> str:
         """Loads bytes."""
-        addr, data = number(words), tb._lend(raw(words))
+        addr, data = number(words), abi._lend(raw(words))
         return told(LIBRARY.tb_load(*self.lent(), addr, data.bytes, data.length))
 
     def load_tag(self, words: Words) -> str:
         """A granule's tag."""
-        tag, fault = ctypes.c_uint8(0xEE), tb._Fault()
+        tag, fault = ctypes.c_uint8(0xEE), abi._Fault()
         code = LIBRARY.tb_load_tag(*self.lent(), number(words), byref(tag), byref(fault))
         return told(code, tag.value) + fault_of(fault)
 
     def store_tags(self, words: Words) -> str:
         """Replaces tags."""
-        fault, rest = tb._Fault(), [number(words) for _ in range(4)]
+        fault, rest = abi._Fault(), [number(words) for _ in range(4)]
         code = LIBRARY.tb_store_tags(*self.lent(), *rest[:3], rest[3] != 0, byref(fault))
         return told(code) + fault_of(fault)
 
     def set(self, words: Words) -> str:
         """Sets all registers."""
         values = [int(it, 0) for it in words]
-        self.regs = tb.Regs((ctypes.c_uint64 * 31)(*values[:31]), *values[31:])
+        self.regs = tb.Regs(values[:31], *values[31:])
         return ""
 
     def registers(self, words: Words) -> str:
@@ -100,28 +113,36 @@ class Calls:
 
     def step(self, words: Words) -> str:
         """Attempts an instruction."""
-        stop = tb._Stop()
-        return stop_of(LIBRARY.tb_step(*self.lent(), byref(self.regs), byref(stop)), stop)
+        stop = abi._Stop()
+        return stop_of(LIBRARY.tb_step(*self.lent(), byref(self.regs._held), byref(stop)), stop)
 
     def run(self, words: Words) -> str:
         """Attempts instructions."""
-        stop = tb._Stop()
-        code = LIBRARY.tb_run(*self.lent(), byref(self.regs), number(words), byref(stop))
+        stop = abi._Stop()
+        code = LIBRARY.tb_run(*self.lent(), byref(self.regs._held), number(words), byref(stop))
         return stop_of(code, stop)
 
     def until(self, words: Words) -> str:
         """Attempts instructions, up to some addresses."""
-        stop, steps, count = tb._Stop(), number(words), number(words)
+        stop, steps, count = abi._Stop(), number(words), number(words)
         stops = (ctypes.c_uint64 * max(count, 1))(*(int(it, 0) for it in words))
         code = LIBRARY.tb_run_until(
-            *self.lent(), byref(self.regs), steps, stops, count, byref(stop)
+            *self.lent(), byref(self.regs._held), steps, stops, count, byref(stop)
         )
         return stop_of(code, stop)
 
     def peek(self, words: Words) -> str:
         """A number of the memory."""
-        addr, length = number(words), number(words)
-        return told(int.from_bytes(self.memory.peek(addr, min(length, 8)), "little"))
+        addr, length = number(words), min(number(words), 8)
+        return told(sum(self.byte(addr + at) << 8 * at for at in range(length)))
+
+    def byte(self, addr: int) -> int:
+        """A byte of the memory, 0 where no page is mapped: the module raises there."""
+        try:
+            return self.memory.peek(addr % (1 << 64), 1)[0]
+        except tb.Fault as fault:
+            assert fault.kind == tb.FaultKind.TRANSLATION
+            return 0
 
     def size(self, words: Words) -> str:
         """How many bytes a word accesses."""
@@ -132,7 +153,7 @@ class Calls:
         steps, room = number(words), number(words)
         accesses: list[Any] = []
         stop = tb.trace(self.memory, self.regs, steps, accesses, room)
-        code = next(code for code, text in tb.CODES.items() if text == stop.code)
+        code = stop.code.number
         rows = "".join(
             " |" + told(it.pc, it.address, it.value % (1 << 64), it.value >> 64 & (1 << 64) - 1,
                         it.word, it.size, it.write, it.memory_tag)
@@ -148,9 +169,9 @@ class Calls:
 
     def heap(self, words: Words) -> str:
         """Calls of a heap."""
-        setup = tb._HeapSetup(*(number(words) for _ in range(5)))
+        setup = abi._HeapSetup(*(number(words) for _ in range(5)))
         count = number(words)
-        calls = (tb._HeapCall * max(count, 1))()
+        calls = (abi._HeapCall * max(count, 1))()
         for it in calls[:count]:
             it.op, it.first, it.second = number(words), number(words), number(words)
         text = told(LIBRARY.tb_heap_calls(byref(setup), calls, count))
@@ -162,8 +183,8 @@ class Calls:
         """A session."""
         frames, room, script = number(words), number(words), raw(words)
         files = [raw(words) for _ in range(number(words))]
-        lent = (tb._Bytes * max(len(files), 1))(*map(tb._lend, files))
-        end, lines = tb._SessionEnd(), tb._lend(script)
+        lent = (abi._Bytes * max(len(files), 1))(*map(abi._lend, files))
+        end, lines = abi._SessionEnd(), abi._lend(script)
         report = ctypes.create_string_buffer(b"\xee" * max(room, 1), max(room, 1))
         code = LIBRARY.tb_session(
             frames, lines.bytes, lines.length, lent, len(files), report, room, byref(end)
@@ -176,12 +197,12 @@ class Calls:
         seed, pages, out, asynchronous = (number(words) for _ in range(4))
         room, call_room, count = (number(words) for _ in range(3))
         slices = (ctypes.c_uint32 * max(count, 1))(*(int(it, 0) for it in words))
-        program, data = tb._lend(image), tb._lend(given)
-        terms = tb._Terms(
+        program, data = abi._lend(image), abi._lend(given)
+        terms = abi._Terms(
             program.bytes, program.length, data.bytes, data.length, ctypes.addressof(slices), count,
             seed, pages, out, asynchronous, 0,
         )
-        end, calls = tb._AloneEnd(), (tb._KeptCall * max(call_room, 1))()
+        end, calls = abi._AloneEnd(), (abi._KeptCall * max(call_room, 1))()
         output = ctypes.create_string_buffer(max(room, 1))
         code = LIBRARY.tb_alone(byref(terms), output, room, calls, call_room, byref(end))
         it = end.status
@@ -230,8 +251,7 @@ def error_of(it: Any) -> str:
     """The fault that an exception of the module has, or none."""
     if it is None:
         return told(0, 0, 0, 0, 0)
-    kind = next(kind for kind, name in tb.FAULT_KINDS.items() if name == it.kind)
-    return told(it.address, kind, it.write, it.pointer_tag, it.memory_tag)
+    return told(it.address, it.kind.number, it.write, it.pointer_tag, it.memory_tag)
 
 
 def stop_of(code: int, it: Any) -> str:

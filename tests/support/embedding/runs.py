@@ -153,6 +153,10 @@ def traces() -> Iterator[Line]:
     yield at.set()
     yield line("trace 9 9", FAULT, 8, FAULT, 0, DATA, TAG_CHECK, 0, 6, 5)
     yield line("place 1", DATA // 4096, 1, 11, weighed_page(bytes_there, high), 5 + 10 + 28)
+    # A page without EXEC: a fetch that fails is no access, and needs no room.
+    at.pc = DATA
+    yield at.set()
+    yield line("trace 9 0", FAULT, 8, FAULT, 0, DATA, PERMISSION, 0, 0, 0)
 
 
 def weighed_page(there: bytes, high: int) -> int:
