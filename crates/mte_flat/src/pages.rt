@@ -1,7 +1,8 @@
 //! The pages of the plain memory, in one list.
 
 ghost use Rattle.std.specs.Prelude.{◌≡◌, ℕ, ◌<◌, ◌≤◌, ◌+◌, ◌^◌, None, IfOk, IfSome, IsNone};
-ghost use Rattle.std.specs.Prelude.{option_map};
+ghost use Rattle.std.specs.Prelude.{◌/◌, ◌%◌, Some, option_map};
+ghost use Rattle.a64_bits.specs.Addresses.{plain};
 ghost use Rattle.std.specs.Prelude.{length, slice_index_or, vec_len, vec_capacity};
 ghost use Rattle.mte_tags.specs.Memory.{Memory, page_at, no_pages};
 ghost use Rattle.mte_tags.specs.Memory.{with_new_pages, without_pages, IsFree, ArePages};
@@ -29,7 +30,7 @@ pub(crate) struct Pages {
 }
 
 impl Pages {
-    ghost use Rattle.mte_flat.specs.Inner.Places.{memory_of};
+    ghost use Rattle.mte_flat.specs.Inner.Places.{memory_of, IsPlace, number_in, page_in};
 
     /// No pages, with memory for `limit`.
     pub(crate) fn new(alloc: Global, limit: usize, mode: TagMode) -> Result<Pages, AllocError>
@@ -61,6 +62,25 @@ impl Pages {
             finder,
             state: self.state,
         })
+    }
+
+    /// The slot that was found last for the page of an address, where it holds that page and one
+    /// granule holds the bytes of an access.
+    #[inline(always)]
+    fn last_place(&self, addr: u64, size: u64) -> Option<usize>
+        requires most { size ≤ 16 }
+        ensures place { IfSome result (λ i. IsPlace self.now i) }
+        ensures number { IfSome result (λ i. number_in self.now i ≡ plain addr / 4096) }
+        ensures page { IfSome result (λ i.
+            page_at (memory_of self.now) (plain addr / 4096) ≡ Some (page_in self.now i)) }
+        ensures inside { IfSome result (λ _. plain addr % 16 + size ≤ 16) }
+    {
+        let page = plain(addr) / 4096;
+        let place = self.finder.last(page);
+        if holds(&self.slots, place, page) && plain(addr) % 16 <= 16 - size {
+            return Some(place);
+        }
+        None
     }
 
     /// The pages that are mapped, in the order of their slots.
@@ -99,6 +119,24 @@ impl PageStore for Pages {
     #[inline(always)]
     fn find(&mut self, page: u64) -> Option<usize> {
         find(&self.slots, &mut self.finder, page)
+    }
+
+    #[inline(always)]
+    fn readable_place(&self, addr: u64, size: u64) -> Option<usize> {
+        let place = self.last_place(addr, size)?;
+        if self.slots[place].attrs.contains(Attrs::READ) {
+            return Some(place);
+        }
+        None
+    }
+
+    #[inline(always)]
+    fn writable_place(&self, addr: u64, size: u64) -> Option<usize> {
+        let place = self.last_place(addr, size)?;
+        if self.slots[place].attrs.contains(Attrs::WRITE) {
+            return Some(place);
+        }
+        None
     }
 
     /// Mostly the page of the instruction before, which no hash leads to.

@@ -1,13 +1,14 @@
 -- The places of a space: the pages that it remembers, each in the frame that was found for it.
-use Rattle.std.specs.Prelude.{ℕ, ◌<◌, ◌^◌, get_or, length}
+use Rattle.std.specs.Prelude.{ℕ, ◌<◌, ◌/◌, ◌^◌, get_or, length}
 use Rattle.mte_tags.specs.Memory.{Page}
 use Rattle.mte_space.specs.Spaces.{page_of}
+use Rattle.mte_space.specs.Remembered.{attrs_of}
 use Rattle.mte_space.specs.declared.remembered.RememberedPage.{RememberedPage}
 use Rattle.mte_space.specs.declared.space.Space.{Space}
 
 -- for where no place is
 abbrev pub no_page : RememberedPage
-no_page = record { page = 0; frame = 0; attrs = record { 0 = 0 } }
+no_page = record { address = 0; frame = 0; attrs = 0 }
 
 -- The remembered page with an index.
 abbrev pub remembered_in : Space → ℕ → RememberedPage
@@ -15,12 +16,12 @@ remembered_in s i = get_or s.remembered i no_page
 
 -- a place in which a page was found
 abbrev pub IsPlace : Space → ℕ → Type 0
-IsPlace s i = (i < length s.remembered) × ((remembered_in s i).page < 2 ^ 44)
+IsPlace s i = (i < length s.remembered) × ((remembered_in s i).address < 2 ^ 56)
 
 -- The number of a remembered page.
 abbrev pub number_in : Space → ℕ → ℕ
-number_in s i = (remembered_in s i).page
+number_in s i = (remembered_in s i).address / 4096
 
 -- The bytes, tags and attributes of a remembered page.
 abbrev pub page_in : Space → ℕ → Page
-page_in s i = page_of s.pool.now ((remembered_in s i).frame, (remembered_in s i).attrs)
+page_in s i = page_of s.pool.now ((remembered_in s i).frame, attrs_of (remembered_in s i))

@@ -1,23 +1,64 @@
 //! Where a space's last accesses found their pages.
 
+ghost use Rattle.std.specs.Prelude.{◌≡◌, ◌<◌, ◌≤◌, ◌*◌, ◌/◌, ◌%◌, ◌^◌, IsTrue};
+ghost use Rattle.a64_bits.specs.Addresses.{plain};
 ghost use Rattle.mte_translate.specs.Tables.{Pages};
-ghost use Rattle.mte_space.specs.Remembered.{AreUpToDate};
+ghost use Rattle.mte_space.specs.Remembered.{attrs_of, AreUpToDate};
 
+use a64_bits::plain;
 use mte_tags::Attrs;
 
 /// A page, and where it was found.
 #[derive(Clone, Copy)]
 pub(crate) struct RememberedPage {
-    /// The number of the page; 2^64 - 1, which no page has, where none was found yet.
-    pub(crate) page: u64,
+    /// The address of the page; 2^64 - 1, which no page has, where none was found yet.
+    pub(crate) address: u64,
     /// The number of the frame that holds the page.
     pub(crate) frame: usize,
-    /// What may be done with the page.
-    pub(crate) attrs: Attrs,
+    /// The number of its attributes: what may be done with it.
+    attrs: u64,
 }
 
-/// How many pages of data a space remembers, one for each remainder of their numbers modulo 16.
-pub(crate) const DATA_PAGES: usize = 16;
+impl RememberedPage {
+    /// A page in a frame.
+    pub(crate) fn new(page: u64, frame: usize, attrs: Attrs) -> RememberedPage
+        requires { page < 2 ^ 44 }
+        ensures address { result.address ≡ page * 4096 }
+        ensures frame { result.frame ≡ frame }
+        ensures attrs { attrs_of result ≡ attrs }
+    {
+        RememberedPage {
+            address: page * 4096,
+            frame,
+            attrs: u64::from(attrs.0),
+        }
+    }
+
+    /// What may be done with the page.
+    #[inline(always)]
+    pub(crate) fn attrs(&self) -> Attrs
+        ensures { result ≡ attrs_of self.now }
+    {
+        Attrs((self.attrs % 256) as u8)
+    }
+
+    /// Whether it is the page of an access of `size` bytes whose address is a multiple of them. One
+    /// comparison says both.
+    #[inline(always)]
+    pub(crate) fn holds(&self, addr: u64, size: u64) -> bool
+        requires page { self.now.address < 2 ^ 56 → self.now.address % 4096 ≡ 0 }
+        requires some { 0 < size }
+        requires most { size ≤ 16 }
+        ensures address { IsTrue result → self.now.address < 2 ^ 56 }
+        ensures page { IsTrue result → self.now.address / 4096 ≡ plain addr / 4096 }
+        ensures aligned { IsTrue result → addr % size ≡ 0 }
+    {
+        self.address == plain(addr) / 4096 * 4096 + addr % size
+    }
+}
+
+/// How many pages of data a space remembers, one for each place.
+pub(crate) const DATA_PAGES: usize = 64;
 
 /// The place of the page that instructions were fetched from, behind those of data.
 pub(crate) const CODE_PLACE: usize = DATA_PAGES;
@@ -25,14 +66,26 @@ pub(crate) const CODE_PLACE: usize = DATA_PAGES;
 /// How many pages a space remembers.
 pub(crate) const PLACES: usize = DATA_PAGES + 1;
 
+/// The pages from the start of one region of the heap to the start of the next.
+const REGION_PAGES: u64 = 4096;
+
+/// The place of a page of data. The first pages of the regions of all size classes, 16 MiB apart,
+/// have places of their own.
+#[inline(always)]
+pub(crate) fn data_place(page: u64) -> usize
+    ensures { result < DATA_PAGES }
+{
+    ((page ^ page / REGION_PAGES) % DATA_PAGES as u64) as usize
+}
+
 /// What is remembered where no page was found yet.
 pub(crate) fn no_pages() -> [RememberedPage; PLACES]
     ensures { (m : Pages) → AreUpToDate m result }
 {
     let none = RememberedPage {
-        page: u64::MAX,
-        frame: 0,
-        attrs: Attrs::NONE,
+        address: u64::MAX,
+        frame: usize::MAX,
+        attrs: u64::MAX,
     };
     [none; PLACES]
 }

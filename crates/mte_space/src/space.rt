@@ -7,7 +7,7 @@ ghost use Rattle.mte_space.specs.Remembered.{AreUpToDate};
 ghost use Rattle.mte_space.specs.Spaces.{space_memory, IsSpace, HasFrames};
 
 use crate::mapping::{PageRange, map_range, unmap_range};
-use crate::remembered::{CODE_PLACE, DATA_PAGES, PLACES, RememberedPage, no_pages};
+use crate::remembered::{CODE_PLACE, PLACES, RememberedPage, data_place, no_pages};
 use crate::translation::remember;
 use crate::writing::{retag_frame, write_frame};
 use a64_bits::plain;
@@ -18,7 +18,7 @@ use mte_translate::{Table, Tlb};
 /// A tenant's memory: the pages that its table maps, in frames of a pool that it shares with other
 /// tenants, under its quota. Translations of its ASID are remembered in a translation lookaside
 /// buffer, which it shares too, and where its last accesses found their pages it remembers itself:
-/// one page for fetches, and sixteen for data.
+/// one page for fetches, and sixty-four for data.
 #[derive(Drop)]
 pub struct Space<'a> {
     pool: &'a mut FramePool,
@@ -117,8 +117,27 @@ impl PageStore for Space<'_> {
 
     #[inline(always)]
     fn find(&mut self, page: u64) -> Option<usize> {
-        let place = (page % DATA_PAGES as u64) as usize;
-        self.find_at(place, page)
+        self.find_at(data_place(page), page)
+    }
+
+    #[inline(always)]
+    fn readable_place(&self, addr: u64, size: u64) -> Option<usize> {
+        let place = data_place(addr / 4096);
+        let page = &self.remembered[place];
+        if page.holds(addr, size) && page.attrs().contains(Attrs::READ) {
+            return Some(place);
+        }
+        None
+    }
+
+    #[inline(always)]
+    fn writable_place(&self, addr: u64, size: u64) -> Option<usize> {
+        let place = data_place(addr / 4096);
+        let page = &self.remembered[place];
+        if page.holds(addr, size) && page.attrs().contains(Attrs::WRITE) {
+            return Some(place);
+        }
+        None
     }
 
     #[inline(always)]
@@ -128,7 +147,7 @@ impl PageStore for Space<'_> {
 
     #[inline(always)]
     fn attrs(&self, place: usize) -> Attrs {
-        self.remembered[place].attrs
+        self.remembered[place].attrs()
     }
 
     #[inline(always)]

@@ -1,6 +1,6 @@
 //! The translation of a page, by the lookaside buffer and the table.
 
-ghost use Rattle.std.specs.Prelude.{◌≡◌, ◌<◌, ◌^◌, IsTrue, IsFalse, IfSome, Some, None};
+ghost use Rattle.std.specs.Prelude.{◌≡◌, ◌<◌, ◌*◌, ◌^◌, IsTrue, IsFalse, IfSome, Some, None};
 ghost use Rattle.std.specs.FinMap.{get};
 ghost use Rattle.mte_translate.specs.Tables.{pages_of, IsSomeTable, IsCached};
 ghost use Rattle.mte_translate.specs.Translations.{lookup};
@@ -52,13 +52,13 @@ pub(crate) fn remember(
     requires table { IsSomeTable pool.now table.now }
     requires cached { IsCached (pages_of pool.now table.now.frame) asid tlb.old }
     requires remembered { IsUpToDate (pages_of pool.now table.now.frame) remembered.old }
-    ensures found { IsTrue result → remembered.new.page ≡ page }
+    ensures found { IsTrue result → remembered.new.address ≡ page * 4096 }
     ensures none { IsFalse result → get (pages_of pool.now table.now.frame) page ≡ None }
     ensures cached { IsCached (pages_of pool.now table.now.frame) asid tlb.new }
     ensures remembered { IsUpToDate (pages_of pool.now table.now.frame) remembered.new }
     ensures entries { NoneEnters asid tlb.old tlb.new }
 {
-    if remembered.page == page {
+    if remembered.address == page * 4096 {
         return true;
     }
     look_up(remembered, pool, table, tlb, asid, page)
@@ -79,7 +79,7 @@ fn look_up(
     requires table { IsSomeTable pool.now table.now }
     requires cached { IsCached (pages_of pool.now table.now.frame) asid tlb.old }
     requires remembered { IsUpToDate (pages_of pool.now table.now.frame) remembered.old }
-    ensures found { IsTrue result → remembered.new.page ≡ page }
+    ensures found { IsTrue result → remembered.new.address ≡ page * 4096 }
     ensures none { IsFalse result → get (pages_of pool.now table.now.frame) page ≡ None }
     ensures cached { IsCached (pages_of pool.now table.now.frame) asid tlb.new }
     ensures remembered { IsUpToDate (pages_of pool.now table.now.frame) remembered.new }
@@ -88,7 +88,7 @@ fn look_up(
     let Some((frame, attrs)) = translate(pool, table, tlb, asid, page) else {
         return false;
     };
-    *remembered = RememberedPage { page, frame, attrs };
+    *remembered = RememberedPage::new(page, frame, attrs);
     true
 }
 

@@ -10,6 +10,7 @@ pub mod TagLaws
 pub mod FaultLaws
 pub mod AddressLists
 pub mod ModeLaws
+mod SameAccess
 pub mod RunSteps
 pub mod GranuleLists
 pub mod PageRuns

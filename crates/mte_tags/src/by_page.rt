@@ -12,6 +12,7 @@ ghost use Rattle.mte_tags.specs.Accesses.{fetch_result, read_fault, read_bytes, 
 ghost use Rattle.mte_tags.specs.Accesses.{write_fault};
 ghost use Rattle.mte_tags.specs.Accesses.{with_bytes_at, after_write, tags_fault};
 ghost use Rattle.mte_tags.specs.Accesses.{tag_load_fault, fault, fetch_access};
+ghost use Rattle.mte_tags.specs.Accesses.{read_access, write_access};
 
 use crate::access::Access;
 use crate::attrs::Attrs;
@@ -133,60 +134,57 @@ pub fn replace_bytes<S: PageStore>(store: &mut S, at: u64, bytes: &[u8])
 #[inline(never)]
 fn read_across_pages<S: PageStore>(
     store: &mut S,
-    at: u64,
+    addr: u64,
     buffer: &mut [u8],
-    access: &Access,
+    checked: bool,
 ) -> Result<(), MemFault>
-    requires plain { at < 2 ^ 56 }
-    ensures read { IsRead (S.memory store.old) (S.memory store.new) access.now at
-        buffer.old buffer.new result }
+    ensures read { IsRead (S.memory store.old) (S.memory store.new) (read_access addr checked)
+        (plain addr) buffer.old buffer.new result }
     ensures kept { S.kept store.old store.new }
 {
-    check_in_mode(store, at, buffer.len(), access)?;
+    let at = plain(addr);
+    check_in_mode(store, at, buffer.len(), &Access::reading(addr, checked))?;
     copy_out(store, at, buffer);
     Ok(())
 }
 
-/// Copies bytes out where not one granule holds them all or the first fails.
-#[inline(never)]
-fn read_out_of_line<S: PageStore>(
+/// Copies bytes out where that was not quick, or returns the fault of the first that fails.
+#[inline(always)]
+fn read_far<S: PageStore>(
     store: &mut S,
-    at: u64,
+    addr: u64,
     buffer: &mut [u8],
-    access: &Access,
+    checked: bool,
 ) -> Result<(), MemFault>
-    requires plain { at < 2 ^ 56 }
-    ensures read { IsRead (S.memory store.old) (S.memory store.new) access.now at
-        buffer.old buffer.new result }
+    ensures read { IsRead (S.memory store.old) (S.memory store.new) (read_access addr checked)
+        (plain addr) buffer.old buffer.new result }
     ensures kept { S.kept store.old store.new }
 {
-    if try_read_in_page(store, at, buffer, access) {
+    if try_read_in_page(store, addr, buffer, checked) {
         return Ok(());
     }
-    read_across_pages(store, at, buffer, access)
+    by_fields(read_across_pages(store, addr, buffer, checked))
 }
 
-/// Reads where that was not quick. Copies of the access and of a short buffer go along, and the
-/// result comes back field by field, so that quick accesses hold all of them in registers.
+/// Reads where that was not quick. A copy of a short buffer goes along, and the result comes back
+/// field by field, so that quick accesses hold both in registers.
 #[inline(always)]
 fn read_slowly<S: PageStore>(
     store: &mut S,
-    at: u64,
+    addr: u64,
     buffer: &mut [u8],
-    access: &Access,
+    checked: bool,
 ) -> Result<(), MemFault>
-    requires plain { at < 2 ^ 56 }
-    ensures read { IsRead (S.memory store.old) (S.memory store.new) access.now at
-        buffer.old buffer.new result }
+    ensures read { IsRead (S.memory store.old) (S.memory store.new) (read_access addr checked)
+        (plain addr) buffer.old buffer.new result }
     ensures kept { S.kept store.old store.new }
 {
-    let own = *access;
     let len = buffer.len();
     if len > 8 {
-        return by_fields(read_out_of_line(store, at, buffer, &own));
+        return read_far(store, addr, buffer, checked);
     }
     let mut bytes = [0; 8];
-    let result = by_fields(read_out_of_line(store, at, &mut bytes[..len], &own));
+    let result = read_far(store, addr, &mut bytes[..len], checked);
     if result.is_ok() {
         buffer.copy_from_slice(&bytes[..len]);
     }
@@ -219,12 +217,10 @@ fn read_at<S: PageStore>(
         else S.memory store.old) }
     ensures kept { S.kept store.old store.new }
 {
-    let access = Access::reading(addr, checked);
-    let at = plain(addr);
-    if try_read(store, at, buffer, &access) {
+    if try_read(store, addr, buffer, checked) {
         return Ok(());
     }
-    read_slowly(store, at, buffer, &access)
+    read_slowly(store, addr, buffer, checked)
 }
 
 /// Copies bytes in page by page, all of them, or returns the fault of the first that fails.
@@ -232,55 +228,37 @@ fn read_at<S: PageStore>(
 #[inline(never)]
 fn write_across_pages<S: PageStore>(
     store: &mut S,
-    at: u64,
+    addr: u64,
     bytes: &[u8],
-    access: &Access,
+    checked: bool,
 ) -> Result<(), MemFault>
-    requires plain { at < 2 ^ 56 }
-    ensures written { IsWritten (S.memory store.old) (S.memory store.new) access.now at
-        bytes.now result }
+    ensures written { IsWritten (S.memory store.old) (S.memory store.new)
+        (write_access addr checked) (plain addr) bytes.now result }
     ensures kept { S.kept store.old store.new }
 {
-    check_in_mode(store, at, bytes.len(), access)?;
+    let at = plain(addr);
+    check_in_mode(store, at, bytes.len(), &Access::writing(addr, checked))?;
     replace_bytes(store, at, bytes);
     Ok(())
 }
 
-/// Copies bytes in where not one granule holds them all or the first fails.
-#[inline(never)]
-fn write_out_of_line<S: PageStore>(
-    store: &mut S,
-    at: u64,
-    bytes: &[u8],
-    access: &Access,
-) -> Result<(), MemFault>
-    requires plain { at < 2 ^ 56 }
-    ensures written { IsWritten (S.memory store.old) (S.memory store.new) access.now at
-        bytes.now result }
-    ensures kept { S.kept store.old store.new }
-{
-    if try_write_in_page(store, at, bytes, access) {
-        return Ok(());
-    }
-    write_across_pages(store, at, bytes, access)
-}
-
-/// Writes where that was not quick. A copy of the access goes along, and the result comes back
-/// field by field, so that quick accesses hold both in registers.
+/// Writes where that was not quick. The result comes back field by field, so that quick accesses
+/// hold it in registers.
 #[inline(always)]
 fn write_slowly<S: PageStore>(
     store: &mut S,
-    at: u64,
+    addr: u64,
     bytes: &[u8],
-    access: &Access,
+    checked: bool,
 ) -> Result<(), MemFault>
-    requires plain { at < 2 ^ 56 }
-    ensures written { IsWritten (S.memory store.old) (S.memory store.new) access.now at
-        bytes.now result }
+    ensures written { IsWritten (S.memory store.old) (S.memory store.new)
+        (write_access addr checked) (plain addr) bytes.now result }
     ensures kept { S.kept store.old store.new }
 {
-    let own = *access;
-    by_fields(write_out_of_line(store, at, bytes, &own))
+    if try_write_in_page(store, addr, bytes, checked) {
+        return Ok(());
+    }
+    by_fields(write_across_pages(store, addr, bytes, checked))
 }
 
 /// Copies bytes in, or returns the fault of the first that fails.
@@ -305,12 +283,10 @@ fn write_at<S: PageStore>(
         else S.memory store.old) }
     ensures kept { S.kept store.old store.new }
 {
-    let access = Access::writing(addr, checked);
-    let at = plain(addr);
-    if try_write(store, at, bytes, &access) {
+    if try_write(store, addr, bytes, checked) {
         return Ok(());
     }
-    write_slowly(store, at, bytes, &access)
+    write_slowly(store, addr, bytes, checked)
 }
 
 /// The instruction word at an address; one page holds an aligned word.

@@ -1,9 +1,10 @@
 //! What is done within the page that a place holds.
 
-ghost use Rattle.std.specs.Prelude.{◌≡◌, ◌<◌, ◌≤◌, ◌+◌, ◌%◌, ◌/◌, ◌^◌, ◌&&◌, ◌↔◌};
+ghost use Rattle.std.specs.Prelude.{◌≡◌, ℕ, ◌<◌, ◌≤◌, ◌+◌, ◌%◌, ◌/◌, ◌^◌, ◌&&◌};
 ghost use Rattle.std.specs.Prelude.{true, Some, IsTrue, is_none, length, slice_range};
 ghost use Rattle.std.specs.List.{range_with_len};
 ghost use Rattle.std.specs.Int.{from_le_bytes, w32};
+ghost use Rattle.a64_bits.specs.Addresses.{plain};
 ghost use Rattle.mte_tags.specs.Memory.{has, tag_cases};
 ghost use Rattle.mte_tags.specs.Runs.{with_bytes_run};
 ghost use Rattle.mte_tags.specs.Inner.{IsPageRun, run_fault_in, run_passes_in};
@@ -13,20 +14,25 @@ use crate::attrs::Attrs;
 use crate::fault::{FaultKind, MemFault};
 use crate::page_store::PageStore;
 
-/// Whether some bytes are wanted, and one page holds them.
-#[inline]
+/// Whether some bytes are wanted, at most 16, and one page holds them.
+#[inline(always)]
 pub(crate) fn fits_one_page(at: u64, count: u64) -> bool
-    ensures { IsTrue result ↔ ((0 < count) × (at % 4096 + count ≤ 4096)) }
+    ensures some { IsTrue result → 0 < count }
+    ensures most { IsTrue result → count ≤ 16 }
+    ensures inside { IsTrue result → at % 4096 + count ≤ 4096 }
 {
-    count > 0 && count <= 4096 - at % 4096
+    count > 0 && count <= 16 && at % 4096 <= 4096 - count
 }
 
-/// Whether some bytes are wanted, and one granule holds them.
+/// Whether a register, a part of one or two of them have this size: a power of two up to 16. An
+/// address that is a multiple of it begins a run that one granule holds.
 #[inline(always)]
-pub(crate) fn fits_one_granule(at: u64, count: u64) -> bool
-    ensures { IsTrue result ↔ ((0 < count) × (at % 16 + count ≤ 16)) }
+pub(crate) fn is_register_size(count: u64) -> bool
+    ensures some { IsTrue result → 0 < count }
+    ensures most { IsTrue result → count ≤ 16 }
+    ensures inside { IsTrue result → (a : ℕ) → a % count ≡ 0 → plain a % 16 + count ≤ 16 }
 {
-    count > 0 && count <= 16 - at % 16
+    matches!(count, 1 | 2 | 4 | 8 | 16)
 }
 
 /// The fault of the first byte of a run that fails, if any.
@@ -52,7 +58,8 @@ pub(crate) fn run_fault<S: PageStore>(
     tag_fault(store, place, at, count, access)
 }
 
-/// Whether a run within one granule is permitted: the common case, which builds no fault.
+/// Whether a run within one granule passes, of an access that its page permits: the common case,
+/// which builds no fault.
 #[inline(always)]
 pub(crate) fn granule_passes<S: PageStore>(
     store: &S,
@@ -64,17 +71,17 @@ pub(crate) fn granule_passes<S: PageStore>(
     requires place { S.is_place store.now place }
     requires some { 0 < count }
     requires inside { at % 16 + count ≤ 16 }
-    requires plain { at < 2 ^ 56 }
+    requires permitted { has (S.page_in store.now place).attrs access.now.need ≡ true }
     ensures { result ≡ run_passes_in access.now (S.page_in store.now place) at count }
 {
-    let attrs = store.attrs(place);
-    if !access.is_compared(attrs) || !access.is_permitted(attrs) {
-        return access.is_permitted(attrs);
+    if !access.is_compared(store.attrs(place)) {
+        return true;
     }
     store.granule_tag(place, (at % 4096 / 16) as usize) == access.tag
 }
 
-/// Whether the whole run is permitted. It builds no fault.
+/// Whether a run of at most 16 bytes passes, which two granules hold at most. It builds no fault.
+#[inline(always)]
 pub(crate) fn run_passes<S: PageStore>(
     store: &S,
     place: usize,
@@ -84,6 +91,7 @@ pub(crate) fn run_passes<S: PageStore>(
 ) -> bool
     requires place { S.is_place store.now place }
     requires run { IsPageRun at count }
+    requires most { count ≤ 16 }
     ensures { result ≡ run_passes_in access.now (S.page_in store.now place) at count }
 {
     let attrs = store.attrs(place);
@@ -93,23 +101,8 @@ pub(crate) fn run_passes<S: PageStore>(
     if store.granule_tag(place, (at % 4096 / 16) as usize) != access.tag {
         return false;
     }
-    if count <= 16 {
-        let last = at + count as u64 - 1;
-        return store.granule_tag(place, (last % 4096 / 16) as usize) == access.tag;
-    }
-    tags_pass(store, place, at, count, access)
-}
-
-/// Whether no byte of a run fails where tags are compared.
-#[inline(never)]
-fn tags_pass<S: PageStore>(store: &S, place: usize, at: u64, count: usize, access: &Access) -> bool
-    requires place { S.is_place store.now place }
-    requires run { IsPageRun at count }
-    requires permitted { has (S.page_in store.now place).attrs access.now.need ≡ true }
-    requires checked { (access.now.checked && has (S.page_in store.now place).attrs 8) ≡ true }
-    ensures { result ≡ run_passes_in access.now (S.page_in store.now place) at count }
-{
-    tag_fault(store, place, at, count, access).is_none()
+    let last = at + count as u64 - 1;
+    store.granule_tag(place, (last % 4096 / 16) as usize) == access.tag
 }
 
 /// How the first byte of a run fails where tags are compared.
@@ -141,7 +134,7 @@ fn tag_fault<S: PageStore>(
     None
 }
 
-/// Copies a run of bytes out. Runs of one register have a copy of their own, of a known length.
+/// Copies a run of bytes out. Runs of one register go through a copy that is no part of the page.
 #[inline(always)]
 pub(crate) fn copy_out<S: PageStore>(store: &S, place: usize, at: u64, buffer: &mut [u8])
     requires place { S.is_place store.now place }
@@ -154,9 +147,13 @@ pub(crate) fn copy_out<S: PageStore>(store: &S, place: usize, at: u64, buffer: &
     let from = (at % 4096) as usize;
     let bytes = store.bytes(place);
     if buffer.len() == 8 {
-        buffer.copy_from_slice(&bytes[from..from + 8]);
+        let mut number = [0; 8];
+        number.copy_from_slice(&bytes[from..from + 8]);
+        buffer.copy_from_slice(&number);
     } else if buffer.len() == 4 {
-        buffer.copy_from_slice(&bytes[from..from + 4]);
+        let mut number = [0; 4];
+        number.copy_from_slice(&bytes[from..from + 4]);
+        buffer.copy_from_slice(&number);
     } else {
         buffer.copy_from_slice(&bytes[from..from + buffer.len()]);
     }
@@ -178,7 +175,7 @@ pub(crate) fn word_in_page<S: PageStore>(store: &S, place: usize, at: u64) -> u3
 }
 
 /// Replaces a run of the 4096 bytes of a page. Runs of one register go through a copy, which lies
-/// apart from the page.
+/// of its own.
 #[inline]
 pub fn copy_in(page: &mut [u8], at: u64, bytes: &[u8])
     requires page { length page.old ≡ 4096 }

@@ -1,8 +1,9 @@
 //! Memories that keep their pages in places of their own.
 
-ghost use Rattle.std.specs.Prelude.{◌≡◌, ℕ, ◌<◌, ◌≤◌, ◌+◌, ◌%◌, ◌^◌};
+ghost use Rattle.std.specs.Prelude.{◌≡◌, ℕ, ◌<◌, ◌≤◌, ◌+◌, ◌%◌, ◌/◌, ◌^◌, true, Some};
 ghost use Rattle.std.specs.Prelude.{IfSome, length, slice_index, option_map};
-ghost use Rattle.mte_tags.specs.Memory.{Memory, Page, page_at, with_page, with_pending};
+ghost use Rattle.a64_bits.specs.Addresses.{plain};
+ghost use Rattle.mte_tags.specs.Memory.{Memory, Page, page_at, has, with_page, with_pending};
 ghost use Rattle.mte_tags.specs.Runs.{with_bytes_in, with_granule_tags};
 
 use crate::attrs::Attrs;
@@ -48,6 +49,34 @@ pub trait PageStore {
         ensures page { page_at (memory self.old) page ≡ option_map (page_in self.new) result }
         ensures memory { memory self.new ≡ memory self.old }
         ensures kept { kept self.old self.new };
+
+    /// The place of the page of a read of `size` bytes, where the store remembers that page as one
+    /// with READ and one granule holds the bytes, as it does at each multiple of the size. Nothing
+    /// is looked for: `None` does not say that the read fails.
+    fn readable_place(&self, addr: u64, size: u64) -> Option<usize>
+        requires some { 0 < size }
+        requires most { size ≤ 16 }
+        requires multiples { (a : ℕ) → a % size ≡ 0 → plain a % 16 + size ≤ 16 }
+        ensures place { IfSome result (λ i. is_place self.now i) }
+        ensures number { IfSome result (λ i. number_in self.now i ≡ plain addr / 4096) }
+        ensures page { IfSome result (λ i.
+            page_at (memory self.now) (plain addr / 4096) ≡ Some (page_in self.now i)) }
+        ensures permitted { IfSome result (λ i. has (page_in self.now i).attrs 1 ≡ true) }
+        ensures inside { IfSome result (λ _. plain addr % 16 + size ≤ 16) };
+
+    /// The place of the page of a write of `size` bytes, where the store remembers that page as one
+    /// with WRITE and one granule holds the bytes, as it does at each multiple of the size. Nothing
+    /// is looked for: `None` does not say that the write fails.
+    fn writable_place(&self, addr: u64, size: u64) -> Option<usize>
+        requires some { 0 < size }
+        requires most { size ≤ 16 }
+        requires multiples { (a : ℕ) → a % size ≡ 0 → plain a % 16 + size ≤ 16 }
+        ensures place { IfSome result (λ i. is_place self.now i) }
+        ensures number { IfSome result (λ i. number_in self.now i ≡ plain addr / 4096) }
+        ensures page { IfSome result (λ i.
+            page_at (memory self.now) (plain addr / 4096) ≡ Some (page_in self.now i)) }
+        ensures permitted { IfSome result (λ i. has (page_in self.now i).attrs 2 ≡ true) }
+        ensures inside { IfSome result (λ _. plain addr % 16 + size ≤ 16) };
 
     /// Finds a page whose instructions are fetched. It may be `find`; what is remembered for
     /// data and for instructions apart is found sooner.

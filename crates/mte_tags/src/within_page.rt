@@ -6,15 +6,17 @@
 ghost use Rattle.std.specs.Prelude.{◌≡◌, ◌<◌, ◌≤◌, ◌+◌, ◌*◌, ◌/◌, ◌%◌, ◌^◌, false, None, IfOk};
 ghost use Rattle.std.specs.Prelude.{IsTrue, is_ok, length, if◌then◌else◌};
 ghost use Rattle.mte_tags.specs.Inner.{IsPageRun, IsReadOrLeft, IsWrittenOrLeft};
+ghost use Rattle.a64_bits.specs.Addresses.{plain};
 ghost use Rattle.mte_tags.specs.Memory.{tag_at, page_has, with_granules};
 ghost use Rattle.mte_tags.specs.Accesses.{result_of, tag_result, addresses, granules, byte_fault};
 ghost use Rattle.mte_tags.specs.Accesses.{first_fault, bytes_at, with_bytes, fetch_result};
+ghost use Rattle.mte_tags.specs.Accesses.{read_access, write_access};
 
 use crate::access::Access;
 use crate::attrs::Attrs;
 use crate::fault::{FaultKind, MemFault};
 use crate::page::{
-    copy_out, fits_one_granule, fits_one_page, granule_passes, run_fault, run_passes, tag_in_page,
+    copy_out, fits_one_page, granule_passes, is_register_size, run_fault, run_passes, tag_in_page,
     word_in_page,
 };
 use crate::page_store::PageStore;
@@ -101,27 +103,30 @@ pub(crate) fn read_in_page<S: PageStore>(
     Ok(())
 }
 
-/// Copies bytes out where one granule holds them and none fails, and returns whether it did.
-/// `false` changes nothing, and does not say that an access fails.
+/// Copies bytes out where that is quick and none fails, and returns whether it did: a register's
+/// bytes in one granule, on a page that the store remembers. `false` changes nothing,
+/// and does not say that an access fails.
 #[inline(always)]
 pub(crate) fn try_read<S: PageStore>(
     store: &mut S,
-    at: u64,
+    addr: u64,
     buffer: &mut [u8],
-    access: &Access,
+    checked: bool,
 ) -> bool
-    requires { at < 2 ^ 56 }
-    ensures read { IsReadOrLeft (S.memory store.old) (S.memory store.new) access.now at
-        buffer.old buffer.new result }
+    ensures read { IsReadOrLeft (S.memory store.old) (S.memory store.new)
+        (read_access addr checked) (plain addr) buffer.old buffer.new result }
     ensures kept { S.kept store.old store.new }
 {
-    if !fits_one_granule(at, buffer.len() as u64) {
+    let size = buffer.len() as u64;
+    if !is_register_size(size) {
         return false;
     }
-    let Some(place) = store.find(at / 4096) else {
+    let Some(place) = store.readable_place(addr, size) else {
         return false;
     };
-    if !granule_passes(store, place, at, buffer.len(), access) {
+    let at = plain(addr);
+    let access = Access::reading(addr, checked);
+    if !granule_passes(store, place, at, buffer.len(), &access) {
         return false;
     }
     copy_out(store, place, at, buffer);
@@ -130,24 +135,26 @@ pub(crate) fn try_read<S: PageStore>(
 
 /// Copies bytes out where one page holds them and none fails, and returns whether it did. `false`
 /// changes nothing, and does not say that an access fails.
+#[inline(never)]
 pub(crate) fn try_read_in_page<S: PageStore>(
     store: &mut S,
-    at: u64,
+    addr: u64,
     buffer: &mut [u8],
-    access: &Access,
+    checked: bool,
 ) -> bool
-    requires { at < 2 ^ 56 }
-    ensures read { IsReadOrLeft (S.memory store.old) (S.memory store.new) access.now at
-        buffer.old buffer.new result }
+    ensures read { IsReadOrLeft (S.memory store.old) (S.memory store.new)
+        (read_access addr checked) (plain addr) buffer.old buffer.new result }
     ensures kept { S.kept store.old store.new }
 {
+    let at = plain(addr);
+    let access = Access::reading(addr, checked);
     if !fits_one_page(at, buffer.len() as u64) {
         return false;
     }
     let Some(place) = store.find(at / 4096) else {
         return false;
     };
-    if !run_passes(store, place, at, buffer.len(), access) {
+    if !run_passes(store, place, at, buffer.len(), &access) {
         return false;
     }
     copy_out(store, place, at, buffer);
@@ -181,22 +188,25 @@ pub(crate) fn write_in_page<S: PageStore>(
     Ok(())
 }
 
-/// Copies bytes in where one granule holds them and none fails, and returns whether it did. `false`
-/// changes nothing, and does not say that an access fails.
+/// Copies bytes in where that is quick and none fails, and returns whether it did: a register's
+/// bytes in one granule, on a page that the store remembers. `false` changes nothing,
+/// and does not say that an access fails.
 #[inline(always)]
-pub(crate) fn try_write<S: PageStore>(store: &mut S, at: u64, bytes: &[u8], access: &Access) -> bool
-    requires { at < 2 ^ 56 }
-    ensures written { IsWrittenOrLeft (S.memory store.old) (S.memory store.new) access.now at
-        bytes.now result }
+pub(crate) fn try_write<S: PageStore>(store: &mut S, addr: u64, bytes: &[u8], checked: bool) -> bool
+    ensures written { IsWrittenOrLeft (S.memory store.old) (S.memory store.new)
+        (write_access addr checked) (plain addr) bytes.now result }
     ensures kept { S.kept store.old store.new }
 {
-    if !fits_one_granule(at, bytes.len() as u64) {
+    let size = bytes.len() as u64;
+    if !is_register_size(size) {
         return false;
     }
-    let Some(place) = store.find(at / 4096) else {
+    let Some(place) = store.writable_place(addr, size) else {
         return false;
     };
-    if !granule_passes(store, place, at, bytes.len(), access) {
+    let at = plain(addr);
+    let access = Access::writing(addr, checked);
+    if !granule_passes(store, place, at, bytes.len(), &access) {
         return false;
     }
     store.replace_run(place, at, bytes);
@@ -205,24 +215,26 @@ pub(crate) fn try_write<S: PageStore>(store: &mut S, at: u64, bytes: &[u8], acce
 
 /// Copies bytes in where one page holds them and none fails, and returns whether it did. `false`
 /// changes nothing, and does not say that an access fails.
+#[inline(never)]
 pub(crate) fn try_write_in_page<S: PageStore>(
     store: &mut S,
-    at: u64,
+    addr: u64,
     bytes: &[u8],
-    access: &Access,
+    checked: bool,
 ) -> bool
-    requires { at < 2 ^ 56 }
-    ensures written { IsWrittenOrLeft (S.memory store.old) (S.memory store.new) access.now at
-        bytes.now result }
+    ensures written { IsWrittenOrLeft (S.memory store.old) (S.memory store.new)
+        (write_access addr checked) (plain addr) bytes.now result }
     ensures kept { S.kept store.old store.new }
 {
+    let at = plain(addr);
+    let access = Access::writing(addr, checked);
     if !fits_one_page(at, bytes.len() as u64) {
         return false;
     }
     let Some(place) = store.find(at / 4096) else {
         return false;
     };
-    if !run_passes(store, place, at, bytes.len(), access) {
+    if !run_passes(store, place, at, bytes.len(), &access) {
         return false;
     }
     store.replace_run(place, at, bytes);

@@ -23,11 +23,11 @@ returns-then-granule_tag-access g c =
     let compared : (x.checked && has p.attrs 8) ≡ true = subst (λ k. (x.checked && has k 8) ≡ true) c.attrs-attrs.ensures (sym c.is_compared.ensures ∙ c.if-not-is_compared.false) in
     sym (ap is_none (first_in-tag x p c.args.at c.args.count c.requires.run.some permitted compared (λ e. c.if-granule_tag-access.true (c.granule_tag.ensures.tag ∙ e))))
 
-pub returns-then-count-le16 : goal.returns-then-count-le16
-returns-then-count-le16 g c =
+pub returns : goal.returns
+returns g c =
     let p = g.S.PageStore.page_in c.args.store.now c.args.place in
     let x = c.args.access.now in
     let permitted : has p.attrs x.need ≡ true = subst (λ k. has k x.need ≡ true) c.attrs-attrs.ensures (sym c.is_permitted.ensures ∙ c.if-not-is_permitted.false) in
     let compared : (x.checked && has p.attrs 8) ≡ true = subst (λ k. (x.checked && has k 8) ≡ true) c.attrs-attrs.ensures (sym c.is_compared.ensures ∙ c.if-not-is_compared.false) in
-    ap (λ t. t == x.tag) c.granule_tag-then-count-le16.ensures.tag
-    ∙ short_run_passes x p c.args.at c.args.count c.requires.run.some c.if-count-le16.true c.requires.run.inside permitted compared (sym c.granule_tag.ensures.tag ∙ c.if-granule_tag-access.false)
+    ap (λ t. t == x.tag) c.granule_tag-2.ensures.tag
+    ∙ short_run_passes x p c.args.at c.args.count c.requires.run.some c.requires.most c.requires.run.inside permitted compared (sym c.granule_tag.ensures.tag ∙ c.if-granule_tag-access.false)

@@ -3,6 +3,7 @@ use Rattle.mte_tags.specs.Memory.{with_page}
 use Rattle.mte_space.specs.SpaceMemory.{memory_of}
 use Rattle.mte_space.specs.KeptSpaces.{none_enters_same}
 use Rattle.mte_space.specs.Places.{remembered_in, number_in}
+use Rattle.mte_space.specs.Remembered.{attrs_of}
 use Rattle.mte_space.proofs.Taken.{is_frame}
 use Rattle.mte_space.proofs.SpaceSteps.{retagged_is}
 use Rattle.mte_space.proofs.PlaceSteps.{taken_in, space_in, cached_in, up_to_date_in, memory_in, page_in_new, rest_in}
@@ -22,13 +23,13 @@ returns-clause-memory c =
     let s = c.args.self.now in
     memory_in s c.args.place _ _ c.requires.place c.retag_frame.ensures.pool c.retag_frame.ensures.sound
     ∙ ap (with_page (memory_of s) (number_in s c.args.place))
-    (retagged_is s.pool.now (remembered_in s c.args.place).frame c.args.first c.args.count c.args.tag (remembered_in s c.args.place).attrs c.args.zero (taken_in s c.args.place c.requires.place) c.retag_frame.ensures.sound c.retag_frame.ensures.sized c.requires.inside)
+    (retagged_is s.pool.now (remembered_in s c.args.place).frame c.args.first c.args.count c.args.tag (attrs_of (remembered_in s c.args.place)) c.args.zero (taken_in s c.args.place c.requires.place) c.retag_frame.ensures.sound c.retag_frame.ensures.sized c.requires.inside)
 
 pub returns-clause-page : goal.returns-clause-page
 returns-clause-page c =
     let s = c.args.self.now in
     page_in_new s c.args.place _ _ c.requires.place c.retag_frame.ensures.pool c.retag_frame.ensures.sound
-    ∙ retagged_is s.pool.now (remembered_in s c.args.place).frame c.args.first c.args.count c.args.tag (remembered_in s c.args.place).attrs c.args.zero (taken_in s c.args.place c.requires.place) c.retag_frame.ensures.sound c.retag_frame.ensures.sized c.requires.inside
+    ∙ retagged_is s.pool.now (remembered_in s c.args.place).frame c.args.first c.args.count c.args.tag (attrs_of (remembered_in s c.args.place)) c.args.zero (taken_in s c.args.place c.requires.place) c.retag_frame.ensures.sound c.retag_frame.ensures.sized c.requires.inside
 
 pub returns-clause-long : goal.returns-clause-long
 returns-clause-long c =

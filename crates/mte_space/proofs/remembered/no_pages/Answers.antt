@@ -1,0 +1,10 @@
+use Rattle.std.proofs.Common.{arith}
+use Rattle.std.proofs.lemmas.List.Elements.{All-replicate}
+use Rattle.mte_space.specs.Remembered.{IsUpToDate}
+use Rattle.mte_space.specs.declared.remembered.RememberedPage.{RememberedPage}
+use Rattle.mte_space.proofs.remembered.no_pages.Goals as goal
+
+pub returns : goal.returns
+returns c = λ m.
+    let none : RememberedPage = record { address = 18446744073709551615; frame = 18446744073709551615; attrs = 18446744073709551615 } in
+    All-replicate (IsUpToDate m) 65 none (λ low. absurd (omega (arith, low)))

@@ -1,0 +1,7 @@
+use Rattle.std.proofs.Common.{refl, arith}
+use Rattle.mte_space.proofs.PlaceSteps.{page_of_place}
+use Rattle.mte_space.proofs.space.SpacePageStore.writable_place.Goals as goal
+
+pub returns-then-contains-clause-page : goal.returns-then-contains-clause-page
+returns-then-contains-clause-page c =
+    page_of_place c.args.self.now _ c.data_place-place.result (search arith, c.if-holds.ensures.address refl) (c.if-holds.ensures.page refl)
