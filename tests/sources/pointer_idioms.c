@@ -267,6 +267,16 @@ static int idiom(char *p, char *q)
     cell = p + 24;
     return use((char *)cell - 24);
 }
+#elif IDIOM == 21 /* The distance from a chunk to an array on the stack, added to the chunk's. */
+static int idiom(char *p, char *q)
+{
+    volatile char local[64];
+    (void)q;
+    local[3] = 'l';
+    cell = (void *)((uintptr_t)local - (uintptr_t)p);
+    volatile char *at = (volatile char *)((uintptr_t)p + (uintptr_t)cell);
+    return at[3] == 'l' ? use(p) : 0;
+}
 #endif
 
 int main(void)

@@ -88,9 +88,9 @@ impl<'a> Report<'a> {
     /// The access or pointer that is framed.
     fn mark(&self) -> Option<Mark> {
         match self.finding {
-            Some(finding) => Some(Mark {
+            Some(finding) => finding.wrong.place().map(|addr| Mark {
                 marked: Marked::Access,
-                addr: finding.wrong.addr,
+                addr,
                 tag: tag_of(finding.wrong.span.addr),
             }),
             None => mark_of(&self.parts.history.status),

@@ -109,7 +109,10 @@ impl<'a> Report<'a> {
                 self.push_entry(alloc, frames, entry)?;
             }
         }
-        Ok(())
+        match cause.frame() {
+            Some(pc) => frames.push_instruction(pc),
+            None => Ok(()),
+        }
     }
 
     /// Adds the addresses of the calls that led to a heap call.

@@ -2,9 +2,11 @@
 
 use crate::context::Context;
 use crate::report::Report;
+use check_kinds::{CheckKind, Suppressions};
 use mte_backtrace::{FrameAddresses, FrameNames};
 use pointer_provenance::LostChunk;
 use run_book::{BookChunk, BookEntry, Bytes, Count};
+use run_cause::is_hidden;
 use std::alloc::{AllocError, Global};
 use std::io;
 use std::io::Write;
@@ -128,6 +130,61 @@ impl<'a> Report<'a> {
         let frames = self.frames(alloc, places)?;
         let names = self.names.of_frames(alloc, &frames)?;
         write_named(alloc, out, self, &names, places)
+    }
+
+    /// The lost chunks that are told: those of which no call is one of what is not told.
+    pub fn told_lost(
+        &self,
+        alloc: Global,
+        lost: &[LostChunk],
+        suppressions: &Suppressions,
+    ) -> Result<Vec<LostChunk>, AllocError> {
+        let frames = self.lost_frames(alloc, lost, suppressions)?;
+        let names = self.names.of_frames(alloc, &frames)?;
+        let mut told = Vec::new(alloc);
+        for chunk in lost {
+            if !self.is_hidden_chunk(alloc, chunk, suppressions, &names)? {
+                told.push(*chunk)?;
+            }
+        }
+        Ok(told)
+    }
+
+    /// The addresses of the calls that made lost chunks, where something is not told.
+    fn lost_frames(
+        &self,
+        alloc: Global,
+        lost: &[LostChunk],
+        suppressions: &Suppressions,
+    ) -> Result<FrameAddresses, AllocError> {
+        let mut frames = FrameAddresses::new(alloc);
+        if suppressions.is_empty() {
+            return Ok(frames);
+        }
+        for chunk in lost {
+            if let Some(entry) = self.entry(chunk.number) {
+                self.push_entry(alloc, &mut frames, entry)?;
+            }
+        }
+        Ok(frames)
+    }
+
+    /// Whether a lost chunk is not told, by the calls that made it.
+    fn is_hidden_chunk(
+        &self,
+        alloc: Global,
+        chunk: &LostChunk,
+        suppressions: &Suppressions,
+        names: &FrameNames<'_>,
+    ) -> Result<bool, AllocError> {
+        let Some(entry) = self.entry(chunk.number) else {
+            return Ok(false);
+        };
+        if suppressions.is_empty() {
+            return Ok(false);
+        }
+        let stack = self.stack_of(alloc, entry)?;
+        Ok(is_hidden(suppressions, CheckKind::Leaks, &stack, names))
     }
 
     /// The places of lost chunks whose calls are kept, and those of chunks that they lead to.

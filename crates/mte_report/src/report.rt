@@ -14,8 +14,8 @@ use mte_tags::{FaultKind, MemFault, Tagged};
 use mte_tenant::{Status, TenantParts};
 use run_book::{Book, Bytes, ChunkOwner, ChunkQuery};
 use run_cause::{
-    Cause, Evidence, Finding, ForbiddenAccess, LastStore, abort_words, breakpoint_words, family_of,
-    fault_words, is_undefined,
+    Cause, Evidence, Finding, ForbiddenAccess, LastStore, Violation, abort_words, breakpoint_words,
+    family_of, fault_words, is_undefined,
 };
 use run_statistics::StatisticsTable;
 use scudo_heap::HeapAbort;
@@ -136,7 +136,7 @@ impl<'a> Report<'a> {
     /// The plain address that the status names, if it names one.
     pub fn address(&self) -> Option<u64> {
         if let Some(finding) = self.finding {
-            return Some(finding.wrong.addr);
+            return finding.wrong.place();
         }
         match self.parts.history.status {
             Status::Faulted(fault, _) => Some(fault.addr),
@@ -213,6 +213,13 @@ impl<'a> fmt::Display for At<'a> {
 fn tell_wrong<W: Write>(out: &mut W, wrong: &ForbiddenAccess, at: At<'_>) -> io::Result<()> {
     let (addr, first) = (wrong.addr, plain(wrong.span.addr));
     let (finder, why) = (wrong.violation.finder(), wrong.violation.words());
+    if matches!(wrong.violation, Violation::Undefined(_)) {
+        writeln!(
+            out,
+            "{finder}: the instruction at {at} uses bits that were never given a value:"
+        )?;
+        return writeln!(out, "  {why} depends on them");
+    }
     if wrong.violation.is_free() {
         let pointer = wrong.span.addr;
         return writeln!(

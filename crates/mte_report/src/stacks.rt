@@ -106,6 +106,7 @@ impl<'a> Context<'a> {
         let found = self.report.found(cause);
         writeln!(out, "Cause: {found}")?;
         self.tell_chunks(out, cause)?;
+        self.tell_frame(out, cause)?;
         self.tell_hint(out, cause)?;
         tell_short(out, self.report.book)
     }
@@ -119,6 +120,17 @@ impl<'a> Context<'a> {
             Some(young) => {
                 writeln!(out, "  its block was given again, as the {young}:")?;
                 self.tell_chunk(out, young)
+            }
+            None => Ok(()),
+        }
+    }
+
+    /// Writes which instruction moved SP to the place on the stack that a cause names.
+    fn tell_frame<W: Write>(&self, out: &mut W, cause: &Cause) -> io::Result<()> {
+        match cause.frame() {
+            Some(pc) => {
+                let frame = self.names.instruction(pc);
+                writeln!(out, "  SP was moved there by {frame}")
             }
             None => Ok(()),
         }

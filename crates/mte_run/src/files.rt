@@ -1,9 +1,12 @@
 //! The files that are read.
 
+use check_kinds::Suppressions;
 use mte_program::StreamSource;
 use mte_session::{file_of, read_whole};
+use obstacle::Obstacle;
 use run_options::{Failure, FileFault, Options, Replay};
 use std::fs::File;
+use std::str;
 use tenant_run::{SessionCourse, events_of};
 
 /// An image.
@@ -60,6 +63,26 @@ fn is_folder(file: &File) -> bool {
     match file.metadata() {
         Ok(metadata) => metadata.is_dir(),
         Err(_) => false,
+    }
+}
+
+/// What is not told of what is found, by the file that is named; nothing without one.
+pub fn read_suppressions<'a>(
+    rt: &HostRuntime,
+    options: &'a Options,
+) -> Result<Suppressions, Failure<'a>> {
+    let Some(name) = &options.output.suppressions else {
+        return Ok(Suppressions::none(rt.alloc()));
+    };
+    let name = name.as_str();
+    let bytes = read_file(rt, name)?;
+    let Ok(text) = str::from_utf8(bytes.as_slice()) else {
+        return Err(Failure::Read(name, FileFault::Other));
+    };
+    match Suppressions::parse(rt.alloc(), text) {
+        Ok(suppressions) => Ok(suppressions),
+        Err(Obstacle::OutOfMemory) => Err(Failure::Memory),
+        Err(Obstacle::Refused(fault)) => Err(Failure::Suppressions(name, fault)),
     }
 }
 

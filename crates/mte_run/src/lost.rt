@@ -21,7 +21,7 @@ pub fn lost_chunks(
         return Ok(Vec::new(alloc));
     };
     let is_exit = matches!(parts.history.status, Status::Exited(_));
-    if !is_exit || observer.finding().is_some() {
+    if !is_exit || observer.finding().is_some() || !checker.kinds().leaks {
         return Ok(Vec::new(alloc));
     }
     let roots = root_ranges(alloc, parts.regs.sp, memory)?;

@@ -5,6 +5,7 @@ use crate::files::Image;
 use crate::lost::lost_chunks;
 use crate::map::draw_map;
 use address_map::GRANULE_SIZE;
+use check_kinds::Suppressions;
 use elf_core::CoreSubject;
 use heap_bounds::{Allocation, made_by};
 use mte_backtrace::Names;
@@ -13,9 +14,10 @@ use mte_report::Report;
 use mte_svc::{AnsweredCall, HeapCalls, TenantParts};
 use mte_tags::{Paged, TagMode};
 use mte_tenant::Status;
-use pointer_provenance::{Full, LostChunk};
+use pointer_provenance::LostChunk;
 use report_documents::Document;
 use run_options::{Exactness, Failure, FileFault, Options};
+use shadow_memory::Full;
 use std::alloc::{AllocError, Global};
 use std::fs::File;
 use std::io;
@@ -27,6 +29,8 @@ use tenant_run::{LastLine, Log, Observer, TenantBench, TenantEnding};
 pub struct Run<'x> {
     /// Its image.
     pub image: Image<'x>,
+    /// What is not told of what is found.
+    pub suppressions: &'x Suppressions,
     /// Its seed, where it ran alone.
     pub seed: Option<u64>,
     /// What a tag that differed did.
@@ -114,8 +118,8 @@ fn tell_parts<'a>(
     let named = named_bytes(&run.image, is_named);
     let names = Names::of(rt.alloc(), named)?;
     let report = report_of(parts, observer, options, &names, run.image.name, numbers);
-    tell_lost(rt, &report, lost.as_slice())?;
-    tell_run(rt, &report, options, memory)
+    let has_lost = tell_lost(rt, &report, lost.as_slice(), run.suppressions)?;
+    tell_run(rt, &report, options, has_lost, memory)
 }
 
 /// The bytes of an image that has names, or none where none is written.
@@ -163,13 +167,31 @@ fn tell_run<'a>(
     rt: &HostRuntime,
     report: &Report<'_>,
     options: &'a Options,
+    has_lost: bool,
     memory: &mut Flat,
 ) -> Result<u8, Failure<'a>> {
     let ending = ending_of(report, options);
+    let status = status_of(report, options, ending, has_lost);
     tell_all(rt, report, options, memory)?;
-    write_files(rt, report, options, ending, memory)?;
+    write_files(rt, report, options, status, memory)?;
     tell_unseen(rt, report, options);
-    Ok(tell_last_line(rt, report, ending))
+    tell_last_line(rt, report, ending, status);
+    Ok(status)
+}
+
+/// The exit status: the one that an option names for what was found, or for lost chunks, else that
+/// of how the tenant ended.
+fn status_of(report: &Report<'_>, options: &Options, ending: TenantEnding, has_lost: bool) -> u8 {
+    let own = ending.status(&report.parts.history);
+    match report.finding {
+        Some(finding) if !finding.wrong.violation.is_of_bounds() => {
+            options.output.found_status.unwrap_or(own)
+        }
+        None if has_lost && ending == TenantEnding::Exit => {
+            options.output.lost_status.unwrap_or(own)
+        }
+        _ => own,
+    }
 }
 
 /// Whether anything is written in which names are: of a tenant that exited only what is requested.
@@ -200,13 +222,13 @@ fn write_files<'a>(
     rt: &HostRuntime,
     report: &Report<'_>,
     options: &'a Options,
-    ending: TenantEnding,
+    exit_status: u8,
     memory: &mut Flat,
 ) -> Result<(), Failure<'a>> {
     let document = Document {
         alloc: rt.alloc(),
         report,
-        exit_status: ending.status(&report.parts.history),
+        exit_status,
     };
     let named = [
         (&options.output.json, DocumentForm::Json),
@@ -239,7 +261,7 @@ fn ending_of(report: &Report<'_>, options: &Options) -> TenantEnding {
 fn tell_unseen(rt: &HostRuntime, report: &Report<'_>, options: &Options) {
     let log = &report.parts.history;
     let is_exit = matches!(log.status, Status::Exited(_));
-    let is_unseen = options.output.exact == Exactness::Tags && !options.output.check;
+    let is_unseen = options.output.exact == Exactness::Tags && !options.output.check.provenance;
     if is_exit && is_unseen && may_have_spare_bytes(&log.calls) {
         let _ = eprintln!(rt;
             "mte_run: no tag differed; a tag is that of 16 bytes, so up to 15 bytes past a chunk's \
@@ -267,11 +289,24 @@ fn tell_leaks(rt: &HostRuntime, report: &Report<'_>, options: &Options) -> io::R
     report.write_leaks(rt.alloc(), &mut out)
 }
 
-/// Writes the chunks that nothing reaches, on standard error, where there are any.
-fn tell_lost(rt: &HostRuntime, report: &Report<'_>, lost: &[LostChunk]) -> io::Result<()> {
-    if lost.is_empty() {
-        return Ok(());
+/// Writes the chunks that nothing reaches, on standard error, without those that are not told.
+/// Whether there are any.
+fn tell_lost(
+    rt: &HostRuntime,
+    report: &Report<'_>,
+    lost: &[LostChunk],
+    suppressions: &Suppressions,
+) -> io::Result<bool> {
+    let told = report.told_lost(rt.alloc(), lost, suppressions)?;
+    if told.is_empty() {
+        return Ok(false);
     }
+    write_lost(rt, report, told.as_slice())?;
+    Ok(true)
+}
+
+/// Writes chunks that nothing reaches, on standard error.
+fn write_lost(rt: &HostRuntime, report: &Report<'_>, lost: &[LostChunk]) -> io::Result<()> {
     let mut out = BufWriter::new(rt.alloc(), rt.stderr())?;
     write!(out, "mte_run: ")?;
     report.write_lost(rt.alloc(), &mut out, lost)
@@ -316,14 +351,17 @@ fn write_document(
     }
 }
 
-/// Writes the last line, and returns the exit status.
-fn tell_last_line(rt: &HostRuntime, report: &Report<'_>, ending: TenantEnding) -> u8 {
+/// Writes the last line, where there is one for how it ended and for the exit status.
+fn tell_last_line(rt: &HostRuntime, report: &Report<'_>, ending: TenantEnding, status: u8) {
     let log = &report.parts.history;
-    let line = LastLine { ending, log };
+    let line = LastLine {
+        ending,
+        log,
+        status,
+    };
     if line.is_told() {
         let _ = eprintln!(rt; "mte_run: {line}");
     }
-    ending.status(log)
 }
 
 /// Whether a chunk may have had bytes of its last granule past its size: one of the calls that are

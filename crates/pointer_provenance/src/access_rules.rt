@@ -1,12 +1,11 @@
 //! What loads and stores do to pointers.
 
-use crate::access::{AccessedBytes, RegisterAccess};
-use crate::origin::Provenance;
-use crate::shadow::{Shadow, Step};
+use crate::shadow::Shadow;
 use a64_bits::plain;
 use a64_instr::Instr;
 use a64_registers::Regs;
 use address_map::GRANULE_SIZE;
+use shadow_memory::{AccessedBytes, Provenance, RegisterAccess, Step};
 use std::alloc::AllocError;
 
 /// How many bytes a pointer has.

@@ -1,6 +1,7 @@
 //! The chunks that pointers point into.
 
 use a64_bits::plain;
+use heap_functions::HeapFunction;
 use std::alloc::{AllocError, Global};
 
 /// A chunk, live or freed.
@@ -14,6 +15,8 @@ pub struct TracedChunk {
     pub size: u32,
     /// Whether it was not freed.
     pub is_live: bool,
+    /// For which function it was made, where that is known.
+    pub maker: Option<HeapFunction>,
 }
 
 impl TracedChunk {
@@ -100,7 +103,7 @@ impl ChunkTable {
         }
     }
 
-    /// Enters what a heap call made of a chunk that it left where it is.
+    /// Enters another chunk in place of the one at an index.
     pub fn replace(&mut self, index: usize, chunk: TracedChunk) {
         if let Some(place) = self.chunks.get_mut(index) {
             *place = chunk;

@@ -1,11 +1,11 @@
 //! What services do to chunks and pointers.
 
-use crate::access::AccessedBytes;
 use crate::chunk_table::TracedChunk;
-use crate::origin::{PointerOrigin, Provenance};
-use crate::shadow::{Full, Shadow};
+use crate::shadow::Shadow;
 use a64_bits::plain;
 use a64_registers::Regs;
+use heap_functions::ReturnedChunk;
+use shadow_memory::{AccessedBytes, Full, PointerOrigin, Provenance};
 
 /// What a heap call that was answered did to chunks.
 #[derive(Clone, Copy, Debug, PartialEq, Eq)]
@@ -43,6 +43,7 @@ impl Shadow {
                     pointer,
                     size: u32::try_from(size).unwrap_or(u32::MAX),
                     is_live: true,
+                    maker: None,
                 };
                 self.note_made(chunk, old)?
             }
@@ -58,6 +59,26 @@ impl Shadow {
             return Err(Full::Pages);
         }
         Ok(())
+    }
+
+    /// Notes that a function of C or C++ returned a pointer: it is the one that made the chunk, if
+    /// the chunk has no other and the size that it was asked for.
+    pub fn note_maker(&mut self, returned: &ReturnedChunk) {
+        let Some((index, chunk)) = self.live_at(plain(returned.pointer)) else {
+            return;
+        };
+        let size = u64::from(chunk.size);
+        let is_whole = returned.size.is_none_or(|asked| asked.max(1) == size);
+        if chunk.maker.is_none() && chunk.pointer == returned.pointer && is_whole {
+            let maker = Some(returned.function);
+            self.chunks.replace(index, TracedChunk { maker, ..chunk });
+        }
+    }
+
+    /// The live chunk that begins at a plain address.
+    pub fn live_chunk(&self, start: u64) -> Option<TracedChunk> {
+        let (_, chunk) = self.live_at(start)?;
+        Some(chunk)
     }
 
     /// The live chunk that begins at a plain address, with its index.

@@ -1,13 +1,12 @@
 //! Whether an access or a free is one that its pointer's own chunk allows.
 
-use crate::access::{AccessedBytes, RegisterAccess};
 use crate::chunk_table::TracedChunk;
-use crate::origin::{OriginKind, PointerOrigin};
-use crate::pointer_sums::Sign;
 use crate::shadow::{Shadow, is_in_heap};
 use a64_bits::plain;
 use a64_instr::Instr;
 use address_map::PAGE_SIZE;
+use heap_functions::HeapFunction;
+use shadow_memory::{AccessedBytes, OriginKind, PointerOrigin, RegisterAccess, Sign};
 use std::alloc::AllocError;
 
 /// What a pointer was used for that its chunk does not allow.
@@ -25,6 +24,8 @@ pub enum MisuseKind {
     DoubleFree,
     /// A free of a pointer into a chunk that is not the one to its start.
     InnerFree,
+    /// A free by a function of C or C++ that is not for a chunk of the function that made it.
+    MismatchedFree,
 }
 
 /// A use of a pointer that its chunk does not allow.
@@ -41,6 +42,8 @@ pub struct Misuse {
     pub chunk: Option<TracedChunk>,
     /// Whether nothing is known of the pointer.
     pub is_by_address: bool,
+    /// The function of C or C++ that a free is for, where it is known.
+    pub function: Option<HeapFunction>,
 }
 
 impl Shadow {
@@ -104,13 +107,16 @@ impl Shadow {
         self.judge_bytes(origin, bytes)
     }
 
-    /// What is wrong with the pointer in x0, which a heap call is to free or to give another size.
-    pub fn judge_free(&self, pointer: u64) -> Option<Misuse> {
+    /// What is wrong with the pointer in x0, which a heap call is to free or to give another size,
+    /// made for a function of C or C++, where it is known for which.
+    pub fn judge_free(&self, pointer: u64, function: Option<HeapFunction>) -> Option<Misuse> {
         let chunk = *self.chunk(self.pointer(0))?;
         let kind = if !chunk.is_live {
             MisuseKind::DoubleFree
         } else if plain(pointer) != chunk.start() {
             MisuseKind::InnerFree
+        } else if is_mismatched(&chunk, function) {
+            MisuseKind::MismatchedFree
         } else {
             return None;
         };
@@ -125,6 +131,7 @@ impl Shadow {
             },
             chunk: Some(chunk),
             is_by_address: false,
+            function,
         })
     }
 
@@ -158,6 +165,7 @@ impl Shadow {
                 access,
                 chunk: None,
                 is_by_address: true,
+                function: None,
             }),
         }
     }
@@ -185,7 +193,16 @@ fn judge_in(chunk: TracedChunk, access: AccessedBytes, is_by_address: bool) -> O
         access,
         chunk: Some(chunk),
         is_by_address,
+        function: None,
     })
+}
+
+/// Whether a chunk was made for a function whose chunks another one is to free.
+fn is_mismatched(chunk: &TracedChunk, freer: Option<HeapFunction>) -> bool {
+    match (chunk.maker, freer) {
+        (Some(maker), Some(freer)) => maker.is_mismatched(freer),
+        _ => false,
+    }
 }
 
 /// Whether an instruction reads an aligned word that begins in a chunk: functions that look at

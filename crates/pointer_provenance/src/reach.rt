@@ -1,10 +1,10 @@
 //! Which chunks a tenant can still reach.
 
-use crate::origin::{OriginKind, PointerOrigin};
 use crate::shadow::Shadow;
 use a64_bits::plain;
 use a64_registers::Regs;
 use mte_tags::Tagged;
+use shadow_memory::{OriginKind, PointerOrigin};
 use std::alloc::{AllocError, Global};
 
 /// How a chunk is reached.

@@ -1,11 +1,10 @@
 //! What instructions that work on registers make of pointers.
 
-use crate::origin::{PointerOrigin, Provenance};
-use crate::pointer_sums::Sign;
-use crate::shadow::{Shadow, Step};
+use crate::shadow::Shadow;
 use a64_bits::bit_masks;
 use a64_instr::Instr;
 use a64_registers::conditions::condition_holds;
+use shadow_memory::{PointerOrigin, Provenance, Sign, Step};
 use std::alloc::AllocError;
 
 /// The bits of a mask that leave a pointer in its page's group: those of the page's number.

@@ -1,49 +1,17 @@
 //! What is known of a tenant's registers and memory beside their values.
 
-use crate::access::RegisterAccess;
 use crate::chunk_table::{ChunkTable, TracedChunk};
-use crate::memory_shadow::MemoryShadow;
-use crate::origin::{OriginKind, PointerOrigin, Provenance};
-use crate::pointer_sums::{PointerSums, Sign};
 use a64_bits::plain;
-use a64_instr::Instr;
 use a64_registers::Regs;
 use address_map::{PAGE_SIZE, REGIONS_START, SECONDARY_END};
 use mte_tags::tag_of;
+use shadow_memory::{
+    Full, MemoryShadow, OriginKind, PointerOrigin, PointerSums, Provenance, Sign, Step,
+};
 use std::alloc::{AllocError, Global};
 
 /// How many numbered registers there are.
 const REGISTERS: usize = 31;
-
-/// An instruction that completed, with the registers before it and after it.
-#[derive(Clone, Copy)]
-pub struct Step<'a> {
-    /// The instruction.
-    pub instr: &'a Instr,
-    /// What it loaded or stored, if it did.
-    pub access: Option<RegisterAccess>,
-    /// The registers before it.
-    pub before: &'a Regs,
-    /// The registers after it.
-    pub after: &'a Regs,
-}
-
-/// Why no more is known.
-#[derive(Clone, Copy, Debug, PartialEq, Eq)]
-pub enum Full {
-    /// An allocation failed.
-    OutOfMemory,
-    /// More chunks were pointed into than are kept.
-    Chunks,
-    /// More pages had pointers than are kept.
-    Pages,
-}
-
-impl From<AllocError> for Full {
-    fn from(_: AllocError) -> Full {
-        Full::OutOfMemory
-    }
-}
 
 /// What is known of a tenant's registers and memory beside their values: where each pointer points.
 #[derive(Drop)]

@@ -1,14 +1,14 @@
 //! Short courses of instructions, and what is known after each.
 
-use crate::access::{AccessedBytes, RegisterAccess};
 use crate::heap_calls::ChunkChange;
 use crate::judgement::MisuseKind;
-use crate::origin::{PointerOrigin, Provenance};
-use crate::shadow::{Full, Shadow, Step};
+use crate::shadow::Shadow;
 use a64_bits::plain;
 use a64_instr::Instr;
 use a64_registers::Regs;
 use a64_registers::operands::byte_count;
+use heap_functions::{HeapFunction, ReturnedChunk};
+use shadow_memory::{AccessedBytes, Full, PointerOrigin, Provenance, RegisterAccess, Step};
 use std::alloc::Global;
 use std::test::Fail;
 
@@ -23,6 +23,7 @@ struct Course {
     shadow: Shadow,
     regs: Regs,
     calls: u64,
+    function: Option<HeapFunction>,
 }
 
 impl Course {
@@ -35,6 +36,7 @@ impl Course {
                 ..Regs::new(0x1000, 0x3fff_ff00)
             },
             calls: 0,
+            function: None,
         };
         course.make(SECOND, 24)?;
         course.regs.x[1] = SECOND;
@@ -87,7 +89,7 @@ impl Course {
 
     /// What is wrong with a free of x0.
     fn free(&mut self, pointer: u64) -> Option<MisuseKind> {
-        let found = self.shadow.judge_free(pointer);
+        let found = self.shadow.judge_free(pointer, self.function);
         found.map(|misuse| misuse.kind)
     }
 
@@ -126,6 +128,19 @@ fn sum(op: u8, rd: u8, rn: u8, rm: u8) -> Instr {
         rm,
         imm6: 0,
         rn,
+        rd,
+    }
+}
+
+/// A register that is SP.
+fn on_stack(rd: u8) -> Instr {
+    Instr::AddSubImm {
+        sf: 1,
+        op: 0,
+        s: 0,
+        sh: 0,
+        imm12: 0,
+        rn: 31,
         rd,
     }
 }
@@ -197,6 +212,14 @@ fn sums_cancel(rt: HostRuntime) -> Result<(), Fail> {
     course.regs.x[7] = FIRST;
     course.run(sum(1, 7, 31, 6))?;
     assert!(rt; course.origin(7) == first);
+    course.run(on_stack(8))?;
+    course.run(sum(1, 9, 8, 0))?;
+    assert!(rt; course.origin(9).chunk().is_none());
+    course.run(sum(0, 10, 9, 0))?;
+    assert!(rt;
+        course.origin(10) == PointerOrigin::STACK,
+        "the chunk is gone again"
+    );
     course.run(sum(1, 6, 0, 0))?;
     assert!(rt; !course.origin(6).is_known());
     Ok(())
@@ -268,6 +291,31 @@ fn frees_are_judged(rt: HostRuntime) -> Result<(), Fail> {
     course.run(moved(0, 2))?;
     assert!(rt; course.free(FIRST) == Some(MisuseKind::DoubleFree));
     assert!(rt; course.load_at(FIRST, 0)? == Some(MisuseKind::AfterFree));
+    Ok(())
+}
+
+#[test]
+fn functions_are_compared(rt: HostRuntime) -> Result<(), Fail> {
+    let mut course = Course::new(rt.alloc())?;
+    let made = SECOND + 0x1000;
+    course.make(made, 40)?;
+    for (size, pointer) in [(4096, made), (40, made + 8), (40, made)] {
+        course.function = Some(HeapFunction::Free);
+        assert!(rt; course.free(made).is_none(), "not known who made it");
+        course.shadow.note_maker(&ReturnedChunk {
+            function: HeapFunction::NewArray,
+            pointer,
+            size: Some(size),
+        });
+    }
+    assert!(rt; course.free(made) == Some(MisuseKind::MismatchedFree));
+    course.function = Some(HeapFunction::DeleteArray);
+    assert!(rt; course.free(made).is_none());
+    course.function = Some(HeapFunction::Delete);
+    assert!(rt; course.free(made) == Some(MisuseKind::MismatchedFree));
+    assert!(rt; course.free(made + 8) == Some(MisuseKind::InnerFree));
+    course.function = None;
+    assert!(rt; course.free(made).is_none());
     Ok(())
 }
 

@@ -6,6 +6,7 @@ use crate::violation::Violation;
 use a64_bits::plain;
 use address_map::{IMAGE_START, PAGE_SIZE, STACK_END, STACK_START};
 use heap_bounds::{Block, Trespass};
+use heap_functions::HeapFunction;
 use mte_svc::FREE;
 use mte_tags::{FaultKind, MemFault, tag_of};
 use mte_tenant::{Record, Status};
@@ -13,6 +14,7 @@ use pointer_provenance::{Misuse, MisuseKind};
 use run_book::{Book, BookChunk, BookEntry, Bytes, ChunkQuery};
 use scudo_heap::HeapCall;
 use std::fmt;
+use undefined_values::{UndefinedOrigin, UndefinedPlace};
 
 /// Up to which step a program for Linux has looked for its arguments.
 const FIRST: u64 = 100;
@@ -39,6 +41,13 @@ pub enum Cause {
     NullPointer,
     /// An access below the stack, and how many bytes below it.
     StackOverflow(u64),
+    /// A live chunk that one function made is freed by another, which is not for such chunks.
+    MismatchedFree(BookChunk, HeapFunction, HeapFunction),
+    /// Something depends on bits of a chunk that were never given a value.
+    UndefinedChunk(BookChunk),
+    /// The same of a place on the stack, by the address of the instruction that moved SP there, if
+    /// it is known.
+    UndefinedFrame(Option<u64>),
     /// A chunk that was freed is freed again.
     DoubleFree(BookChunk),
     /// A chunk that was freed is handed to the heap.
@@ -114,6 +123,19 @@ impl Cause {
         match &wrong.violation {
             Violation::Bounds(trespass) => Cause::of_trespass(book, wrong.addr, *trespass),
             Violation::Provenance(misuse) => Cause::of_misuse(book, misuse),
+            Violation::Undefined(used) => Cause::of_undefined(book, used.origin),
+        }
+    }
+
+    /// The cause of a use of bits that were never given a value, by what they are a part of.
+    fn of_undefined(book: &Book, origin: UndefinedOrigin) -> Cause {
+        match origin.place() {
+            UndefinedPlace::Chunk(number) => match numbered(book, number) {
+                Some(chunk) => Cause::UndefinedChunk(chunk),
+                None => Cause::UndefinedFrame(None),
+            },
+            UndefinedPlace::Frame(pc) => Cause::UndefinedFrame(Some(pc)),
+            UndefinedPlace::Unknown => Cause::UndefinedFrame(None),
         }
     }
 
@@ -138,6 +160,16 @@ impl Cause {
             }
             MisuseKind::DoubleFree => Cause::DoubleFree(chunk),
             MisuseKind::InnerFree => Cause::InsideChunk(chunk, offset),
+            MisuseKind::MismatchedFree => Cause::of_mismatch(misuse, chunk),
+        }
+    }
+
+    /// The cause of a free of a chunk by a function that is not for such chunks.
+    fn of_mismatch(misuse: &Misuse, chunk: BookChunk) -> Cause {
+        let maker = misuse.chunk.and_then(|chunk| chunk.maker);
+        match (maker, misuse.function) {
+            (Some(maker), Some(freer)) => Cause::MismatchedFree(chunk, maker, freer),
+            _ => Cause::Unknown,
         }
     }
 
@@ -230,9 +262,19 @@ impl Cause {
             | Cause::TagsChanged(chunk)
             | Cause::ForeignPointer(chunk)
             | Cause::DoubleFree(chunk)
+            | Cause::MismatchedFree(chunk, _, _)
+            | Cause::UndefinedChunk(chunk)
             | Cause::FreedPointer(chunk)
             | Cause::HeaderOverwritten(chunk)
             | Cause::InsideChunk(chunk, _) => Some(chunk),
+            _ => None,
+        }
+    }
+
+    /// The address of the instruction that moved SP to the place on the stack that it names.
+    pub fn frame(&self) -> Option<u64> {
+        match self {
+            Cause::UndefinedFrame(pc) => *pc,
             _ => None,
         }
     }
@@ -263,6 +305,8 @@ impl Cause {
                 "use-after-free"
             }
             Cause::DoubleFree(_) | Cause::StaleFree(_, _, _) => "double-free",
+            Cause::MismatchedFree(_, _, _) => "mismatched-free",
+            Cause::UndefinedChunk(_) | Cause::UndefinedFrame(_) => "uninitialized-value",
             Cause::Overflow(_, _) => "heap-buffer-overflow",
             Cause::Underflow(_, _) => "heap-buffer-underflow",
             Cause::TagsChanged(_) | Cause::ForeignPointer(_) => "tag-mismatch",
@@ -292,6 +336,9 @@ impl Cause {
             Cause::NullPointer => "Null Pointer",
             Cause::StackOverflow(_) => "Stack Overflow",
             Cause::DoubleFree(_) => "Double Free",
+            Cause::MismatchedFree(_, _, _) => "Mismatched Free",
+            Cause::UndefinedChunk(_) => "Uninitialized Value",
+            Cause::UndefinedFrame(_) => "Uninitialized Value of the stack",
             Cause::FreedPointer(_) => "Use After Free",
             Cause::HeaderOverwritten(_) => "Corrupt Header: something was written in front",
             Cause::InsideChunk(_, _) => "Invalid Pointer",
@@ -352,6 +399,8 @@ impl Cause {
             Cause::PastStack(_) => " above the stack",
             Cause::TagsChanged(_)
             | Cause::DoubleFree(_)
+            | Cause::MismatchedFree(_, _, _)
+            | Cause::UndefinedChunk(_)
             | Cause::FreedPointer(_)
             | Cause::HeaderOverwritten(_) => " of a ",
             _ => "",
@@ -413,6 +462,10 @@ impl fmt::Display for Cause {
         }
         match self {
             Cause::StaleFree(_, _, pointer) => write!(f, ", freed by {pointer:#018x}"),
+            Cause::MismatchedFree(_, maker, freer) => {
+                let (maker, freer) = (maker.name(), freer.name());
+                write!(f, ", made by {maker} and freed by {freer}")
+            }
             _ => Ok(()),
         }
     }

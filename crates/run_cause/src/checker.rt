@@ -1,39 +1,124 @@
-//! Whether a tenant uses each pointer as the pointer's own chunk allows.
+//! Whether a tenant uses each pointer as the pointer's own chunk allows, frees each chunk by a
+//! function that is for it, and lets nothing depend on what was never given a value.
 
 ghost use Rattle.std.specs.Prelude.{◌≡◌};
 
 use crate::exact::{Finding, ForbiddenAccess, Span};
+use crate::terms::{CheckTerms, Silence};
 use crate::violation::Violation;
+use a64_bits::plain;
 use a64_decode::decode;
+use a64_instr::Instr;
 use a64_registers::Regs;
+use check_kinds::CheckKinds;
 use heap_bounds::{MemoryAccess, access_of, freed_by, made_by};
+use heap_functions::HeapFunctionWatch;
 use instruction_trace::{Moment, SVC};
 use mte_backtrace::Callers;
-use mte_svc::{AnsweredCall, FREE, READ, REALLOC, WRITE};
+use mte_svc::{
+    AnsweredCall, CALLOC, EXIT, FREE, MALLOC, MEMALIGN, READ, REALLOC, USABLE_SIZE, WRITE,
+};
 use mte_tags::Tagged;
 use mte_tenant::TenantParts;
-use pointer_provenance::{AccessedBytes, ChunkChange, Full, Misuse, RegisterAccess, Shadow, Step};
+use pointer_provenance::{ChunkChange, Misuse, Shadow, TracedChunk};
+use scudo_heap::HeapCall;
+use shadow_memory::{AccessedBytes, Full, RegisterAccess, Step};
 use std::alloc::{AllocError, Global};
+use undefined_bits::{ServiceArguments, UndefinedBits};
 
-/// Watches a tenant up to the first use of a pointer that the pointer's own chunk does not allow.
+/// Watches a tenant up to the first thing that it may not do, of the kinds that are checked.
 #[derive(Drop)]
-pub struct Checker {
+pub struct Checker<'a> {
+    alloc: Global,
+    kinds: CheckKinds,
     shadow: Shadow,
+    functions: HeapFunctionWatch,
+    /// What is undefined, where that is checked.
+    bits: Option<UndefinedBits>,
+    /// What is not told, where something is not.
+    silence: Option<Silence<'a>>,
     finding: Option<Finding>,
     full: Option<Full>,
 }
 
-impl Checker {
-    /// Watches a tenant from its first instruction on.
-    pub fn new(alloc: Global) -> Result<Checker, AllocError> {
+/// An instruction that was attempted.
+#[derive(Clone, Copy)]
+struct Attempt<'s> {
+    step: Step<'s>,
+    /// Whether the tenant went on after it.
+    is_completed: bool,
+    /// The service that it requested, if it is an SVC.
+    service: Option<RequestedService<'s>>,
+}
+
+/// A service that was requested.
+#[derive(Clone, Copy)]
+struct RequestedService<'s> {
+    /// The bytes that it reads or writes for the tenant.
+    bytes: Option<AccessedBytes>,
+    /// The heap call that it was, with its number.
+    call: Option<(&'s AnsweredCall, u64)>,
+}
+
+impl<'s> Attempt<'s> {
+    /// An instruction with the registers before it, and the tenant after it.
+    fn of(
+        instr: &'s Instr,
+        moment: &'s Moment,
+        parts: &'s TenantParts,
+        call: Option<&'s AnsweredCall>,
+    ) -> Attempt<'s> {
+        let (before, after) = (&moment.regs, &parts.regs);
+        let is_completed = parts.is_running();
+        let service = if moment.word == Some(SVC) {
+            let number = parts.history.calls.count();
+            Some(RequestedService {
+                bytes: bytes_of_service(before, after, is_completed),
+                call: call.map(|call| (call, number)),
+            })
+        } else {
+            None
+        };
+        Attempt {
+            step: Step {
+                instr,
+                access: access_of(instr, before).map(|access| of_registers(&access)),
+                before,
+                after,
+            },
+            is_completed,
+            service,
+        }
+    }
+}
+
+impl<'a> Checker<'a> {
+    /// Watches a tenant from its first instruction on, as terms say.
+    pub fn new(alloc: Global, terms: &CheckTerms<'a>) -> Result<Checker<'a>, AllocError> {
+        let (image, kinds) = (terms.image, terms.kinds);
+        let bits = if kinds.undefined {
+            Some(UndefinedBits::new(alloc)?)
+        } else {
+            None
+        };
         Ok(Checker {
+            alloc,
+            kinds,
+            silence: Silence::of(alloc, terms)?,
             shadow: Shadow::new(alloc)?,
+            functions: HeapFunctionWatch::new(alloc, image)?,
+            bits,
             finding: None,
             full: None,
         })
     }
 
-    /// The first such use, if there was one.
+    /// The kinds that are checked.
+    pub fn kinds(&self) -> CheckKinds {
+        self.kinds
+    }
+
+    /// The first such thing, if there was one.
     pub fn finding(&self) -> Option<&Finding> {
         self.finding.as_ref()
     }
@@ -63,92 +148,189 @@ impl Checker {
         if self.finding.is_some() || self.full.is_some() {
             return;
         }
-        match self.judge(moment, parts, call) {
-            Ok(None) => {}
-            Ok(Some(misuse)) => {
+        let instr = match moment.word {
+            Some(word) => decode(word),
+            None => None,
+        };
+        let Some(instr) = instr else {
+            return;
+        };
+        let attempt = Attempt::of(&instr, moment, parts, call);
+        match self.judge(&attempt) {
+            Ok(None) => self.enter(&attempt),
+            Ok(Some(violation)) => {
                 let callers = Callers::of(memory, &moment.regs);
-                self.finding = Some(Finding {
-                    wrong: forbidden(&misuse),
-                    step: moment.step,
-                    before: moment.regs,
-                    after: parts.regs,
-                    callers,
-                });
+                self.conclude(moment.step, &attempt, &violation, callers);
             }
             Err(full) => self.full = Some(full),
         }
     }
 
-    /// What is wrong with an instruction; what it did is noted where nothing is.
-    fn judge(
+    /// Ends with what is wrong with an attempt, unless it is one of what is not told.
+    fn conclude(
         &mut self,
-        moment: &Moment,
-        parts: &TenantParts,
-        call: Option<&AnsweredCall>,
-    ) -> Result<Option<Misuse>, Full> {
-        let Some(word) = moment.word else {
-            return Ok(None);
-        };
-        if word == SVC {
-            return self.judge_service(&moment.regs, parts, call);
+        step: u64,
+        attempt: &Attempt<'_>,
+        violation: &Violation,
+        callers: Callers,
+    ) {
+        match self.is_silent(violation, attempt.step.before.pc, &callers) {
+            Ok(true) => {
+                self.forget(violation);
+                self.enter(attempt);
+            }
+            Ok(false) => {
+                self.finding = Some(Finding {
+                    wrong: forbidden(violation),
+                    step,
+                    before: *attempt.step.before,
+                    after: *attempt.step.after,
+                    callers,
+                });
+            }
+            Err(_) => self.full = Some(Full::OutOfMemory),
         }
-        let Some(instr) = decode(word) else {
-            return Ok(None);
-        };
-        self.judge_instruction(
-            &Step {
-                instr: &instr,
-                access: access_of(&instr, &moment.regs).map(|access| of_registers(&access)),
-                before: &moment.regs,
-                after: &parts.regs,
-            },
-            parts.is_running(),
-        )
     }
 
-    /// The same of an instruction other than SVC.
-    fn judge_instruction(
+    /// Whether what is wrong with the instruction at an address is not told.
+    fn is_silent(
         &mut self,
-        step: &Step<'_>,
-        is_completed: bool,
-    ) -> Result<Option<Misuse>, Full> {
-        if let Some(access) = &step.access {
-            let found = self.shadow.judge(step.instr, access, is_completed)?;
-            if found.is_some() {
-                return Ok(found);
+        violation: &Violation,
+        pc: u64,
+        callers: &Callers,
+    ) -> Result<bool, AllocError> {
+        match &mut self.silence {
+            Some(silence) => silence.hides(self.alloc, violation.kind(), pc, callers),
+            None => Ok(false),
+        }
+    }
+
+    /// Lets nothing else be said of undefined bits of which something was not told.
+    fn forget(&mut self, violation: &Violation) {
+        if let Violation::Undefined(used) = violation {
+            if let Some(bits) = &mut self.bits {
+                bits.forget(used.origin);
             }
         }
-        if is_completed {
-            self.shadow.note(step)?;
+    }
+
+    /// What is wrong with an attempt, of which nothing is noted yet.
+    fn judge(&mut self, attempt: &Attempt<'_>) -> Result<Option<Violation>, Full> {
+        if let Some(misuse) = self.misuse_by(attempt)? {
+            return Ok(Some(Violation::Provenance(misuse)));
         }
-        Ok(None)
+        let Some(bits) = &self.bits else {
+            return Ok(None);
+        };
+        let used = match &attempt.service {
+            Some(asked) => {
+                let output = asked.bytes.filter(|bytes| !bytes.is_write);
+                bits.judge_service(arguments_of(attempt.step.before), output)
+            }
+            None => bits.judge(&attempt.step),
+        };
+        Ok(used.map(|used| Violation::Undefined(used)))
+    }
+
+    /// Notes what an attempt did that completed.
+    fn enter(&mut self, attempt: &Attempt<'_>) {
+        if !attempt.is_completed {
+            return;
+        }
+        let noted = match &attempt.service {
+            Some(asked) => self.note_service(asked, attempt.step.after),
+            None => self.note_instruction(&attempt.step),
+        };
+        if let Err(full) = noted {
+            self.full = Some(full);
+        }
+    }
+
+    /// Notes an instruction other than SVC.
+    fn note_instruction(&mut self, step: &Step<'_>) -> Result<(), Full> {
+        if let Some(bits) = &mut self.bits {
+            bits.note(step)?;
+        }
+        if let Some(returned) = self.functions.note(step) {
+            self.shadow.note_maker(&returned);
+        }
+        self.shadow.note(step)
+    }
+
+    /// What is wrong with the pointer by which an attempt accesses memory, or which it frees, where
+    /// that is checked.
+    fn misuse_by(&mut self, attempt: &Attempt<'_>) -> Result<Option<Misuse>, Full> {
+        let is_completed = attempt.is_completed;
+        match (&attempt.service, &attempt.step.access) {
+            (Some(asked), _) => Ok(self.misuse_of(asked, attempt)),
+            (None, Some(access)) if self.kinds.provenance => {
+                Ok(self.shadow.judge(attempt.step.instr, access, is_completed)?)
+            }
+            _ => Ok(None),
+        }
     }
 
     /// The same of a service.
-    fn judge_service(
-        &mut self,
-        before: &Regs,
-        parts: &TenantParts,
-        call: Option<&AnsweredCall>,
-    ) -> Result<Option<Misuse>, Full> {
-        let (after, is_completed) = (&parts.regs, parts.is_running());
-        let bytes = bytes_of_service(before, after, is_completed);
-        let found = match bytes {
-            Some(bytes) => self.shadow.judge_service(bytes, is_completed),
-            None if is_free(before) => self.shadow.judge_free(before.x[0]),
-            None => None,
-        };
-        if found.is_some() || !is_completed {
-            return Ok(found);
-        }
-        match call {
-            Some(call) => {
-                let change = change_by(call, parts.history.calls.count());
-                self.shadow.note_call(&change, after)?;
+    fn misuse_of(&self, asked: &RequestedService<'_>, attempt: &Attempt<'_>) -> Option<Misuse> {
+        let before = attempt.step.before;
+        match asked.bytes {
+            Some(bytes) if self.kinds.provenance => {
+                self.shadow.judge_service(bytes, attempt.is_completed)
             }
-            None => self.shadow.note_service(bytes, after),
+            None if self.kinds.frees && is_free(before) => {
+                let pointer = before.x[0];
+                self.shadow
+                    .judge_free(pointer, self.functions.freeing(pointer))
+            }
+            _ => None,
         }
-        Ok(None)
+    }
+
+    /// Notes a service that completed.
+    fn note_service(&mut self, asked: &RequestedService<'_>, after: &Regs) -> Result<(), Full> {
+        let Some((call, number)) = asked.call else {
+            if let Some(bits) = &mut self.bits {
+                bits.note_service(asked.bytes.filter(|bytes| bytes.is_write))?;
+            }
+            self.shadow.note_service(asked.bytes, after);
+            return Ok(());
+        };
+        let change = change_by(call, number);
+        let old = change.freed.and_then(|start| self.shadow.live_chunk(start));
+        if let Some(bits) = &mut self.bits {
+            note_chunk(bits, call, &change, old.as_ref())?;
+        }
+        self.shadow.note_call(&change, after)
+    }
+}
+
+/// Notes what a heap call defines and leaves undefined; `old` is the chunk that it frees, or gives
+/// another size.
+fn note_chunk(
+    bits: &mut UndefinedBits,
+    call: &AnsweredCall,
+    change: &ChunkChange,
+    old: Option<&TracedChunk>,
+) -> Result<(), Full> {
+    bits.note_service(None)?;
+    let Some((pointer, size)) = change.made else {
+        return Ok(());
+    };
+    let start = plain(pointer);
+    let end = start.saturating_add(size);
+    match old {
+        Some(old) if old.start() == start && old.end() < end => {
+            bits.note_grown(change.number, old.end(), end)
+        }
+        Some(old) if old.start() == start => Ok(()),
+        Some(old) => {
+            bits.note_made(change.number, start, size, false)?;
+            bits.note_moved(old.start(), start, size.min(u64::from(old.size)))
+        }
+        None => {
+            let is_defined = matches!(call.call, HeapCall::Calloc { .. });
+            bits.note_made(change.number, start, size, is_defined)
+        }
     }
 }
 
@@ -190,6 +372,16 @@ fn is_free(before: &Regs) -> bool {
     matches!(before.x[8], FREE | REALLOC) && before.x[0] != 0
 }
 
+/// The registers that a service takes.
+fn arguments_of(before: &Regs) -> ServiceArguments {
+    match before.x[8] {
+        EXIT => ServiceArguments::ExitStatus,
+        MALLOC | FREE | USABLE_SIZE => ServiceArguments::One,
+        WRITE | READ | CALLOC | REALLOC | MEMALIGN => ServiceArguments::Two,
+        _ => ServiceArguments::None,
+    }
+}
+
 /// What a heap call with a number did to chunks.
 fn change_by(call: &AnsweredCall, number: u64) -> ChunkChange {
     ChunkChange {
@@ -199,16 +391,28 @@ fn change_by(call: &AnsweredCall, number: u64) -> ChunkChange {
     }
 }
 
-/// An access or a free that is wrong, as it is told.
-fn forbidden(misuse: &Misuse) -> ForbiddenAccess {
-    let access = &misuse.access;
-    ForbiddenAccess {
-        violation: Violation::Provenance(*misuse),
-        addr: misuse.addr,
-        span: Span {
+/// What is wrong, as it is told.
+fn forbidden(violation: &Violation) -> ForbiddenAccess {
+    let (addr, access) = match violation {
+        Violation::Provenance(misuse) => (misuse.addr, Some(&misuse.access)),
+        Violation::Undefined(used) => (used.addr.unwrap_or(0), None),
+        Violation::Bounds(_) => (0, None),
+    };
+    let span = match access {
+        Some(access) => Span {
             addr: access.addr,
             bytes: access.count,
             is_write: access.is_write,
         },
+        None => Span {
+            addr,
+            bytes: 0,
+            is_write: false,
+        },
+    };
+    ForbiddenAccess {
+        violation: *violation,
+        addr,
+        span,
     }
 }

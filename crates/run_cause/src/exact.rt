@@ -35,6 +35,16 @@ pub struct ForbiddenAccess {
     pub span: Span,
 }
 
+impl ForbiddenAccess {
+    /// The plain address that it is about; `None` where it is about no memory.
+    pub fn place(&self) -> Option<u64> {
+        match &self.violation {
+            Violation::Undefined(used) => used.addr,
+            _ => Some(self.addr),
+        }
+    }
+}
+
 /// An instruction that completed with such an access.
 #[derive(Clone, Copy)]
 pub struct Finding {

@@ -8,6 +8,7 @@ mod evidence;
 mod exact;
 mod families;
 mod jump;
+mod terms;
 mod violation;
 mod words;
 
@@ -17,5 +18,6 @@ pub use evidence::Evidence;
 pub use exact::{Exact, Finding, ForbiddenAccess, Span, span_of};
 pub use families::{breakpoint_words, family_of, is_undefined};
 pub use jump::{LastStore, StoreWatch, TargetLoad, branch_in};
+pub use terms::{CheckTerms, is_hidden};
 pub use violation::Violation;
 pub use words::{abort_words, fault_words};

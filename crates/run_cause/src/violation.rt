@@ -1,8 +1,10 @@
 //! What is wrong with an access, by what found it.
 
+use check_kinds::CheckKind;
 use heap_bounds::Trespass;
 use pointer_provenance::{Misuse, MisuseKind};
 use std::fmt;
+use undefined_bits::{UndefinedUse, UseKind};
 
 /// What is wrong with an access, by what found it.
 #[derive(Clone, Copy)]
@@ -11,6 +13,8 @@ pub enum Violation {
     Bounds(Trespass),
     /// The bounds of its pointer's own chunk.
     Provenance(Misuse),
+    /// It depends on bits that were never given a value.
+    Undefined(UndefinedUse),
 }
 
 impl Violation {
@@ -18,7 +22,21 @@ impl Violation {
     pub fn finder(&self) -> &'static str {
         match self {
             Violation::Bounds(_) => "exact",
-            Violation::Provenance(_) => "check",
+            Violation::Provenance(_) | Violation::Undefined(_) => "check",
+        }
+    }
+
+    /// Whether it is one of the bounds of the chunks at its address.
+    pub fn is_of_bounds(&self) -> bool {
+        matches!(self, Violation::Bounds(_))
+    }
+
+    /// The kind of what is checked that it is of.
+    pub fn kind(&self) -> CheckKind {
+        match self {
+            Violation::Undefined(_) => CheckKind::Undefined,
+            _ if self.is_free() => CheckKind::Frees,
+            _ => CheckKind::Provenance,
         }
     }
 
@@ -29,16 +47,17 @@ impl Violation {
             Violation::Bounds(Trespass::Freed) => "is of a chunk that was freed",
             Violation::Bounds(Trespass::NoChunk) => "is of no chunk",
             Violation::Provenance(misuse) => misuse_words(misuse),
+            Violation::Undefined(used) => use_words(used.kind),
         }
     }
 
     /// Whether it is no access but a free.
     pub fn is_free(&self) -> bool {
         match self {
-            Violation::Bounds(_) => false,
+            Violation::Bounds(_) | Violation::Undefined(_) => false,
             Violation::Provenance(misuse) => matches!(
                 misuse.kind,
-                MisuseKind::DoubleFree | MisuseKind::InnerFree
+                MisuseKind::DoubleFree | MisuseKind::InnerFree | MisuseKind::MismatchedFree
             ),
         }
     }
@@ -52,7 +71,23 @@ impl fmt::Display for Violation {
                 let kind = misuse.kind;
                 write!(f, "{kind:?}")
             }
+            Violation::Undefined(used) => {
+                let kind = used.kind;
+                write!(f, "Undefined{kind:?}")
+            }
         }
+    }
+}
+
+/// What depends on bits that were never given a value.
+fn use_words(kind: UseKind) -> &'static str {
+    match kind {
+        UseKind::Branch => "whether it branches",
+        UseKind::Address => "the address that it accesses",
+        UseKind::Jump => "where it jumps to",
+        UseKind::Output => "what it writes out",
+        UseKind::Argument => "an argument of the service",
+        UseKind::ExitStatus => "the exit status",
     }
 }
 
@@ -75,5 +110,6 @@ fn misuse_words(misuse: &Misuse) -> &'static str {
         }
         (MisuseKind::DoubleFree, _) => "the pointer's chunk was freed before",
         (MisuseKind::InnerFree, _) => "it points into its chunk, not to the start",
+        (MisuseKind::MismatchedFree, _) => "the pointer's chunk is not for this function to free",
     }
 }

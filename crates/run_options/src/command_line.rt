@@ -123,8 +123,7 @@ fn terms_options<'a>(alloc: Global, command: Command<'a>) -> Result<Command<'a>,
     let command = command.arg(seed(alloc))?;
     let command = command.arg(seeds(alloc))?;
     let command = command.arg(exact(alloc))?;
-    let help = "Ends it at the first use of a pointer that its own chunk does not allow";
-    let command = command.arg(flag(alloc, "check", help))?;
+    let command = check_options(alloc, command)?;
     let help = "The asynchronous tag mode";
     Ok(command.arg(flag(alloc, "async", help))?)
 }
@@ -154,6 +153,29 @@ fn exact<'a>(alloc: Global) -> Arg<'a> {
     let help = "Ends it at the first access to heap bytes that no live chunk has";
     named(alloc, "exact", "all|writes", help)
         .value_parser(["all", "writes"].as_slice())
+        .num_args(0..=1)
+        .require_equals(true)
+        .default_missing_value("all")
+}
+
+/// The arguments that say what is checked beside the tags.
+fn check_options<'a>(alloc: Global, command: Command<'a>) -> Result<Command<'a>, Error> {
+    let command = command.arg(check(alloc))?;
+    let help = "Does not tell what has a kind, a function and a source file of these lines";
+    let command = command.arg(named(alloc, "suppressions", "FILE", help))?;
+    let help = "The exit status where --check found something, in place of 137";
+    let command = command.arg(status(alloc, "check-status", help))?;
+    let help = "The exit status of a tenant that exits and has lost chunks";
+    Ok(command.arg(status(alloc, "lost-status", help))?)
+}
+
+fn status<'a>(alloc: Global, name: &'a str, help: &'a str) -> Arg<'a> {
+    named(alloc, name, "N", help).value_parser(value_parser!(u32).range(0..=255))
+}
+
+fn check<'a>(alloc: Global) -> Arg<'a> {
+    let help = "Ends it at the first wrong use of a pointer, a chunk or an undefined value";
+    named(alloc, "check", "KIND,..", help)
         .num_args(0..=1)
         .require_equals(true)
         .default_missing_value("all")

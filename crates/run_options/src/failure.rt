@@ -1,5 +1,6 @@
 //! Why the program has nothing to say of a tenant, or cannot.
 
+use check_kinds::SuppressionFault;
 use mte_session::{ReadFault, ScriptError, ScriptFault, WriteFault};
 use obstacle::Obstacle;
 use script_lines::WrongWord;
@@ -66,6 +67,8 @@ pub enum Failure<'a> {
     Script(u64, ScriptFault, WrongWord),
     /// What watches the tenant's pointers could note no more, and why.
     Check(&'static str),
+    /// A file of what is not told, by its name, has a line that is none.
+    Suppressions(&'a str, SuppressionFault),
 }
 
 impl<'a> Failure<'a> {
@@ -113,7 +116,7 @@ impl<'a> Failure<'a> {
             Failure::Memory | Failure::Check(_) => 4,
             Failure::Read(_, _) => 5,
             Failure::Write | Failure::WriteFile(_, _) => 6,
-            Failure::Script(_, _, _) => 3,
+            Failure::Script(_, _, _) | Failure::Suppressions(_, _) => 3,
         }
     }
 }
@@ -127,6 +130,10 @@ impl<'a> fmt::Display for Failure<'a> {
             Failure::WriteFile(name, fault) => write_fault(f, "write", name, *fault),
             Failure::Script(line, fault, wrong) => {
                 write!(f, "script line {line}: {fault}: {wrong}")
+            }
+            Failure::Suppressions(name, fault) => {
+                let name = Printable(name);
+                write!(f, "{name} {fault}")
             }
             Failure::Check(why) => write!(f, "--check can note no more: {why}"),
         }

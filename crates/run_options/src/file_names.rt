@@ -44,6 +44,7 @@ fn is_read(options: &Options, name: &str) -> bool {
         None => None,
     };
     script == Some(name)
+        || name_of(&options.output.suppressions) == Some(name)
         || name_of(&options.run.input) == Some(name)
         || options
             .files

@@ -3,6 +3,7 @@
 ghost use Rattle.std.specs.Prelude.{◌<◌, ◌≤◌};
 
 use crate::file_names::has_shared_name;
+use check_kinds::CheckKinds;
 use clap::ArgMatches;
 use mte_tags::TagMode;
 use obstacle::Obstacle;
@@ -76,8 +77,14 @@ pub struct OutputOptions {
     pub sarif: Option<String>,
     /// Whether accesses are to keep to the bytes of chunks.
     pub exact: Exactness,
-    /// Whether each pointer is to be used as its own chunk allows, and lost chunks are told.
-    pub check: bool,
+    /// What is checked beside the tags.
+    pub check: CheckKinds,
+    /// The name of the file with what of that is not told.
+    pub suppressions: Option<String>,
+    /// The exit status where something was found, in place of 137.
+    pub found_status: Option<u8>,
+    /// The exit status of a tenant that exited and lost chunks, in place of its own.
+    pub lost_status: Option<u8>,
     /// The name of the file that the tenant's core is written into.
     pub core: Option<String>,
     /// Whether output for which there is no room is a failure.
@@ -122,6 +129,12 @@ pub enum Fault {
     Seed,
     /// The trace is not from one step to another.
     Trace,
+    /// A word is no kind of what is checked.
+    Check,
+    /// What is found is not told, or has an exit status, but nothing is checked.
+    Unchecked,
+    /// Lost chunks have an exit status, but are not looked for.
+    Lost,
     /// There are frames without a script.
     Frames,
     /// Output is to be raw without a script.
@@ -140,6 +153,11 @@ impl Fault {
         match self {
             Fault::Seed => "the seed is not a number of 1 to 16 hexadecimal digits",
             Fault::Trace => "the trace is not FROM-TO, two step numbers, the lower one first",
+            Fault::Check => {
+                "--check takes provenance, frees, leaks, undefined or all, with commas between them"
+            }
+            Fault::Unchecked => "--suppressions and --check-status are for --check",
+            Fault::Lost => "--lost-status is for --check with leaks",
             Fault::Frames => "--frames is for a session: it wants --script",
             Fault::RawOutput => "--raw-output is for a session: it wants --script",
             Fault::Names => {
@@ -185,7 +203,7 @@ impl Options {
         } else if has_shared_name(self) {
             Some(Fault::Names)
         } else {
-            None
+            self.output.fault()
         }
     }
 
@@ -316,13 +334,44 @@ impl OutputOptions {
             core: name_of(alloc, matches, "core")?,
             is_whole: matches.get_flag("whole-output"),
             is_raw: matches.get_flag("raw-output"),
-            check: matches.get_flag("check"),
+            check: checked_by(matches.get_str("check"))?,
+            suppressions: name_of(alloc, matches, "suppressions")?,
+            found_status: status_of(matches, "check-status"),
+            lost_status: status_of(matches, "lost-status"),
             exact: match matches.get_str("exact") {
                 None => Exactness::Tags,
                 Some("writes") => Exactness::Writes,
                 Some(_) => Exactness::All,
             },
         })
+    }
+}
+
+impl OutputOptions {
+    /// What is wrong with the options of a check.
+    fn fault(&self) -> Option<Fault> {
+        let has_terms = self.suppressions.is_some() || self.found_status.is_some();
+        if self.check.is_none() && has_terms {
+            Some(Fault::Unchecked)
+        } else if self.lost_status.is_some() && !self.check.leaks {
+            Some(Fault::Lost)
+        } else {
+            None
+        }
+    }
+}
+
+/// The exit status that an option names, if it is given.
+fn status_of(matches: &ArgMatches<'_>, option: &str) -> Option<u8> {
+    let status = matches.get_one::<u32>(option)?;
+    u8::try_from(status).ok()
+}
+
+/// What is checked, by the value of the option; nothing without it.
+fn checked_by(text: Option<&str>) -> Result<CheckKinds, Obstacle<Fault>> {
+    match text {
+        Some(text) => CheckKinds::parse(text).ok_or(Obstacle::Refused(Fault::Check)),
+        None => Ok(CheckKinds::NONE),
     }
 }
 

@@ -108,22 +108,27 @@ pub struct LastLine<'a> {
     pub ending: TenantEnding,
     /// Its record.
     pub log: &'a Record,
+    /// The exit status of the program.
+    pub status: u8,
 }
 
 impl<'a> LastLine<'a> {
     /// Whether it is written: not for an exit status that only a tenant has.
     pub fn is_told(&self) -> bool {
-        let status = self.ending.status(self.log);
-        self.ending != TenantEnding::Exit || matches!(status, 2..=6 | 129..=138)
+        let is_own = self.status == self.ending.status(self.log);
+        !is_own || self.ending != TenantEnding::Exit || matches!(self.status, 2..=6 | 129..=138)
     }
 }
 
 impl<'a> fmt::Display for LastLine<'a> {
     fn fmt<W: fmt::Write>(&self, f: &mut fmt::Formatter<W>) -> fmt::Result {
-        let (ending, status) = (self.ending, self.ending.status(self.log));
+        let (ending, status) = (self.ending, self.status);
         match &self.log.status {
             _ if matches!(ending, TenantEnding::Exact | TenantEnding::Cut) => {
                 write!(f, "ended by {ending}, status {status}")
+            }
+            Status::Exited(code) if *code != status => {
+                write!(f, "exited with {code} and has lost chunks, status {status}")
             }
             Status::Exited(_) => write!(f, "exited with {status}"),
             Status::Faulted(fault, _) => {

@@ -2,8 +2,10 @@
 
 use crate::observer::{Observer, exact_of};
 use crate::tracer::Tracer;
+use check_kinds::Suppressions;
 use either::Either;
 use elf_symbols::Symbols;
+use run_cause::CheckTerms;
 use run_options::{Failure, Options, OutputOptions, Traced};
 use std::fs::File;
 use std::io::{BufWriter, Stderr};
@@ -12,11 +14,12 @@ use std::io::{BufWriter, Stderr};
 pub type Log = BufWriter<Either<Stderr, File>>;
 
 /// What is remembered and written of a tenant, as the options request it: with the names of an
-/// image's functions, where it is known before the run.
+/// image's functions, where it is known before the run, and without what is not told.
 pub fn observer_of<'a, 'i>(
     rt: &HostRuntime,
     options: &'a Options,
     image: &'i [u8],
+    suppressions: &'i Suppressions,
 ) -> Result<Observer<'i, Log>, Failure<'a>> {
     let output = &options.output;
     let tracer = match output.traced {
@@ -26,7 +29,12 @@ pub fn observer_of<'a, 'i>(
     let exact = exact_of(rt.alloc(), output.exact);
     let observer = Observer::new(rt.alloc(), output.last, exact, tracer)?;
     let observer = observer.with_turns(rt.alloc(), output.turns)?;
-    let observer = observer.with_checker(rt.alloc(), output.check)?;
+    let terms = CheckTerms {
+        image,
+        kinds: output.check,
+        suppressions,
+    };
+    let observer = observer.with_checker(rt.alloc(), &terms)?;
     Ok(observer.with_statistics(output.statistics))
 }
 

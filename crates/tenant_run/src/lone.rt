@@ -10,6 +10,7 @@ use crate::output_stream::OutputStream;
 use crate::slices::run_slices;
 use crate::store_watcher::StoreWatcher;
 use crate::survey::Survey;
+use check_kinds::Suppressions;
 use mte_tenant::{Admission, AdmitError, Terms};
 use obstacle::Obstacle;
 use run_options::{Failure, Options};
@@ -55,12 +56,13 @@ impl<'x> LoneTenant<'x> {
         options: &Options,
         image: &'x [u8],
         input: &'x [u8],
+        suppressions: &'x Suppressions,
     ) -> Result<LoneTenant<'x>, Obstacle<AdmitError>> {
         let given = options.run.terms.seed;
         let seed = if options.run.seeds < 2 {
             given
         } else {
-            let survey = Survey::of(rt.alloc(), options, image, input)?;
+            let survey = Survey::of(rt.alloc(), options, image, input, suppressions)?;
             let _ = eprintln!(rt; "mte_run: {survey}");
             survey.seed(given)
         };

@@ -9,11 +9,11 @@ use instruction_trace::{Moment, SVC, Turn};
 use mte_svc::WRITE;
 use mte_tags::Paged;
 use mte_tenant::{Status, TenantParts, Watch};
-use pointer_provenance::Full;
 use run_book::Book;
-use run_cause::{Checker, Exact, Finding, LastStore, TargetLoad};
+use run_cause::{CheckTerms, Checker, Exact, Finding, LastStore, TargetLoad};
 use run_options::Exactness;
 use run_statistics::{Statistics, StatisticsTable};
+use shadow_memory::Full;
 use std::alloc::{AllocError, Global};
 use std::io::Write;
 
@@ -37,7 +37,7 @@ pub struct Observer<'a, W: Write + Drop> {
     /// The bounds of chunks, where accesses are to keep to them.
     exact: Option<Exact>,
     /// Where pointers come from, where each is to be used as its own chunk allows.
-    checker: Option<Checker>,
+    checker: Option<Checker<'a>>,
     /// The numbers of the run, where they are wanted.
     statistics: Option<Statistics>,
     /// Whether a service wrote fewer bytes than it was handed.
@@ -88,14 +88,14 @@ impl<'a, W: Write + Drop> Observer<'a, W> {
         self
     }
 
-    /// The same that also watches where pointers come from, where that is wanted.
+    /// The same that also checks what a tenant does, as terms say.
     pub fn with_checker(
         mut self,
         alloc: Global,
-        wanted: bool,
+        terms: &CheckTerms<'a>,
     ) -> Result<Observer<'a, W>, AllocError> {
-        if wanted {
-            self.checker = Some(Checker::new(alloc)?);
+        if !terms.kinds.is_none() {
+            self.checker = Some(Checker::new(alloc, terms)?);
         }
         Ok(self)
     }
@@ -140,7 +140,7 @@ impl<'a, W: Write + Drop> Observer<'a, W> {
     }
 
     /// What is known of the tenant's pointers, where it is watched for that.
-    pub fn checker(&self) -> Option<&Checker> {
+    pub fn checker(&self) -> Option<&Checker<'a>> {
         self.checker.as_ref()
     }
 

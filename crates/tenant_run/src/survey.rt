@@ -8,8 +8,10 @@ use crate::observer::{Observer, exact_of};
 use crate::output_stream::OutputStream;
 use crate::seeds::seed_of_run;
 use crate::slices::run_slices;
+use check_kinds::Suppressions;
 use mte_tenant::AdmitError;
 use obstacle::Obstacle;
+use run_cause::CheckTerms;
 use run_options::Options;
 use std::alloc::Global;
 use std::fmt;
@@ -32,15 +34,21 @@ impl Survey {
         options: &Options,
         image: &'x [u8],
         input: &'x [u8],
+        suppressions: &'x Suppressions,
     ) -> Result<Survey, Obstacle<AdmitError>> {
         let mut survey = Survey {
             runs: 0,
             counts: [0; ENDINGS],
             found: None,
         };
+        let terms = CheckTerms {
+            image,
+            kinds: options.output.check,
+            suppressions,
+        };
         for number in 0..options.run.seeds {
             let seed = seed_of_run(options.run.terms.seed, number);
-            let ending = ending_under(alloc, options, image, input, seed)?;
+            let ending = ending_under(alloc, options, &terms, input, seed)?;
             survey.enter(seed, ending);
         }
         Ok(survey)
@@ -67,13 +75,14 @@ impl Survey {
 fn ending_under<'x>(
     alloc: Global,
     options: &Options,
-    image: &'x [u8],
+    terms: &CheckTerms<'x>,
     input: &'x [u8],
     seed: u64,
 ) -> Result<TenantEnding, Obstacle<AdmitError>> {
+    let image = terms.image;
     let exact = exact_of(alloc, options.output.exact);
     let observer: Observer<'_, Log> = Observer::new(alloc, 1, exact, None)?;
-    let mut observer = observer.with_checker(alloc, options.output.check)?;
+    let mut observer = observer.with_checker(alloc, terms)?;
     let mut bench = TenantBench::new(alloc, &admission_of(options, image, input, seed))?;
     observer.is_watching = observer.needs_each_step();
     let mut out = OutputStream::silent();

@@ -1,23 +1,17 @@
 //! What is known of the words of a tenant's memory.
 
 use crate::origin::{PointerOrigin, Provenance};
+use crate::page_numbers::PageNumbers;
 use crate::shadow_page::ShadowPage;
-use address_map::{ADDRESS_END, GRANULE_SIZE, PAGE_SIZE};
+use address_map::{GRANULE_SIZE, PAGE_SIZE};
 use std::alloc::{AllocError, Global};
-
-/// How many pages the addresses have.
-const PAGES: usize = (ADDRESS_END / PAGE_SIZE) as usize;
-
-/// The most pages of which something is kept: twice as many as a tenant reserves. A page takes
-/// 3,584 bytes.
-pub const MOST_PAGES: usize = 8_192;
 
 /// What is known of the words of a tenant's memory. A page of which nothing is known takes none.
 #[derive(Drop)]
 pub struct MemoryShadow {
     alloc: Global,
-    /// For each page of the addresses its index among the pages, from 1, or 0 for none.
-    table: Vec<u16>,
+    numbers: PageNumbers,
+    /// The pages, by their numbers; each takes 3,584 bytes.
     pages: Vec<ShadowPage>,
     /// Whether a page found no place.
     pub is_short: bool,
@@ -28,7 +22,7 @@ impl MemoryShadow {
     pub fn new(alloc: Global) -> Result<MemoryShadow, AllocError> {
         Ok(MemoryShadow {
             alloc,
-            table: vec![in alloc; 0u16; PAGES]?,
+            numbers: PageNumbers::new(alloc)?,
             pages: Vec::new(alloc),
             is_short: false,
         })
@@ -41,14 +35,12 @@ impl MemoryShadow {
 
     /// The page of an address.
     fn page(&self, addr: u64) -> Option<&ShadowPage> {
-        let index = usize::from(*self.table.get((addr / PAGE_SIZE) as usize)?);
-        self.pages.get(index.wrapping_sub(1))
+        self.pages.get(self.numbers.of(addr)?)
     }
 
     /// The page of an address, to be changed.
     fn page_mut(&mut self, addr: u64) -> Option<&mut ShadowPage> {
-        let index = usize::from(*self.table.get((addr / PAGE_SIZE) as usize)?);
-        self.pages.get_mut(index.wrapping_sub(1))
+        self.pages.get_mut(self.numbers.of(addr)?)
     }
 
     /// Makes the page of an address, where it is not there and has a place.
@@ -56,14 +48,13 @@ impl MemoryShadow {
         if self.page(addr).is_some() {
             return Ok(());
         }
-        let count = self.pages.len();
-        if count >= MOST_PAGES {
+        if self.numbers.is_full() {
             self.is_short = true;
             return Ok(());
         }
-        if let Some(entry) = self.table.get_mut((addr / PAGE_SIZE) as usize) {
-            self.pages.push(ShadowPage::new(self.alloc)?)?;
-            *entry = (count + 1) as u16;
+        let page = ShadowPage::new(self.alloc)?;
+        if self.numbers.enter(addr) {
+            self.pages.push(page)?;
         }
         Ok(())
     }

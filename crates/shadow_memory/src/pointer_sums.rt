@@ -183,8 +183,8 @@ impl PointerSums {
         self.sums.as_slice()
     }
 
-    /// Where a value points that is made of two, the second of which enters by a sign. Unknown
-    /// where a sum would have more than four pointers, and where the stack is one of two.
+    /// Where a value points that is made of two, the second of which enters by a sign. Where a sum
+    /// would have more than four pointers, or no more sums are kept, it is mixed.
     pub fn combine(
         &mut self,
         one: PointerOrigin,
@@ -197,8 +197,8 @@ impl PointerSums {
         if !one.is_known() && sign != Sign::Minus {
             return Ok(other);
         }
-        if one == PointerOrigin::STACK || other == PointerOrigin::STACK {
-            return Ok(PointerOrigin::UNKNOWN);
+        if one == PointerOrigin::MIXED || other == PointerOrigin::MIXED {
+            return Ok(PointerOrigin::MIXED);
         }
         let mut terms = TermList::new();
         let own = if sign == Sign::Exclusive {
@@ -230,20 +230,23 @@ impl PointerSums {
         if let Some(origin) = terms.only() {
             return Ok(origin);
         }
-        if terms.count == 0 || terms.count > TERMS {
+        if terms.count == 0 {
             return Ok(PointerOrigin::UNKNOWN);
+        }
+        if terms.count > TERMS {
+            return Ok(PointerOrigin::MIXED);
         }
         self.index(terms.sum())
     }
 
-    /// The origin of a sum, which is entered where it is new. Unknown where the table is full.
+    /// The origin of a sum, which is entered where it is new. Mixed where the table is full.
     fn index(&mut self, sum: PointerSum) -> Result<PointerOrigin, AllocError> {
         if let Some(index) = self.indices.get(&sum) {
             return Ok(PointerOrigin::of_sum(*index));
         }
         let index = self.sums.len();
         if index >= MOST_SUMS {
-            return Ok(PointerOrigin::UNKNOWN);
+            return Ok(PointerOrigin::MIXED);
         }
         self.sums.push(sum)?;
         self.indices.insert(sum, index)?;

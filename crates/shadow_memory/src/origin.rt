@@ -32,6 +32,9 @@ impl PointerOrigin {
     /// The stack.
     pub const STACK: PointerOrigin = PointerOrigin { number: 1 };
 
+    /// A sum of pointers that is not kept, so that no one pointer is left whatever is added.
+    pub const MIXED: PointerOrigin = PointerOrigin { number: u32::MAX };
+
     /// The chunk at an index, of those that have a number.
     pub fn of_chunk(index: usize) -> PointerOrigin {
         match u32::try_from(index) {
@@ -48,7 +51,7 @@ impl PointerOrigin {
             Ok(index) if index < FIRST_SUM => PointerOrigin {
                 number: index + FIRST_SUM,
             },
-            _ => PointerOrigin::UNKNOWN,
+            _ => PointerOrigin::MIXED,
         }
     }
 

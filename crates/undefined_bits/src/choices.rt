@@ -1,0 +1,165 @@
+//! What instructions make of undefined bits that choose by a condition, or take a carry.
+
+use crate::register_rules::{SumOperands, mask};
+use crate::state::UndefinedBits;
+use a64_bits::{Flags, add_with_carry};
+use a64_instr::Instr;
+use a64_registers::conditions::condition_holds;
+use a64_registers::operands::{inverted, size_of_operands, truncate};
+use shadow_memory::Step;
+use undefined_values::{BitOperand, FlagState, UndefinedValue, difference, from_lowest, sum};
+
+/// The condition that the carry is set.
+const CARRY_SET: u8 = 2;
+
+impl UndefinedBits {
+    /// Notes a selection of one of two registers, the second perhaps counted up, inverted or
+    /// negated. By a condition that is not defined those bits are undefined in which both differ.
+    pub(crate) fn note_selection(&mut self, step: &Step<'_>) {
+        let Instr::CondSel {
+            sf,
+            op,
+            rm,
+            cond,
+            o2,
+            rn,
+            rd,
+        } = *step.instr
+        else {
+            return;
+        };
+        let (first, other) = (self.register(rn), self.register(rm));
+        let origin = self.flags.undefined_origin(cond % 16);
+        if origin.is_none() && first.bits | other.bits == 0 {
+            self.set(rd, UndefinedValue::DEFINED);
+            return;
+        }
+        let x = self.operand(step, sf, rn);
+        let y = altered(sf, op, o2, self.operand(step, sf, rm));
+        let value = match origin {
+            Some(origin) => {
+                let bits = (x.value ^ y.value) | x.undefined | y.undefined;
+                UndefinedValue::of(bits, origin)
+            }
+            None if condition_holds(step.before.flags, cond % 16) => {
+                UndefinedValue::of(x.undefined, first.origin)
+            }
+            None => UndefinedValue::of(y.undefined, other.origin),
+        };
+        self.set(rd, value);
+    }
+
+    /// Notes a comparison that is made where a condition holds; where it does not, the flags are a
+    /// number.
+    pub(crate) fn note_conditional_compare(&mut self, step: &Step<'_>) {
+        let Instr::CondCmp {
+            sf,
+            op,
+            rm,
+            cond,
+            i,
+            rn,
+            nzcv,
+        } = *step.instr
+        else {
+            return;
+        };
+        let (y, other) = if i == 1 {
+            (BitOperand::defined(u64::from(rm)), UndefinedValue::DEFINED)
+        } else {
+            (self.operand(step, sf, rm), self.register(rm))
+        };
+        let operands = SumOperands {
+            sf,
+            op,
+            x: self.operand(step, sf, rn),
+            y,
+            origin: self.register(rn).origin_or(other),
+        };
+        let state = match self.flags.undefined_origin(cond % 16) {
+            Some(origin) => match operands.flags() {
+                FlagState::Defined => {
+                    FlagState::Either(compared_flags(&operands), flags_of(nzcv), origin)
+                }
+                _ => FlagState::Undefined(origin),
+            },
+            None if condition_holds(step.before.flags, cond % 16) => operands.flags(),
+            None => FlagState::Defined,
+        };
+        self.flags = state;
+    }
+
+    /// Notes a sum or a difference with a carry.
+    pub(crate) fn note_carried_sum(&mut self, step: &Step<'_>) {
+        let Instr::AdcSbc {
+            sf,
+            op,
+            s,
+            rm,
+            rn,
+            rd,
+        } = *step.instr
+        else {
+            return;
+        };
+        let (x, y) = (self.operand(step, sf, rn), self.operand(step, sf, rm));
+        let carry = self.flags.undefined_origin(CARRY_SET);
+        let origin = self.register(rn).origin_or(self.register(rm));
+        let origin = match carry {
+            Some(carry) if x.undefined | y.undefined == 0 => carry,
+            _ => origin,
+        };
+        let bits = match carry {
+            Some(_) => u64::MAX,
+            None if x.undefined | y.undefined == 0 => 0,
+            None => from_lowest(x.undefined | y.undefined),
+        };
+        let value = UndefinedValue::of(truncate(sf, bits), origin);
+        if s == 1 {
+            self.flags = if value.is_defined() {
+                FlagState::Defined
+            } else {
+                FlagState::Undefined(origin)
+            };
+        }
+        self.set(rd, value);
+    }
+}
+
+/// The second register of a selection as it is taken.
+fn altered(sf: u8, op: u8, o2: u8, y: BitOperand) -> BitOperand {
+    let (one, zero) = (BitOperand::defined(1), BitOperand::defined(0));
+    let (value, undefined) = match (op, o2) {
+        (0, 0) => (y.value, y.undefined),
+        (0, _) => (y.value.wrapping_add(1), sum(y, one)),
+        (_, 0) => (!y.value & mask(sf), y.undefined),
+        _ => (y.value.wrapping_neg(), difference(zero, y)),
+    };
+    let undefined = if y.undefined == 0 { 0 } else { undefined };
+    BitOperand {
+        value: truncate(sf, value),
+        undefined: truncate(sf, undefined),
+    }
+}
+
+/// The flags of a comparison of defined values.
+fn compared_flags(operands: &SumOperands) -> Flags {
+    let sf = operands.sf;
+    let (x, y) = (
+        truncate(sf, operands.x.value),
+        truncate(sf, operands.y.value),
+    );
+    let is_difference = operands.op == 1;
+    let y = if is_difference { inverted(sf, y) } else { y };
+    add_with_carry(x, y, is_difference, size_of_operands(sf)).flags
+}
+
+/// The flags of a number of four bits.
+fn flags_of(nzcv: u8) -> Flags {
+    Flags {
+        n: nzcv / 8 % 2 == 1,
+        z: nzcv / 4 % 2 == 1,
+        c: nzcv / 2 % 2 == 1,
+        v: nzcv % 2 == 1,
+    }
+}

@@ -1,0 +1,195 @@
+#!/usr/bin/env python3
+"""The table of docs/CHECKING.md: which of the planted bugs of tests/sources who finds.
+
+    checking.py [--write | --check]
+
+Each bug is compiled by clang at -O0 as a tenant, which mte_run runs with tags alone, with --exact
+and with --check; and for this machine, where it runs under AddressSanitizer and Valgrind's
+memcheck.
+Without an option the table is printed; --write puts it into the page; --check compares the columns
+of mte_run with the page's, and those of the other tools that are here.
+"""
+
+import os
+import pathlib
+import re
+import shutil
+import subprocess
+import sys
+import tempfile
+from collections.abc import Iterator
+from typing import NamedTuple, Optional
+
+ROOT = pathlib.Path(__file__).resolve().parent.parent
+PAGE = ROOT / "docs" / "CHECKING.md"
+SOURCES = ROOT / "tests" / "sources"
+SAMPLES = ROOT / "examples" / "c"
+RUN = ROOT / "crates" / "mte_run" / "out" / "mte_run"
+TENANT = ("clang", "--target=aarch64-linux-gnu", "-fuse-ld=lld", "-O0", "-g", "-ffreestanding",
+          "-nostdlib", "-static", "-mgeneral-regs-only", "-fno-builtin", "-w")
+NATIVE = ("gcc", "-O0", "-g", "-fno-builtin", "-w")
+COLUMNS = ("tags alone", "`--exact`", "`--check`", "AddressSanitizer", "memcheck")
+FOUND, MISSED, ABSENT = "yes", "-", "?"
+# What only another library's functions have: a free of a chunk by a function that is not for it.
+MISMATCHES = {
+    "10": "`new`, then `free`",
+    "21": "`new[]`, then `delete`",
+    "01": "`malloc`, then `delete`",
+}
+
+
+class Bug(NamedTuple):
+    """A planted bug: its source, what is defined there, what it reads, and what it is."""
+
+    source: str
+    defined: tuple[str, ...]
+    given: bytes
+    title: str
+
+    @property
+    def is_leak(self) -> bool:
+        """Whether lost chunks are the bug; most others lose some too, which does not count."""
+        return self.title.startswith("lost")
+
+
+class Row(NamedTuple):
+    """A bug, and who finds it."""
+
+    bug: Bug
+    cells: tuple[str, ...]
+
+
+def bugs() -> Iterator[Bug]:
+    """The bugs that a checker of memory may find, in the order of their sources."""
+    for source in ("pointer_bugs.c", "undefined_bugs.c"):
+        text = (SOURCES / source).read_text(encoding="utf-8")
+        for number, title in re.findall(r"^#(?:el)?if BUG == (\d+) /\* (.*) \*/$", text, re.M):
+            yield Bug(source, (f"-DBUG={number}",), b"y" * 100, title)
+    for given, title in MISMATCHES.items():
+        yield Bug("mismatched_frees.c", (), given.encode(), title)
+
+
+def run(words: list[str], given: bytes = b"", leaks: bool = False) -> tuple[int, str]:
+    """The exit status and what a command wrote on standard error; AddressSanitizer looks for leaks
+    where these are wanted."""
+    extra = {**os.environ, "ASAN_OPTIONS": f"detect_leaks={int(leaks)}"}
+    ran = subprocess.run(words, input=given, capture_output=True, timeout=120, check=False,
+                         env=extra)
+    return ran.returncode, ran.stderr.decode(errors="replace")
+
+
+def compile_to(image: pathlib.Path, words: tuple[str, ...], bug: Bug, *files: str) -> None:
+    """Compiles a bug; a failure ends the script."""
+    options = [*words, *bug.defined, f"-I{SAMPLES}", "-o", str(image)]
+    sources = [*(str(SAMPLES / it) for it in files), str(SOURCES / bug.source)]
+    status, errors = run([*options, *sources])
+    if status:
+        sys.exit(f"checking.py: {bug.source}: {errors}")
+
+
+def as_tenant(bug: Bug, folder: pathlib.Path) -> list[str]:
+    """Whether each way of mte_run finds a bug."""
+    image, text = folder / "tenant.elf", folder / "input"
+    compile_to(image, TENANT, bug, "start.c")
+    text.write_bytes(bug.given)
+    found = []
+    for options in ((), ("--exact",), ("--check",)):
+        status, errors = run([str(RUN), *options, "--input", str(text), str(image)])
+        is_found = 129 <= status <= 137 or (bug.is_leak and "lost at the end" in errors)
+        found.append(FOUND if is_found else MISSED)
+    return found
+
+
+def has(tool: Optional[str], *words: str) -> bool:
+    """Whether a tool is here and a command with it ends well."""
+    return tool is not None and run([tool, *words], b"int main(void) { return 0; }\n")[0] == 0
+
+
+def has_sanitizer() -> bool:
+    """Whether programs with AddressSanitizer can be built here."""
+    return has(shutil.which("gcc"), "-fsanitize=address", "-x", "c", "-o", "/dev/null", "-")
+
+
+def natively(bug: Bug, folder: pathlib.Path) -> list[str]:
+    """Whether AddressSanitizer and memcheck find a bug, where they are here. They know the
+    functions of C++ from their library, which the programs in C have not."""
+    program = folder / "program"
+    if bug.source == "mismatched_frees.c":
+        return [ABSENT, ABSENT]
+    found = [ABSENT, ABSENT]
+    if has_sanitizer():
+        compile_to(program, (*NATIVE, "-fsanitize=address"), bug)
+        _, errors = run([str(program)], bug.given, bug.is_leak)
+        found[0] = FOUND if "Sanitizer" in errors else MISSED
+    if shutil.which("valgrind"):
+        compile_to(program, NATIVE, bug)
+        leaks = "full" if bug.is_leak else "no"
+        words = ["valgrind", "-q", f"--leak-check={leaks}", "--error-exitcode=99", str(program)]
+        status, errors = run(words, bug.given)
+        found[1] = FOUND if status == 99 or "== Invalid" in errors else MISSED
+    return found
+
+
+def rows() -> list[Row]:
+    """Each bug with who finds it."""
+    found = []
+    with tempfile.TemporaryDirectory() as folder:
+        for bug in bugs():
+            place = pathlib.Path(folder)
+            found.append(Row(bug, (*as_tenant(bug, place), *natively(bug, place))))
+    return found
+
+
+def table(found: list[Row]) -> list[str]:
+    """The lines of the table, with the sums in the last."""
+    lines = [f"| Bug | {' | '.join(COLUMNS)} |", "|---|" + "---|" * len(COLUMNS)]
+    for row in found:
+        lines.append(f"| {row.bug.title} | {' | '.join(row.cells)} |")
+    counts = [sum(row.cells[it] == FOUND for row in found) for it in range(len(COLUMNS))]
+    asked = [sum(row.cells[it] != ABSENT for row in found) for it in range(len(COLUMNS))]
+    sums = " | ".join(f"{count} of {all_}" for count, all_ in zip(counts, asked))
+    return [*lines, f"| found | {sums} |"]
+
+
+def page_table(text: str) -> list[str]:
+    """The lines of the page's table."""
+    lines = text.splitlines()
+    first = next(it for it, line in enumerate(lines) if line.startswith("| Bug |"))
+    last = first
+    while last < len(lines) and lines[last].startswith("|"):
+        last += 1
+    return lines[first:last]
+
+
+def differences(held: list[str], new: list[str]) -> list[str]:
+    """The rows of the page that differ in a column that both have; sums are not compared."""
+    wrong = []
+    for old, line in zip(held[:-1], new[:-1]):
+        pairs = list(zip(old.split("|"), line.split("|")))
+        if any(a != b and ABSENT not in (a.strip(), b.strip()) for a, b in pairs):
+            wrong.append(f"page: {old}\nrun:  {line}")
+    if len(held) != len(new):
+        wrong.append(f"the page has {len(held)} rows, the run {len(new)}")
+    return wrong
+
+
+def main() -> None:
+    options = sys.argv[1:]
+    if options not in ([], ["--write"], ["--check"]):
+        sys.exit((__doc__ or "").strip())
+    new = table(rows())
+    if not options:
+        print("\n".join(new))
+        return
+    text = PAGE.read_text(encoding="utf-8")
+    held = page_table(text)
+    if options == ["--write"]:
+        PAGE.write_text(text.replace("\n".join(held), "\n".join(new)), encoding="utf-8")
+        return
+    wrong = differences(held, new)
+    if wrong:
+        sys.exit("\n".join(["checking.py: the page differs", *wrong]))
+
+
+if __name__ == "__main__":
+    main()
