@@ -75,6 +75,11 @@ pub const TB_WRITE: u32 = 2;
 pub const TB_EXEC: u32 = 4;
 pub const TB_TAGGED: u32 = 8;
 
+pub const TB_ACCESS_READ: u32 = 1;
+pub const TB_ACCESS_WRITE: u32 = 2;
+pub const TB_ACCESS_READ_TAG: u32 = 4;
+pub const TB_ACCESS_WRITE_TAG: u32 = 8;
+
 // End of what tools/border.py writes.
 
 // Written by tools/border.py: the texts
@@ -295,6 +300,50 @@ pub struct HeapCall {
     pub fault: Fault,
 }
 
+/// A heap call whose arguments may be answers of earlier ones: `first_of` and `second_of` are 0, or
+/// the number of an earlier call, from 1 on, whose answer is added to the argument.
+#[repr(C)]
+#[derive(Clone, Copy, Default)]
+pub struct HeapStep {
+    pub call: HeapCall,
+    pub first_of: u32,
+    pub second_of: u32,
+}
+
+/// An instruction that was fetched and attempted: how many steps of the run were before it.
+#[repr(C)]
+#[derive(Clone, Copy, Debug, Default, PartialEq, Eq)]
+pub struct TracedInstruction {
+    pub step: u64,
+    pub pc: u64,
+    pub word: u32,
+    pub unused: u32,
+}
+
+/// An access that was completed; `kind` is a sum of `TB_ACCESS_READ` to `TB_ACCESS_WRITE_TAG`.
+#[repr(C)]
+#[derive(Clone, Copy, Debug, Default, PartialEq, Eq)]
+pub struct TracedAccess {
+    pub step: u64,
+    pub pc: u64,
+    pub addr: u64,
+    pub value: [u64; 2],
+    pub size: u32,
+    pub kind: u32,
+}
+
+/// How a traced run ended.
+#[repr(C)]
+#[derive(Clone, Copy, Debug, Default)]
+pub struct TraceReport {
+    pub steps: u64,
+    pub instructions: u64,
+    pub accesses: u64,
+    pub code: u32,
+    pub number: u32,
+    pub fault: Fault,
+}
+
 /// How a session ended.
 #[repr(C)]
 #[derive(Clone, Copy, Debug, Default)]
@@ -360,6 +409,22 @@ struct RawTerms {
     unused: u32,
 }
 
+#[repr(C)]
+struct RawTraceRequest {
+    stops: *const u64,
+    stop_count: usize,
+    steps: u64,
+    code_low: u64,
+    code_high: u64,
+    low: u64,
+    high: u64,
+    kinds: u32,
+    unused: u32,
+}
+
+const _: () = assert!(size_of::<HeapStep>() == 64 && size_of::<RawTraceRequest>() == 64);
+const _: () = assert!(size_of::<TracedInstruction>() == 24 && size_of::<TracedAccess>() == 48);
+const _: () = assert!(size_of::<TraceReport>() == 56);
 const _: () = assert!(size_of::<Page>() == 4368 && size_of::<Regs>() == 272);
 const _: () = assert!(size_of::<Stop>() == 40 && size_of::<HeapCall>() == 56);
 const _: () = assert!(size_of::<Bytes>() == 16 && size_of::<SessionEnd>() == 24);
@@ -461,6 +526,25 @@ unsafe extern "C" {
         stop: *mut Stop,
     ) -> u32;
     fn tb_heap_calls(setup: *const HeapSetup, calls: *mut HeapCall, count: usize) -> u32;
+    fn tb_heap_replay(
+        setup: *const HeapSetup,
+        steps: *mut HeapStep,
+        count: usize,
+        bad: *mut u64,
+    ) -> u32;
+    fn tb_run_traced(
+        pages: *mut Page,
+        count: usize,
+        state: *mut TagState,
+        regs: *mut Regs,
+        request: *const RawTraceRequest,
+        instructions: *mut TracedInstruction,
+        instruction_room: usize,
+        accesses: *mut TracedAccess,
+        access_room: usize,
+        end: *mut TraceReport,
+    ) -> u32;
+    fn tb_disassemble(word: u32, pc: u64, text: *mut u8, room: usize) -> u32;
 }
 
 // In each call below no pointer is null, since none of a slice, a vector or a reference is; each
@@ -716,6 +800,73 @@ impl Memory {
         unsafe { tb_run_until(pages, count, &mut self.state, regs, steps, at, n, &mut stop) };
         stop
     }
+}
+
+/// How far a traced run goes, and what of it is entered. Each range has its last address in it.
+#[derive(Clone, Copy)]
+pub struct TraceRequest<'a> {
+    pub stops: &'a [u64],
+    pub steps: u64,
+    pub code: (u64, u64),
+    pub data: (u64, u64),
+    /// A sum of `TB_ACCESS_READ` to `TB_ACCESS_WRITE_TAG`.
+    pub kinds: u32,
+}
+
+impl TraceRequest<'_> {
+    /// All instructions and accesses of so many steps.
+    pub fn of(steps: u64) -> TraceRequest<'static> {
+        TraceRequest { stops: &[], steps, code: (0, u64::MAX), data: (0, u64::MAX), kinds: 15 }
+    }
+}
+
+impl Memory {
+    /// A run that also enters instructions and accesses, from the start of the slices on. It stops
+    /// with `TB_NO_ROOM` where one is full; an empty one is not wanted, and never full.
+    pub fn run_traced(
+        &mut self,
+        regs: &mut Regs,
+        request: &TraceRequest<'_>,
+        instructions: &mut [TracedInstruction],
+        accesses: &mut [TracedAccess],
+    ) -> TraceReport {
+        let raw = RawTraceRequest {
+            stops: request.stops.as_ptr(),
+            stop_count: request.stops.len(),
+            steps: request.steps,
+            code_low: request.code.0,
+            code_high: request.code.1,
+            low: request.data.0,
+            high: request.data.1,
+            kinds: request.kinds,
+            unused: 0,
+        };
+        let mut end = TraceReport::default();
+        let (pages, count) = self.places();
+        let (first, most) = (instructions.as_mut_ptr(), instructions.len());
+        let (entries, room) = (accesses.as_mut_ptr(), accesses.len());
+        let state = &mut self.state;
+        unsafe {
+            tb_run_traced(pages, count, state, regs, &raw, first, most, entries, room, &mut end)
+        };
+        end
+    }
+}
+
+/// Makes the calls of a list in order on a new heap. The second number is that of the first step
+/// that is none, from 1 on, or 0.
+pub fn heap_replay(setup: &HeapSetup, steps: &mut [HeapStep]) -> (u32, u64) {
+    let mut bad = 0;
+    let code = unsafe { tb_heap_replay(setup, steps.as_mut_ptr(), steps.len(), &mut bad) };
+    (code, bad)
+}
+
+/// The text of an instruction word at an address; `None` where it is no instruction.
+pub fn disassemble(word: u32, pc: u64) -> Option<String> {
+    let mut text = [0; 96];
+    let code = unsafe { tb_disassemble(word, pc, text.as_mut_ptr(), text.len()) };
+    let length = text.iter().position(|it| *it == 0).unwrap_or(text.len());
+    (code == TB_OK).then(|| String::from_utf8_lossy(&text[..length]).into_owned())
 }
 
 /// Makes heap calls in order on a new heap.

@@ -1,5 +1,5 @@
 -- The place that was found for a page, read and written.
-use Rattle.std.proofs.Common.{◌≡◌, ℕ, zero, suc, ◌%◌, ◌<◌, ◌+◌, Bool, Option, Some, None, IfSome, IsNone, List, [], ◌∷◌, map, get_or, set, replicate, refl, ap, subst, ◌∙◌, arith}
+use Rattle.std.proofs.Common.{◌≡◌, ℕ, zero, suc, ◌%◌, ◌<◌, ◌+◌, Bool, Option, Some, None, IfSome, IsNone, List, [], ◌∷◌, map, get_or, set, replicate, refl, sym, ap, subst, ◌∙◌, arith}
 use Rattle.std.specs.Prelude.{option_map}
 use Rattle.std.proofs.lemmas.List.{map-set, get_or_default}
 use Rattle.mte_tags.specs.Memory.{page_at, with_page}
@@ -8,7 +8,7 @@ use Rattle.mte_tags.specs.declared.state.TagState.{TagState}
 use Rattle.tombolopan_c.specs.LentPages.{page_of, lent_memory, IsFirst, HasNone}
 use Rattle.tombolopan_c.specs.LentPlaces.{no_page}
 use Rattle.tombolopan_c.specs.declared.lent_page.LentPage.{LentPage}
-use Rattle.tombolopan_c.proofs.Places.{page_at-first, page_at-none}
+use Rattle.tombolopan_c.proofs.Places.{page_at-first, page_at-none, numbered}
 use Rattle.tombolopan_c.proofs.Changes.{lent_changed}
 
 -- tags that are stored keep their low four bits
@@ -33,6 +33,17 @@ pub found_among : (s : TagState) (pages seen : List LentPage) (q : ℕ) (o : Opt
     → page_at (lent_memory s pages) q ≡ option_map (λ i. page_of (get_or pages i no_page)) o
 found_among s pages seen q o e some none =
     found_first s pages q o (subst (λ xs. IfSome o (λ i. IsFirst xs i q)) e some) (subst (λ xs. IsNone o → HasNone xs q) e none)
+
+-- a place that a look-up among places found, by the number of its page
+pub found_here : (s : TagState) (pages seen : List LentPage) (q r i : ℕ) → seen ≡ pages → q ≡ r → IsFirst seen i q
+    → page_at (lent_memory s pages) r ≡ Some (page_of (get_or pages i no_page))
+found_here s pages seen q r i e f h = page_at-first s pages i r no_page (subst (λ k. IsFirst pages i k) f (subst (λ xs. IsFirst xs i q) e h))
+
+pub found_number : (pages seen : List LentPage) (q r i : ℕ) → seen ≡ pages → q ≡ r → IsFirst seen i q → (get_or pages i no_page).number ≡ r
+found_number pages seen q r i e f h = numbered (get_or pages i no_page) q ((subst (λ xs. IsFirst xs i q) e h).here no_page) ∙ f
+
+pub found_first_place : (pages seen : List LentPage) (q i : ℕ) → seen ≡ pages → IsFirst seen i q → IsFirst pages i (get_or pages i no_page).number
+found_first_place pages seen q i e h = subst (λ k. IsFirst pages i k) (sym (found_number pages seen q q i e refl h)) (subst (λ xs. IsFirst xs i q) e h)
 
 -- a place with a run of its bytes replaced
 pub lent_replaced : (s : TagState) (pages : List LentPage) (i at : ℕ) (bs : List ℕ) (d new : LentPage) → IsFirst pages i (get_or pages i no_page).number

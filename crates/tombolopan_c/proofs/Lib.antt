@@ -3,5 +3,7 @@ mod Changes
 mod Found
 mod Tags
 mod HeapLists
+mod HeapReplays
 mod Until
 mod Loads
+mod Traced

@@ -1,11 +1,13 @@
 pub mod LentPages
 pub mod HeapCalls
+pub mod HeapReplays
 pub mod LentMemory
 pub mod LentPlaces
 pub mod LentRegisters
 pub mod Faults
 pub mod Stops
 pub mod RunsUntil
+pub mod LentTraces
 pub mod LentBuffers
 pub mod LentSessions
 pub mod LoneTenants

@@ -10,7 +10,7 @@ use heap_calls::HeapBench;
 use std::alloc::Global;
 
 /// Makes a call, where its operation is one, and returns it with its answer.
-fn make(bench: &mut HeapBench, call: &LentHeapCall) -> LentHeapCall
+pub(crate) fn make(bench: &mut HeapBench, call: &LentHeapCall) -> LentHeapCall
     ensures call { result ≡ (after_heap_call bench.old call.now).call }
     ensures world { bench.new ≡ (after_heap_call bench.old call.now).world }
 {

@@ -1,11 +1,13 @@
 //! A tagged memory over places that the caller lends.
 
-ghost use Rattle.std.specs.Prelude.{◌≡◌};
-ghost use Rattle.mte_tags.specs.Memory.{Memory};
+ghost use Rattle.std.specs.Prelude.{◌≡◌, ◌≤◌, ◌+◌, ◌/◌, ◌%◌, Some, IfSome};
+ghost use Rattle.a64_bits.specs.Addresses.{plain};
+ghost use Rattle.mte_tags.specs.Memory.{Memory, page_at};
 ghost use Rattle.tombolopan_c.specs.LentPages.{lent_memory, state_of};
 
 use crate::find::find;
 use crate::lent_page::LentPage;
+use a64_bits::plain;
 use mte_tags::{Attrs, PageStore, TagMode, TagState};
 
 /// The tag mode of a memory and its flag; any number but 0 sets either.
@@ -27,6 +29,7 @@ pub(crate) struct Lent<'a> {
 
 impl<'a> Lent<'a> {
     ghost use Rattle.tombolopan_c.specs.LentMemory.{memory_of, IsOver};
+    ghost use Rattle.tombolopan_c.specs.LentPlaces.{IsPlace, number_in, page_in};
 
     pub(crate) fn new(pages: &'a mut [LentPage], state: &'a mut LentTagState) -> Lent<'a>
         ensures memory { memory_of result ≡ lent_memory (state_of state.old) pages.old }
@@ -41,6 +44,24 @@ impl<'a> Lent<'a> {
         ensures { result.now ≡ self.now.pages.now }
     {
         self.pages
+    }
+
+    /// The place of the page of an access, where one granule holds its bytes.
+    #[inline(always)]
+    fn place_of_granule(&self, addr: u64, size: u64) -> Option<usize>
+        requires most { size ≤ 16 }
+        ensures place { IfSome result (λ i. IsPlace self.now i) }
+        ensures number { IfSome result (λ i. number_in self.now i ≡ plain addr / 4096) }
+        ensures page { IfSome result (λ i.
+            page_at (memory_of self.now) (plain addr / 4096) ≡ Some (page_in self.now i)) }
+        ensures inside { IfSome result (λ _. plain addr % 16 + size ≤ 16) }
+    {
+        let page = plain(addr) / 4096;
+        if plain(addr) % 16 > 16 - size {
+            return None;
+        }
+        let place = find(self.pages(), page)?;
+        Some(place)
     }
 }
 
@@ -77,6 +98,24 @@ impl PageStore for Lent<'_> {
     #[inline]
     fn find(&mut self, page: u64) -> Option<usize> {
         find(self.pages(), page)
+    }
+
+    #[inline]
+    fn readable_place(&self, addr: u64, size: u64) -> Option<usize> {
+        let place = self.place_of_granule(addr, size)?;
+        if self.attrs(place).contains(Attrs::READ) {
+            return Some(place);
+        }
+        None
+    }
+
+    #[inline]
+    fn writable_place(&self, addr: u64, size: u64) -> Option<usize> {
+        let place = self.place_of_granule(addr, size)?;
+        if self.attrs(place).contains(Attrs::WRITE) {
+            return Some(place);
+        }
+        None
     }
 
     #[inline]

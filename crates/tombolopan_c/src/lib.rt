@@ -1,6 +1,6 @@
 //! Sessions, a tenant alone, a tagged memory, a step, a run and a heap for programs in C: exports
 //! over memory that the caller lends to each call. Nothing is kept between calls, and only
-//! `tb_session`, `tb_alone` and `tb_heap_calls` allocate.
+//! `tb_session`, `tb_alone`, `tb_heap_calls` and `tb_heap_replay` allocate.
 #![tactic(auto)]
 
 mod alone_calls;
@@ -16,15 +16,19 @@ mod lent_bytes;
 mod lent_heap;
 mod lent_page;
 mod lent_regs;
+mod lent_step;
 mod lent_terms;
 mod memory_calls;
 mod page_calls;
+mod replay_calls;
 mod run_calls;
 mod run_until;
 mod session_calls;
 mod session_end;
 mod status_report;
 mod stops;
+mod text_calls;
+mod traces;
 
 pub use alone_calls::tb_alone;
 pub use alone_end::AloneEnd;
@@ -41,12 +45,16 @@ pub use lent_bytes::LentBytes;
 pub use lent_heap::{HeapSetup, LentHeapCall};
 pub use lent_page::LentPage;
 pub use lent_regs::LentRegs;
+pub use lent_step::HeapStep;
 pub use lent_terms::LentTerms;
 pub use memory_calls::{tb_load, tb_load_tag, tb_read, tb_store_tags, tb_write};
 pub use page_calls::{tb_map, tb_memory_init, tb_unmap, tb_version};
+pub use replay_calls::tb_heap_replay;
 pub use run_calls::{tb_run, tb_step};
 pub use run_until::tb_run_until;
 pub use session_calls::tb_session;
 pub use session_end::SessionEnd;
 pub use status_report::StatusReport;
 pub use stops::StopReport;
+pub use text_calls::tb_disassemble;
+pub use traces::{TraceReport, tb_run_traced};

@@ -116,49 +116,56 @@ from __future__ import annotations
 import pathlib
 
 from .abi import (
-    ABORT, ALIGNMENT, ALREADY_FREE, ALREADY_MAPPED, BAD_ARGUMENT, BAD_HEADERS, BAD_NUMBER,
-    BAD_RESERVATION, BREAKPOINT, CALLOC, CODES, EXEC, FAULT, FAULT_KINDS, FREE, HEADER_CORRUPT,
-    HEAP_ABORTS, ILLEGAL, INTERPRETER, INVALID_STATE, LOAD, LOAD_TAG, MALLOC, MEMALIGN, MISALIGNED,
-    NOT_AARCH64, NOT_A_BLOCK, NOT_ELF64, NOT_EXEC, NOT_MAPPED, NO_ENTRY, NO_ROOM, NO_SUCH_FILE, OK,
-    OUT_OF_MEMORY, OVERLAP, PC_ALIGNMENT, PERMISSION, READ, REALLOC, REFUSALS, REFUSED,
-    RESERVATION_TOO_SMALL, SCRIPT, SCRIPT_FAULTS, SEGMENT_RANGE, SHORT, SP_ALIGNMENT, STATUSES,
-    STATUS_ABORT, STATUS_ASYNC, STATUS_BREAK, STATUS_EXIT, STATUS_FAULT, STATUS_ILLEGAL,
-    STATUS_RUNNING, STOPPED, STORE, SVC, SYNTAX, TAGGED, TAG_CHECK, TOO_MANY_EVENTS, TRANSLATION,
-    UNMAPPED, USABLE_SIZE, VERSION, WRITE,
+    ABORT, ACCESS_READ, ACCESS_READ_TAG, ACCESS_WRITE, ACCESS_WRITE_TAG, ALIGNMENT, ALREADY_FREE,
+    ALREADY_MAPPED, BAD_ARGUMENT, BAD_HEADERS, BAD_NUMBER, BAD_RESERVATION, BREAKPOINT, CALLOC,
+    CODES, EXEC, FAULT, FAULT_KINDS, FREE, HEADER_CORRUPT, HEAP_ABORTS, ILLEGAL, INTERPRETER,
+    INVALID_STATE, LOAD, LOAD_TAG, MALLOC, MEMALIGN, MISALIGNED, NOT_AARCH64, NOT_A_BLOCK,
+    NOT_ELF64, NOT_EXEC, NOT_MAPPED, NO_ENTRY, NO_ROOM, NO_SUCH_FILE, OK, OUT_OF_MEMORY, OVERLAP,
+    PC_ALIGNMENT, PERMISSION, READ, REALLOC, REFUSALS, REFUSED, RESERVATION_TOO_SMALL, SCRIPT,
+    SCRIPT_FAULTS, SEGMENT_RANGE, SHORT, SP_ALIGNMENT, STATUSES, STATUS_ABORT, STATUS_ASYNC,
+    STATUS_BREAK, STATUS_EXIT, STATUS_FAULT, STATUS_ILLEGAL, STATUS_RUNNING, STOPPED, STORE, SVC,
+    SYNTAX, TAGGED, TAG_CHECK, TOO_MANY_EVENTS, TRANSLATION, UNMAPPED, USABLE_SIZE, VERSION, WRITE,
 )
 from .build import build_info
+from .disassembly import disassemble
 from .enums import (
-    Attrs, Code, FaultKind, HeapAbort, HeapOp, Refusal, ScriptFault, TenantStatus, fault_kind_name,
-    heap_abort_name, refusal_name, script_fault_name, tenant_status_name, text,
+    AccessKind, Attrs, Code, FaultKind, HeapAbort, HeapOp, Refusal, ScriptFault, TenantStatus,
+    fault_kind_name, heap_abort_name, refusal_name, script_fault_name, tenant_status_name, text,
 )
 from .faults import Fault, MappingError, Refused, ScriptError
 from .heaps import HeapAnswer, heap_calls
+from .hooks import Block, Hooked, Instruction, TracedAccess, hook_block, hook_code, hook_mem
 from .memory import Memory, Region
 from .registers import Regs
+from .replays import Answer, Heap, Replay
 from .runs import Stop, run, step
 from .sessions import Session, session
 from .tenants import HeapCall, Tenant, alone
 from .traces import Access, access_size, trace, trace_step
 
 __all__ = [
-    "ABORT", "ALIGNMENT", "ALREADY_FREE", "ALREADY_MAPPED", "Access", "Attrs", "BAD_ARGUMENT",
-    "BAD_HEADERS", "BAD_NUMBER", "BAD_RESERVATION", "BREAKPOINT", "CALLOC", "CODES", "Code", "EXEC",
-    "FAULT", "FAULT_KINDS", "FREE", "Fault", "FaultKind", "HEADER_CORRUPT", "HEAP_ABORTS",
-    "HeapAbort", "HeapAnswer", "HeapCall", "HeapOp", "ILLEGAL", "INTERPRETER", "INVALID_STATE",
-    "LOAD", "LOAD_TAG", "MALLOC", "MEMALIGN", "MISALIGNED", "MappingError", "Memory", "NOT_AARCH64",
-    "NOT_A_BLOCK", "NOT_ELF64", "NOT_EXEC", "NOT_MAPPED", "NO_ENTRY", "NO_ROOM", "NO_SUCH_FILE",
-    "OK", "OUT_OF_MEMORY", "OVERLAP", "PC_ALIGNMENT", "PERMISSION", "READ", "REALLOC", "REFUSALS",
-    "REFUSED", "RESERVATION_TOO_SMALL", "Refusal", "Refused", "Region", "Regs", "SCRIPT",
-    "SCRIPT_FAULTS", "SEGMENT_RANGE", "SHORT", "SP_ALIGNMENT", "STATUSES", "STATUS_ABORT",
-    "STATUS_ASYNC", "STATUS_BREAK", "STATUS_EXIT", "STATUS_FAULT", "STATUS_ILLEGAL",
-    "STATUS_RUNNING", "STOPPED", "STORE", "SVC", "SYNTAX", "ScriptError", "ScriptFault", "Session",
-    "Stop", "TAGGED", "TAG_CHECK", "TOO_MANY_EVENTS", "TRANSLATION", "Tenant", "TenantStatus",
-    "UNMAPPED", "USABLE_SIZE", "VERSION", "WRITE", "access_size", "alone", "build_info", "example",
-    "fault_kind_name", "heap_abort_name", "heap_calls", "refusal_name", "run", "script_fault_name",
-    "session", "step", "tenant_status_name", "text", "trace", "trace_step",
+    "ABORT", "ACCESS_READ", "ACCESS_READ_TAG", "ACCESS_WRITE", "ACCESS_WRITE_TAG", "ALIGNMENT",
+    "ALREADY_FREE", "ALREADY_MAPPED", "Access", "AccessKind", "Answer", "Attrs", "BAD_ARGUMENT",
+    "BAD_HEADERS", "BAD_NUMBER", "BAD_RESERVATION", "BREAKPOINT", "Block", "CALLOC", "CODES",
+    "Code", "EXEC", "FAULT", "FAULT_KINDS", "FREE", "Fault", "FaultKind", "HEADER_CORRUPT",
+    "HEAP_ABORTS", "Heap", "HeapAbort", "HeapAnswer", "HeapCall", "HeapOp", "Hooked", "ILLEGAL",
+    "INTERPRETER", "INVALID_STATE", "Instruction", "LOAD", "LOAD_TAG", "MALLOC", "MEMALIGN",
+    "MISALIGNED", "MappingError", "Memory", "NOT_AARCH64", "NOT_A_BLOCK", "NOT_ELF64", "NOT_EXEC",
+    "NOT_MAPPED", "NO_ENTRY", "NO_ROOM", "NO_SUCH_FILE", "OK", "OUT_OF_MEMORY", "OVERLAP",
+    "PC_ALIGNMENT", "PERMISSION", "READ", "REALLOC", "REFUSALS", "REFUSED", "RESERVATION_TOO_SMALL",
+    "Refusal", "Refused", "Region", "Regs", "Replay", "SCRIPT", "SCRIPT_FAULTS", "SEGMENT_RANGE",
+    "SHORT", "SP_ALIGNMENT", "STATUSES", "STATUS_ABORT", "STATUS_ASYNC", "STATUS_BREAK",
+    "STATUS_EXIT", "STATUS_FAULT", "STATUS_ILLEGAL", "STATUS_RUNNING", "STOPPED", "STORE", "SVC",
+    "SYNTAX", "ScriptError", "ScriptFault", "Session", "Stop", "TAGGED", "TAG_CHECK",
+    "TOO_MANY_EVENTS", "TRANSLATION", "Tenant", "TenantStatus", "TracedAccess", "UNMAPPED",
+    "USABLE_SIZE", "VERSION", "WRITE", "access_size", "alone", "build_info", "disassemble",
+    "example", "fault_kind_name", "heap_abort_name", "heap_calls", "hook_block", "hook_code",
+    "hook_mem", "refusal_name", "run", "script_fault_name", "session", "step", "tenant_status_name",
+    "text", "trace", "trace_step",
 ]
 # Their names in tracebacks and in what is pickled.
-for _it in (Fault, MappingError, Refused, ScriptError, Memory, Region, Regs, Session):
+for _it in (Fault, MappingError, Refused, ScriptError, Memory, Region, Regs, Session, Answer,
+            Block, Instruction, TracedAccess):
     _it.__module__ = __name__
 
 

@@ -115,6 +115,12 @@ WRITE = 2
 EXEC = 4
 TAGGED = 8
 
+# tb_access_kind
+ACCESS_READ = 1
+ACCESS_WRITE = 2
+ACCESS_READ_TAG = 4
+ACCESS_WRITE_TAG = 8
+
 # End of what tools/border.py writes.
 
 
@@ -198,6 +204,36 @@ class _Regs(ctypes.Structure):
     ]
 
 
+class _HeapStep(ctypes.Structure):
+    _fields_ = [("call", _HeapCall), ("first_of", c_uint32), ("second_of", c_uint32)]
+
+
+class _TraceRequest(ctypes.Structure):
+    _fields_ = [
+        ("stops", POINTER(c_uint64)), ("stop_count", c_size_t), ("steps", c_uint64),
+        ("code_low", c_uint64), ("code_high", c_uint64), ("low", c_uint64), ("high", c_uint64),
+        ("kinds", c_uint32), ("unused", c_uint32),
+    ]
+
+
+class _TracedInstruction(ctypes.Structure):
+    _fields_ = [("step", c_uint64), ("pc", c_uint64), ("word", c_uint32), ("unused", c_uint32)]
+
+
+class _TracedAccess(ctypes.Structure):
+    _fields_ = [
+        ("step", c_uint64), ("pc", c_uint64), ("addr", c_uint64), ("value", c_uint64 * 2),
+        ("size", c_uint32), ("kind", c_uint32),
+    ]
+
+
+class _TraceReport(ctypes.Structure):
+    _fields_ = [
+        ("steps", c_uint64), ("instructions", c_uint64), ("accesses", c_uint64),
+        ("code", c_uint32), ("number", c_uint32), ("fault", _Fault),
+    ]
+
+
 # The types of each call's arguments: a memory is its places, how many they are, and its tag state.
 _PLACES = [POINTER(_Page), c_size_t]
 _MEMORY = [*_PLACES, POINTER(_TagState)]
@@ -225,6 +261,12 @@ _CALLS = {
         *_MEMORY, POINTER(_Regs), c_uint64, POINTER(c_uint64), c_size_t, POINTER(_Stop),
     ],
     "tb_heap_calls": [POINTER(_HeapSetup), POINTER(_HeapCall), c_size_t],
+    "tb_heap_replay": [POINTER(_HeapSetup), POINTER(_HeapStep), c_size_t, POINTER(c_uint64)],
+    "tb_run_traced": [
+        *_MEMORY, POINTER(_Regs), POINTER(_TraceRequest), POINTER(_TracedInstruction), c_size_t,
+        POINTER(_TracedAccess), c_size_t, POINTER(_TraceReport),
+    ],
+    "tb_disassemble": [c_uint32, c_uint64, c_void_p, c_size_t],
 }
 # What those answer that answer no number of 32 bits.
 _RESULTS = {"tb_memory_init": None}

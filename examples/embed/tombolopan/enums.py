@@ -116,6 +116,15 @@ class Attrs(IntFlag):
     EXEC = 4
     TAGGED = 8
 
+
+class AccessKind(IntFlag):
+    """What a traced access is: a sum of these."""
+
+    READ = 1
+    WRITE = 2
+    READ_TAG = 4
+    WRITE_TAG = 8
+
 # End of what tools/border.py writes.
 
 

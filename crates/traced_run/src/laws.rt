@@ -1,0 +1,15 @@
+//! Laws of the definitions.
+
+ghost use Rattle.std.specs.Prelude.{◌≡◌, ℕ, []};
+ghost use Rattle.mte_tags.specs.Memory.{Memory};
+ghost use Rattle.a64_registers.specs.declared.registers.Regs.{Regs};
+ghost use Rattle.a64_step.specs.Steps.{run_of};
+ghost use Rattle.traced_run.specs.Traces.{trace_of, IsRun};
+ghost use Rattle.traced_run.specs.declared.request.TraceRequest.{TraceRequest};
+
+/// Without stops the first steps of a trace leave what a run of as many steps leaves, whatever is
+/// entered of them.
+pub fn traces_are_runs()
+    ensures { (n : ℕ) (q : TraceRequest) (r : Regs) (m : Memory) → q.stops.now ≡ []
+        → IsRun (trace_of n q r m) (run_of n r m) }
+{}
