@@ -3,11 +3,12 @@
 nothing of them, and each of them once more with one access beyond a chunk's bytes that no tag
 finds, which it must find.
 
-    careful.py PROGRAM [COUNT [SEED [JOBS]]]
+    careful.py [--written] PROGRAM [COUNT [SEED [JOBS]]]
 
-PROGRAM is a built mte_run. COUNT programs (1000) are drawn by SEED (1) and run JOBS (1) at a time.
-A program that is told something else than it should be is kept in the folder `careless`, and the
-status is 1.
+PROGRAM is a built mte_run. With `--written` they write out only bytes that they have read, so that
+nothing they do depends on bytes that were never written. COUNT programs (1000) are drawn by SEED
+(1) and run JOBS (1) at a time. A program of which something else is said than should be is kept in
+the folder `careless`, and the status is 1.
 """
 import concurrent.futures
 import os
@@ -99,8 +100,8 @@ def drawn_size(draw: random.Random) -> int:
 class Program:
     """The words of a program, and the chunks that it has."""
 
-    def __init__(self, draw: random.Random) -> None:
-        self.draw = draw
+    def __init__(self, draw: random.Random, is_written: bool) -> None:
+        self.draw, self.is_written = draw, is_written
         self.words: Words = []
         self.chunks: dict[int, int] = {}
 
@@ -140,7 +141,12 @@ class Program:
     def serve(self, slot: int) -> None:
         size = min(self.chunks[slot], 100)
         start = self.draw.randrange(self.chunks[slot] - size + 1)
-        self.words += add(17, slot, start) + service(self.draw.choice([WRITE, READ]), [17], size)
+        which = self.draw.choice([WRITE, READ])
+        self.words += add(17, slot, start)
+        if which == WRITE and self.is_written:
+            self.words += service(READ, [17], size) + copy(18, 0) + service(WRITE, [17], [18])
+        else:
+            self.words += service(which, [17], size)
 
     def act(self) -> None:
         slot = self.draw.choice(SLOTS)
@@ -180,10 +186,10 @@ class Program:
         self.words += service(EXIT, 0)
 
 
-def program(seed: int, is_wrong: bool) -> bytes:
+def program(seed: int, is_wrong: bool, is_written: bool) -> bytes:
     """The image of the program with a seed."""
     draw = random.Random(seed)
-    made = Program(draw)
+    made = Program(draw, is_written)
     wrong_at = draw.randrange(60) if is_wrong else -1
     for count in range(60):
         if count == wrong_at:
@@ -193,11 +199,11 @@ def program(seed: int, is_wrong: bool) -> bytes:
     return build_image.image(made.words)
 
 
-def run_one(path: str, folder: str, seed: int, wanted: int) -> Optional[str]:
+def run_one(path: str, folder: str, seed: int, wanted: int, is_written: bool) -> Optional[str]:
     """What is wrong with what is told of a program with a seed, which should end so."""
     image = os.path.join(folder, f"{seed}.{wanted}")
     with open(image, "wb") as file:
-        file.write(program(seed, wanted == EXACT))
+        file.write(program(seed, wanted == EXACT, is_written))
     ran = subprocess.run([path, "--exact", "--input", sys.executable, image], timeout=60,
                          stdin=subprocess.DEVNULL, stdout=subprocess.DEVNULL,
                          stderr=subprocess.PIPE, check=False)
@@ -210,21 +216,24 @@ def run_one(path: str, folder: str, seed: int, wanted: int) -> Optional[str]:
     return f"careless/{seed}.{wanted}: {said}"
 
 
-def run(path: str, folder: str, seed: int) -> list[str]:
+def run(path: str, folder: str, seed: int, is_written: bool) -> list[str]:
     """What is wrong with what is told of both programs with a seed."""
-    told = [run_one(path, folder, seed, wanted) for wanted in (0, EXACT)]
+    told = [run_one(path, folder, seed, wanted, is_written) for wanted in (0, EXACT)]
     return [line for line in told if line]
 
 
 def main() -> None:
-    if len(sys.argv) < 2 or sys.argv[1].startswith("-"):
+    is_written = sys.argv[1:2] == ["--written"]
+    words = sys.argv[1 + is_written:]
+    if not words or words[0].startswith("-"):
         sys.exit(__doc__)
-    count, first, jobs = [int(word) for word in sys.argv[2:]] + [1000, 1, 1][len(sys.argv) - 2:]
-    path = os.path.abspath(sys.argv[1])
+    count, first, jobs = [int(word) for word in words[1:]] + [1000, 1, 1][len(words) - 1:]
+    path = os.path.abspath(words[0])
     failed = 0
     pool = concurrent.futures.ThreadPoolExecutor(jobs)
     with tempfile.TemporaryDirectory() as folder, pool:
-        for bad in pool.map(lambda seed: run(path, folder, seed), range(first, first + count)):
+        seeds = range(first, first + count)
+        for bad in pool.map(lambda seed: run(path, folder, seed, is_written), seeds):
             failed += bool(bad)
             print("".join(f"{line}\n" for line in bad), end="", file=sys.stderr)
     print(f"{count} careful programs and {count} with one wrong access: {failed} not told as they "

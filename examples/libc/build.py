@@ -45,6 +45,8 @@ LEFT_OUT = {
     "thread/thrd_exit.c", "time/timer_create.c",
 }
 FOLDERS_LEFT_OUT = {"aio", "ldso", "malloc"}
+# What each tenant begins with, and what --large-blocks has in the place of heap.c: no members.
+APART = ("start", "large_blocks")
 # Where musl sees a GNU compiler these read a word at once, up to seven bytes past the end of a
 # string. Byte by byte they keep to the bytes of their chunk, which `mte_run --exact` compares.
 BYTE_BY_BYTE = {
@@ -171,7 +173,7 @@ def fetch(folder, package, parts=()):
 
 
 def build_c(out, sources, jobs):
-    """The C library, and the file that each tenant begins with."""
+    """The C library, and what tenant-cc links as a file."""
     print("build.py: fetching the sources", flush=True)
     work = out / "objects"
     musl = fetch(sources, "musl")
@@ -181,9 +183,10 @@ def build_c(out, sources, jobs):
     units = [*musl_units(musl, include, work), *builtin_units(builtins, work)]
     print(f"build.py: compiling {len(units)} files", flush=True)
     objects = compile_all(units, jobs, HERE / "build.py")
-    start = work / "tenant.start.c.o"
-    archive([made for made in objects if made != start], out / "lib/libc.a")
-    shutil.copy(start, out / "lib/start.o")
+    apart = [work / f"tenant.{name}.c.o" for name in APART]
+    archive([made for made in objects if made not in apart], out / "lib/libc.a")
+    for name, made in zip(APART, apart):
+        shutil.copy(made, out / f"lib/{name}.o")
     print(f"build.py: {out}/lib/libc.a")
 
 

@@ -10,9 +10,9 @@ in both copies. In its lines are the words of packages.py and EMULATOR, RUN as a
 (empty natively). Where a suite starts its programs by their paths, `wraps` puts a script that runs
 it by RUN in the place of each program that was built. `passed` and `failed` are patterns of the
 lines of a test: each match counts, or the number in its group does; `total` in place of `passed`
-counts those that fail too. A line says what came of each; `--write` writes the table of
-docs/PACKAGES.md. The exit status is 1 where the counts differ and suites.toml doesn't say why, or
-are the same and it does.
+counts those that fail too. `large_blocks` is the area of tenant-cc's --large-blocks. A line says
+what came of each; `--write` writes the table of docs/PACKAGES.md. The exit status is 1 where the
+counts differ and suites.toml doesn't say why, or are the same and it does.
 """
 import argparse
 import concurrent.futures
@@ -43,7 +43,8 @@ Counts = tuple[int, int]  # passed and failed
 
 @dataclass(frozen=True)
 class Suite:
-    """A suite: its lines of shell, what counts, the files that tenants find, why it differs."""
+    """A suite: its lines of shell, what counts, the files that tenants find, why it differs, and
+    the area for large blocks of its programs."""
 
     name: str
     how: str
@@ -57,6 +58,7 @@ class Suite:
     wraps: bool
     needs: tuple[str, ...]
     why: str
+    large_blocks: int
 
 
 def read_suites(path: pathlib.Path = HERE / "suites.toml") -> list[Suite]:
@@ -68,7 +70,7 @@ def read_suites(path: pathlib.Path = HERE / "suites.toml") -> list[Suite]:
             name, given["how"], given["build"], given["check"], given.get("passed", passed),
             given.get("failed", failed), given.get("total", ""), tuple(given.get("files", ())),
             given.get("writes", False), given.get("wraps", False),
-            tuple(given.get("needs", ())), given.get("why", "")))
+            tuple(given.get("needs", ())), given.get("why", ""), given.get("large_blocks", 0)))
     return sorted(made, key=lambda suite: suite.name)
 
 
@@ -84,6 +86,8 @@ def tenant_words(suite: Suite, place: packages.Place, folder: pathlib.Path) -> d
     files = tuple(f"{it}={it}" if it.is_file() else str(it) for it in paths)
     package = packages.Package(suite.name, "", "", "", (), files, suite.writes)
     words = packages.tenant_words(package, place)
+    if suite.large_blocks:
+        words |= {it: f"{words[it]} --large-blocks={suite.large_blocks}" for it in ("CC", "CXX")}
     return {**words, "EMULATOR": "" if suite.wraps else ";".join(shlex.split(words["RUN"]))}
 
 
