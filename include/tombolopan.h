@@ -4,8 +4,9 @@
  *
  * All memory is the caller's and is lent to each call: files, an array of places for pages, the tag
  * state, the registers. There is no handle. The library keeps nothing between calls, and only
- * tb_session, tb_alone and tb_heap_calls allocate, for their own time. So the caller may read and
- * write all of it between calls, copy it, or place it in a file. Every content has a meaning:
+ * tb_session, tb_alone, tb_heap_calls and tb_heap_replay allocate, for their own time. So the
+ * caller may read and write all of it between calls, copy it, or place it in a file. Every content
+ * has a meaning:
  *
  * - A place with `mapped` 0 is free; zero bytes are free places and the synchronous mode.
  * - Of several places of one page the first counts.
@@ -136,6 +137,14 @@ enum tb_attrs {
     TB_TAGGED = 8 /* its granules have allocation tags, which checked accesses compare */
 };
 
+/* What a traced access is: a sum of these. */
+enum tb_access_kind {
+    TB_ACCESS_READ = 1,     /* bytes are read */
+    TB_ACCESS_WRITE = 2,    /* bytes are written */
+    TB_ACCESS_READ_TAG = 4, /* an allocation tag is read (LDG) */
+    TB_ACCESS_WRITE_TAG = 8 /* allocation tags are written (STG; STGP writes bytes too) */
+};
+
 // End of what tools/border.py writes.
 
 /* A place for a page. */
@@ -259,6 +268,58 @@ typedef struct tb_alone_end {
     uint32_t refusal; /* why it was refused (tb_refusal), for TB_REFUSED; else 0 */
 } tb_alone_end;
 
+/*
+ * A heap call in a list, whose arguments may be the answers of earlier ones: `first_of` and
+ * `second_of` are 0, or the number of an earlier call of the list, from 1 on, whose answer is added
+ * to call.first or call.second, modulo 2^64.
+ */
+typedef struct tb_heap_step {
+    tb_heap_call call; /* what stands in `first` and `second` stays */
+    uint32_t first_of;
+    uint32_t second_of;
+} tb_heap_step;
+
+/* What is asked of tb_run_traced. Each range has its last address in it; none may be empty. */
+typedef struct tb_trace_request {
+    const uint64_t *stops; /* addresses at which it stops after an instruction */
+    size_t stop_count;
+    uint64_t steps;     /* the most instructions that are attempted */
+    uint64_t code_low;  /* the instructions that are entered: those at addresses */
+    uint64_t code_high; /* from code_low to code_high */
+    uint64_t low;       /* the accesses that are entered: those with a byte at a plain address */
+    uint64_t high;      /* from low to high, and of these kinds */
+    uint32_t kinds;     /* a sum of tb_access_kind */
+    uint32_t unused;
+} tb_trace_request;
+
+/* An instruction that was fetched and attempted, as tb_run_traced enters it. */
+typedef struct tb_traced_instruction {
+    uint64_t step; /* how many steps of the call were before it */
+    uint64_t pc;   /* its address */
+    uint32_t word;
+    uint32_t unused; /* 0 */
+} tb_traced_instruction;
+
+/* An access of an instruction to memory that was completed, as tb_run_traced enters it. */
+typedef struct tb_traced_access {
+    uint64_t step;     /* how many steps of the call were before its instruction */
+    uint64_t pc;       /* the address of its instruction */
+    uint64_t addr;     /* the address that was used, its tag in bits 59 to 56 */
+    uint64_t value[2]; /* the bytes, the lowest first; where tags alone are accessed, the tag */
+    uint32_t size;     /* how many bytes: 1 to 16; of the tags of one granule 16, of two 32 */
+    uint32_t kind;     /* a sum of tb_access_kind */
+} tb_traced_access;
+
+/* How a traced run ended. */
+typedef struct tb_trace_report {
+    uint64_t steps;        /* how many instructions were attempted */
+    uint64_t instructions; /* how many instructions are entered */
+    uint64_t accesses;     /* how many accesses are entered */
+    uint32_t code;         /* what tb_run_traced answered */
+    uint32_t number;       /* of TB_BREAKPOINT its number, of TB_ILLEGAL the word; else 0 */
+    tb_fault fault;        /* the fault of TB_FAULT; else zero */
+} tb_trace_report;
+
 /* An access of an instruction to memory, as tb_trace enters it. */
 typedef struct tb_access {
     uint64_t pc;       /* the address of the instruction */
@@ -285,6 +346,11 @@ TB_ASSERT(sizeof(tb_fault) == 24 && offsetof(tb_fault, mem_tag) == 20);
 TB_ASSERT(sizeof(tb_stop) == 40 && offsetof(tb_stop, fault) == 16);
 TB_ASSERT(sizeof(tb_heap_setup) == 16 && offsetof(tb_heap_setup, rgsr_tag) == 14);
 TB_ASSERT(sizeof(tb_heap_call) == 56 && offsetof(tb_heap_call, fault) == 32);
+TB_ASSERT(sizeof(tb_heap_step) == 64 && offsetof(tb_heap_step, second_of) == 60);
+TB_ASSERT(sizeof(tb_trace_request) == 64 && offsetof(tb_trace_request, kinds) == 56);
+TB_ASSERT(sizeof(tb_traced_instruction) == 24 && offsetof(tb_traced_instruction, word) == 16);
+TB_ASSERT(sizeof(tb_traced_access) == 48 && offsetof(tb_traced_access, size) == 40);
+TB_ASSERT(sizeof(tb_trace_report) == 56 && offsetof(tb_trace_report, fault) == 32);
 TB_ASSERT(sizeof(tb_bytes) == 16 && offsetof(tb_bytes, length) == 8);
 TB_ASSERT(sizeof(tb_session_end) == 24 && offsetof(tb_session_end, fault) == 20);
 TB_ASSERT(sizeof(tb_terms) == 72 && offsetof(tb_terms, seed) == 48 &&
@@ -409,6 +475,39 @@ uint32_t tb_run_until(tb_page *pages, size_t count, tb_tag_state *state, tb_regs
  * a page and 11,000 more, and frees it again.
  */
 uint32_t tb_heap_calls(const tb_heap_setup *setup, tb_heap_call *calls, size_t count);
+
+/*
+ * Makes the calls of a list in order on a new heap, as tb_heap_calls does, and enters the code and
+ * the answer of each. An argument may be the answer of an earlier call (tb_heap_step). Where that
+ * call gave none, since it aborted or faulted, or was not made itself, the call is not made, and
+ * its code is TB_BAD_ARGUMENT. TB_BAD_ARGUMENT where setup->pages is not 1 to 4096, with *bad 0, or
+ * where a step is none, since its `op` is no tb_heap_op or it refers to itself, to a later call, or
+ * to one that answers nothing (TB_FREE, TB_STORE): *bad is its number then, from 1 on. That and
+ * TB_OUT_OF_MEMORY make no call and enter nothing.
+ */
+uint32_t tb_heap_replay(const tb_heap_setup *setup, tb_heap_step *steps, size_t count,
+                        uint64_t *bad);
+
+/*
+ * tb_run_until that also enters instructions and accesses: of those that are asked for each
+ * instruction that is fetched, before it is attempted, and each access that is completed, both from
+ * the start of their arrays on, in order. What `step` says is the same in both. It stops with
+ * TB_NO_ROOM before an instruction when an array has no room left; the same call goes on from
+ * there. An array whose room is 0 is not wanted: nothing is entered, and it is never full.
+ * TB_BAD_ARGUMENT where a range is empty or request->kinds is above 15 changes nothing but `end`.
+ * It answers end->code.
+ */
+uint32_t tb_run_traced(tb_page *pages, size_t count, tb_tag_state *state, tb_regs *regs,
+                       const tb_trace_request *request, tb_traced_instruction *instructions,
+                       size_t instruction_room, tb_traced_access *accesses, size_t access_room,
+                       tb_trace_report *end);
+
+/*
+ * Writes the text of an instruction word at the address `pc`, as objdump has it, and a 0 behind it:
+ * `room` of 96 is enough for each. TB_ILLEGAL where the word is no instruction of the profile, and
+ * TB_NO_ROOM where the text and its 0 do not fit, leave the buffer as it was.
+ */
+uint32_t tb_disassemble(uint32_t word, uint64_t pc, uint8_t *text, size_t room);
 
 /*
  * Maps `length` pages from the number `first` on, as tb_map does: all of them or none.
@@ -551,6 +650,81 @@ static inline uint32_t tb_trace(tb_page *pages, size_t count, tb_tag_state *stat
     }
     stop->left = left;
     return code;
+}
+
+/* Whether an array may be lent: not null, aligned, and in the address space from end to end. */
+static inline bool tb_is_array(const void *it, size_t count, size_t size, size_t alignment) {
+    const uintptr_t at = (uintptr_t)it;
+    return at != 0 && at % alignment == 0 && count <= (uintptr_t)-1 / 2 / size &&
+           at <= (uintptr_t)-1 - count * size;
+}
+
+/* Whether two arrays have no byte in common; one without bytes has none with any. */
+static inline bool tb_are_apart(const void *one, size_t size, const void *other,
+                                size_t other_size) {
+    const uintptr_t a = (uintptr_t)one, b = (uintptr_t)other;
+    return size == 0 || other_size == 0 || (a < b ? b - a >= size : a - b >= other_size);
+}
+
+/* tb_disassemble that answers TB_BAD_ARGUMENT where `text` is no array. */
+static inline uint32_t tb_checked_disassemble(uint32_t word, uint64_t pc, uint8_t *text,
+                                              size_t room) {
+    if (!tb_is_array(text, room, 1, 1))
+        return TB_BAD_ARGUMENT;
+    return tb_disassemble(word, pc, text, room);
+}
+
+/*
+ * tb_heap_replay that answers TB_BAD_ARGUMENT, and changes nothing, where a pointer is null or
+ * misaligned, an array is larger than the address space, or what is written overlaps another
+ * argument.
+ */
+static inline uint32_t tb_checked_heap_replay(const tb_heap_setup *setup, tb_heap_step *steps,
+                                              size_t count, uint64_t *bad) {
+    if (!tb_is_array(setup, 1, sizeof *setup, 4) || !tb_is_array(steps, count, sizeof *steps, 8) ||
+        !tb_is_array(bad, 1, sizeof *bad, 8))
+        return TB_BAD_ARGUMENT;
+    if (!tb_are_apart(steps, count * sizeof *steps, setup, sizeof *setup) ||
+        !tb_are_apart(steps, count * sizeof *steps, bad, sizeof *bad) ||
+        !tb_are_apart(setup, sizeof *setup, bad, sizeof *bad))
+        return TB_BAD_ARGUMENT;
+    return tb_heap_replay(setup, steps, count, bad);
+}
+
+/*
+ * tb_run_traced that answers TB_BAD_ARGUMENT, and changes nothing, where a pointer is null or
+ * misaligned, an array is larger than the address space, or what is written overlaps another
+ * argument.
+ */
+static inline uint32_t tb_checked_run_traced(tb_page *pages, size_t count, tb_tag_state *state,
+                                             tb_regs *regs, const tb_trace_request *request,
+                                             tb_traced_instruction *instructions,
+                                             size_t instruction_room, tb_traced_access *accesses,
+                                             size_t access_room, tb_trace_report *end) {
+    const void *its[8];
+    size_t sizes[8];
+    if (!tb_is_array(request, 1, sizeof *request, 8) ||
+        !tb_is_array(request->stops, request->stop_count, 8, 8) ||
+        !tb_is_array(pages, count, sizeof *pages, 8) || !tb_is_array(state, 1, sizeof *state, 4) ||
+        !tb_is_array(regs, 1, sizeof *regs, 8) || !tb_is_array(end, 1, sizeof *end, 8) ||
+        !tb_is_array(instructions, instruction_room, sizeof *instructions, 8) ||
+        !tb_is_array(accesses, access_room, sizeof *accesses, 8))
+        return TB_BAD_ARGUMENT;
+    /* The first six are written, the last two are read. */
+    its[0] = pages, sizes[0] = count * sizeof *pages;
+    its[1] = state, sizes[1] = sizeof *state;
+    its[2] = regs, sizes[2] = sizeof *regs;
+    its[3] = instructions, sizes[3] = instruction_room * sizeof *instructions;
+    its[4] = accesses, sizes[4] = access_room * sizeof *accesses;
+    its[5] = end, sizes[5] = sizeof *end;
+    its[6] = request, sizes[6] = sizeof *request;
+    its[7] = request->stops, sizes[7] = request->stop_count * 8;
+    for (int i = 0; i < 6; i++)
+        for (int k = i + 1; k < 8; k++)
+            if (!tb_are_apart(its[i], sizes[i], its[k], sizes[k]))
+                return TB_BAD_ARGUMENT;
+    return tb_run_traced(pages, count, state, regs, request, instructions, instruction_room,
+                         accesses, access_room, end);
 }
 
 // Written by tools/border.py: the texts

@@ -21,6 +21,11 @@ STRUCTS = {
     "StopReport": ("tb_stop", "Stop", "_Stop"),
     "HeapSetup": ("tb_heap_setup", "HeapSetup", "_HeapSetup"),
     "LentHeapCall": ("tb_heap_call", "HeapCall", "_HeapCall"),
+    "HeapStep": ("tb_heap_step", "HeapStep", "_HeapStep"),
+    "TraceRequest": ("tb_trace_request", "RawTraceRequest", "_TraceRequest"),
+    "TracedInstruction": ("tb_traced_instruction", "TracedInstruction", "_TracedInstruction"),
+    "TracedAccess": ("tb_traced_access", "TracedAccess", "_TracedAccess"),
+    "TraceReport": ("tb_trace_report", "TraceReport", "_TraceReport"),
     "LentBytes": ("tb_bytes", "Bytes", "_Bytes"),
     "SessionEnd": ("tb_session_end", "SessionEnd", "_SessionEnd"),
     "LentTerms": ("tb_terms", "RawTerms", "_Terms"),
@@ -31,7 +36,7 @@ STRUCTS = {
 CALLS = [
     "tb_version", "tb_build_info", "tb_session", "tb_alone", "tb_memory_init", "tb_map", "tb_unmap",
     "tb_read", "tb_write", "tb_load", "tb_load_tag", "tb_store_tags", "tb_step", "tb_run",
-    "tb_run_until", "tb_heap_calls",
+    "tb_run_until", "tb_heap_calls", "tb_heap_replay", "tb_run_traced", "tb_disassemble",
 ]
 FOLDERS = ("crates", "docs", "include", "examples", "tools")
 FIELD = r"(?<=^    pub )\w+: [^,\n]+(?=,)|(?<=^    )(?!pub )\w+: [^,\n]+(?=,)"
@@ -105,7 +110,7 @@ def test_arguments_of_another_width(name: str) -> None:
     places = [(border.file_with(f"fn {name}("), f"fn {name}("), (RUST, f"    fn {name}("),
               (HEADER, f"\nuint32_t {name}(")]
     if name not in ("tb_version", "tb_build_info", "tb_memory_init", "tb_alone", "tb_step",
-                    "tb_heap_calls"):
+                    "tb_heap_calls", "tb_heap_replay", "tb_run_traced"):
         for path, begin in places:
             assert not unnoticed(border.each_replaced(path, number, widened, begin, ")"))
 

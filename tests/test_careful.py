@@ -24,11 +24,12 @@ def test_exact_tells_careful_programs_from_others(
 
 
 def test_check_tells_them_apart_too(alone: pathlib.Path, tmp_path: pathlib.Path) -> None:
-    """With `--check` in place of `--exact`, by which the script runs each."""
+    """With `--check` in place of `--exact`, by which the script runs each. They write out only
+    bytes that they have read: others would be undefined values."""
     checked = tmp_path / "checked"
     checked.write_text(f"#!/bin/sh\nshift\nexec '{alone}' --check \"$@\"\n", encoding="utf-8")
     checked.chmod(0o755)
-    words = [str(EXAMPLES / "careful.py"), str(checked), str(PROGRAMS), "3"]
+    words = [str(EXAMPLES / "careful.py"), "--written", str(checked), str(PROGRAMS), "3"]
     ran = run([sys.executable, *words], cwd=tmp_path, seconds=2 * SECONDS)
     line = r"120 careful programs and 120 with one wrong access: 0 not told as they should be\n"
     assert ran.status == 0 and re.fullmatch(line, ran.output), ran.errors[-2000:]

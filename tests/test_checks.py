@@ -5,6 +5,7 @@ import json
 import pathlib
 import re
 import shutil
+import sys
 
 import pytest
 
@@ -41,7 +42,19 @@ BUGS = {
     27: (OVERFLOW, "0 bytes", 24), 28: (STALE, "3 bytes", 40), 29: (TWICE, "", 40),
     30: (OVERFLOW, "0 bytes", 24), 31: (OVERFLOW, "0 bytes", 22),
 }
-IDIOMS = range(1, 21)
+IDIOMS = range(1, 22)
+CHUNK, STACK = "of a 24-byte allocation at ", "of the stack"
+# What depends on what was never given, and of what that is a part.
+UNDEFINED = {
+    1: ("whether it branches", CHUNK), 2: ("whether it branches", STACK),
+    3: ("the address that it accesses", CHUNK), 4: ("what it writes out", CHUNK),
+    5: ("the exit status", CHUNK), 6: ("where it jumps to", CHUNK),
+    7: ("whether it branches", CHUNK), 8: ("whether it branches", CHUNK),
+    9: ("an argument of the service", CHUNK), 10: ("whether it branches", CHUNK),
+    11: ("whether it branches", STACK), 12: ("whether it branches", CHUNK),
+    13: ("whether it branches", CHUNK), 14: ("whether it branches", CHUNK),
+}
+UNDEFINED_IDIOMS = range(1, 16)
 
 
 def image(shared: pathlib.Path, build: str, source: str, *defined: str) -> pathlib.Path:
@@ -59,10 +72,12 @@ def image(shared: pathlib.Path, build: str, source: str, *defined: str) -> pathl
     return make_once(shared / name / "tenant.elf", compile_image)
 
 
-def check(alone: pathlib.Path, path: pathlib.Path, *words: str) -> Ran:
-    """What `mte_run --check` says of a tenant."""
+def check(
+    alone: pathlib.Path, path: pathlib.Path, *words: str, given: bytes = b"y" * 100
+) -> Ran:
+    """What `mte_run --check` says of a tenant that may read some bytes."""
     text = path.parent / "input"
-    text.write_bytes(b"y" * 100)
+    text.write_bytes(given)
     return run([alone, "--check", "--input", text, *words, path])
 
 
@@ -104,6 +119,135 @@ def test_lost_chunks(alone: pathlib.Path, tmp_path: pathlib.Path, build: str) ->
     lost = "lost at the end: 1 chunk, 24 bytes; by these alone was led to 1 chunk, 24 bytes"
     assert told.status == 0 and f"mte_run: {lost}" in told.errors.splitlines()
     assert "  1 chunk, 24 bytes, the first by call 1" in told.errors.splitlines()
+
+
+@pytest.mark.parametrize("build", sorted(BUILDS))
+def test_mismatched_frees(alone: pathlib.Path, tmp_path: pathlib.Path, build: str) -> None:
+    """Each function that makes chunks beside each that frees, also where one ends by a jump to
+    another; without the symbols nothing is said."""
+    path = image(tmp_path, build, "mismatched_frees.c")
+    makers = ["malloc", "operator new", "operator new[]"]
+    freers = ["free", "operator delete", "operator delete[]"]
+    for made, maker in enumerate(makers):
+        for freed, freer in enumerate(freers):
+            told = check(alone, path, given=f"{made}{freed}".encode())
+            if made == freed:
+                assert told.status == 0 and "Cause" not in told.errors, told.errors
+                continue
+            cause = "Cause: [check]: Mismatched Free of a 40-byte allocation at "
+            line = next(it for it in told.errors.splitlines() if cause in it)
+            assert told.status == 137 and line.endswith(f"made by {maker} and freed by {freer}")
+            assert "  allocated by call 1, " in told.errors
+            assert "  freed by call " in told.errors and "_start" in told.errors
+    if not build.startswith("clang"):
+        return
+    stripped = tmp_path / "stripped.elf"
+    succeed(["llvm-objcopy", "--strip-all", path, stripped])
+    assert check(alone, stripped, given=b"10").status == 0
+
+
+@pytest.mark.parametrize("build", sorted(BUILDS))
+def test_undefined_values(alone: pathlib.Path, tmp_path: pathlib.Path, build: str) -> None:
+    """What is told at the use: what depends on them, and the chunk or the frame."""
+    for bug, (use, origin) in UNDEFINED.items():
+        told = check(alone, image(tmp_path, build, "undefined_bugs.c", f"BUG={bug}"))
+        assert told.status == 137 and f"  {use} depends on them" in told.errors, (bug, told.errors)
+        assert f"Cause: [check]: Uninitialized Value {origin}" in told.errors, (bug, told.errors)
+        source = "allocated by call " if origin == CHUNK else "SP was moved there by read_stack+"
+        assert source in told.errors, (bug, told.errors)
+
+
+@pytest.mark.parametrize("build", sorted(BUILDS))
+def test_undefined_values_that_nothing_depends_on(
+    alone: pathlib.Path, tmp_path: pathlib.Path, build: str
+) -> None:
+    """What correct programs do with values that were not given is not told."""
+    for idiom in UNDEFINED_IDIOMS:
+        told = check(alone, image(tmp_path, build, "undefined_idioms.c", f"IDIOM={idiom}"))
+        assert told.status == 0 and "check:" not in told.errors, (idiom, told.errors)
+
+
+def test_kinds(alone: pathlib.Path, tmp_path: pathlib.Path) -> None:
+    """Each kind tells its own bugs alone; a word that is none is refused."""
+    cases = {
+        "provenance": image(tmp_path, "clang-O0", "pointer_bugs.c", "BUG=28"),
+        "frees": image(tmp_path, "clang-O0", "pointer_bugs.c", "BUG=23"),
+        "leaks": image(tmp_path, "clang-O0", "pointer_bugs.c", "BUG=32"),
+        "undefined": image(tmp_path, "clang-O0", "undefined_bugs.c", "BUG=2"),
+    }
+    for kind, path in cases.items():
+        for wanted in cases:
+            errors = run([alone, f"--check={wanted}", path]).errors
+            said = "Cause: [check]" in errors or "lost at the end" in errors
+            assert said == (kind == wanted), (kind, wanted, errors)
+        two = "leaks,frees" if kind == "undefined" else f"undefined,{kind}"
+        errors = run([alone, f"--check={two}", path]).errors
+        said = "Cause: [check]" in errors or "lost at the end" in errors
+        assert said == (kind != "undefined"), (kind, two, errors)
+    for wrong in ("leak", "leaks,", "Frees"):
+        told = run([alone, f"--check={wrong}", cases["leaks"]])
+        assert told.status == 2 and "--check takes provenance, frees" in told.errors
+
+
+def test_statuses(alone: pathlib.Path, tmp_path: pathlib.Path) -> None:
+    """Those of options, and options that have nothing to be for."""
+    far = image(tmp_path, "clang-O0", "pointer_bugs.c", "BUG=4")
+    lost = image(tmp_path, "clang-O0", "pointer_bugs.c", "BUG=32")
+    told = check(alone, far, "--check-status", "7", "--lost-status", "9")
+    assert told.status == 7 and told.errors.endswith("mte_run: ended by exact, status 7\n")
+    told = check(alone, lost, "--check-status", "7", "--lost-status", "9")
+    last = "mte_run: exited with 0 and has lost chunks, status 9\n"
+    assert told.status == 9 and told.errors.endswith(last)
+    assert check(alone, lost, "--check-status", "7").status == 0
+    document = tmp_path / "told.json"
+    check(alone, lost, "--lost-status", "9", "--json", str(document))
+    assert json.loads(document.read_text(encoding="utf-8"))["exit_status"] == 9
+    for words, reason in (
+        (("--check-status", "7"), "--suppressions and --check-status are for --check"),
+        (("--suppressions", "none"), "--suppressions and --check-status are for --check"),
+        (("--check=frees", "--lost-status", "9"), "--lost-status is for --check with leaks"),
+        (("--check", "--lost-status", "256"), "256"),
+    ):
+        told = run([alone, *words, lost])
+        assert told.status == 2 and reason in told.errors, told.errors
+
+
+def test_suppressions(alone: pathlib.Path, tmp_path: pathlib.Path) -> None:
+    """By kind, function and file: the tenant runs on, and other findings are told."""
+    lines = tmp_path / "suppressions"
+    undefined = image(tmp_path, "clang-O0", "undefined_bugs.c", "BUG=1")
+    far = image(tmp_path, "clang-O0", "pointer_bugs.c", "BUG=4")
+    lost = image(tmp_path, "clang-O0", "pointer_bugs.c", "BUG=32")
+    cases = (
+        (undefined, "undefined bug undefined_bugs.c", True),
+        (undefined, "# a comment\n\n* b* *\n", True),
+        (undefined, "undefined other *", False), (undefined, "frees bug *", False),
+        (undefined, "undefined bug other.c", False), (undefined, "undefined main *", True),
+        (far, "provenance bug *", True), (far, "undefined bug *", False),
+        (lost, "leaks bug pointer_*", True), (lost, "provenance * *", False),
+    )
+    for path, text, is_hidden in cases:
+        lines.write_text(text, encoding="utf-8")
+        told = check(alone, path, "--suppressions", str(lines))
+        said = "lost at the end" if path == lost else "Cause: [check]"
+        assert (said in told.errors) != is_hidden, (path, text, told.errors)
+        if is_hidden:
+            assert told.status != 137, told.errors
+    for text, wrong in (
+        ("* * *\nleaks main\n", "line 2: there should be a kind, a function and a file"),
+        ("leak main main.c", "line 1: the first word should be provenance, frees,"),
+    ):
+        lines.write_text(text, encoding="utf-8")
+        told = check(alone, far, "--suppressions", str(lines))
+        assert told.status == 3 and f"{lines} {wrong}" in told.errors, told.errors
+    told = check(alone, far, "--suppressions", str(tmp_path / "none"))
+    assert told.status == 5 and "no such file" in told.errors
+
+
+def test_the_page(alone: pathlib.Path) -> None:
+    """The table of docs/CHECKING.md is what the script finds that writes it."""
+    assert alone.is_file()
+    succeed([sys.executable, ROOT / "tools" / "checking.py", "--check"])
 
 
 def test_json(alone: pathlib.Path, tmp_path: pathlib.Path) -> None:

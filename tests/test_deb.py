@@ -27,7 +27,7 @@ NAMES = {"tombolopan", "libtombolopan2", "libtombolopan-dev", "python3-tombolopa
 FILES = {
     "tombolopan": ("usr/bin/(mte_host|mte_split|mte_run|disassemble|mte_why|tenant-cc)",
                    "usr/share/man/man1/mte_run.1.gz", "usr/include/tenant.h",
-                   "usr/lib/tombolopan/libc/lib/(libc.a|start.o)",
+                   "usr/lib/tombolopan/libc/lib/(libc.a|start.o|large_blocks.o)",
                    "usr/share/bash-completion/completions/mte_run",
                    "usr/share/zsh/vendor-completions/_mte_run",
                    "usr/share/fish/vendor_completions.d/mte_run.fish"),

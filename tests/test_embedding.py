@@ -8,7 +8,7 @@ from collections.abc import Callable, Iterator
 
 import pytest
 
-from tests.support.embedding import heaps, memory, runs, sessions, tenants
+from tests.support.embedding import heaps, memory, runs, sessions, tenants, watching
 from tests.support.embedding.built import COMPILERS, DRIVERS, EMBED, Program, in_c, in_python
 from tests.support.embedding.built import program
 from tests.support.embedding.folders import make, words_of
@@ -36,6 +36,10 @@ GROUPS: dict[str, Callable[[], Iterator[Line]]] = {
     "sessions": lambda: itertools.chain(sessions.ended(), sessions.faults()),
     "tenants": lambda: itertools.chain(tenants.ends(), tenants.outputs(), tenants.refusals()),
     "heap calls": tenants.heap_calls,
+    "replays": heaps.replays,
+    "traced runs": lambda: itertools.chain(watching.mixed(), watching.ends(), watching.tags()),
+    "disassembly": watching.texts,
+    "hostile": watching.hostile,
 }
 
 
@@ -229,12 +233,22 @@ OUT_OF_RANGE = [
     "run(tagged, Regs(), 1 << 64)", "run(tagged, Regs(), 1, [1 << 64])",
     "heap_calls([(MALLOC, 1 << 64, 0)])", "heap_calls([], pages=(1 << 32) + 5)",
     "heap_calls([], pages=4097)", "heap_calls([], rgsr_seed=65536)", "heap_calls([], cookie=-1)",
+    "disassemble(1 << 32)", "disassemble(-1)", "disassemble(NOP, 1 << 64)", "disassemble(NOP, -1)",
+    "Heap(pages=4097)", "Heap(cookie=1 << 32)", "Heap().replay([(1 << 32, 0, 0)])",
+    "Heap().replay([(MALLOC, -1, 0)])", "Heap().replay([(MALLOC, 0, 1 << 64)])",
+    "Heap().replay([(MALLOC, Answer(1 << 32), 0)])", "Heap().replay([(MALLOC, Answer(1), 0)])",
+    "Heap().replay([(10, 0, 0)])", "hook_code(tagged, Regs(), 1 << 64)",
+    "hook_code(tagged, Regs(), 1, [1 << 64])", "hook_code(tagged, Regs(), 1, begin=-1)",
+    "hook_code(tagged, Regs(), 1, begin=5, end=4)", "hook_code(tagged, Regs(), 1, block=0)",
+    "hook_mem(tagged, Regs(), 1, kinds=16)", "hook_mem(tagged, Regs(), 1, end=1 << 64)",
+    "hook_mem(tagged, Regs(), 1, block=1 << 30)", "hook_block(tagged, Regs(), -1)",
 ]
 
 
 def test_python_refuses_numbers_that_do_not_fit(shared: pathlib.Path) -> None:
     """ValueError, where ctypes would pass the low bits of a number."""
-    text = "from tombolopan import *\ntagged = Memory(1)\ntagged.map(0, 4096, 15)\n"
+    text = "from tombolopan import *\nNOP, tagged = 0xd503201f, Memory(1)\n"
+    text += "tagged.map(0, 4096, 15)\n"
     for call in OUT_OF_RANGE:
         text += f"try:\n    {call}\n    print({call!r})\nexcept ValueError:\n    pass\n"
     it = in_python(shared, EMBED / "tombolopan")
@@ -246,7 +260,7 @@ def test_each_call_is_made() -> None:
     """The lines of this file make every call of the library and of the header."""
     text = (ROOT / "include" / "tombolopan.h").read_text(encoding="utf-8")
     declared = set(re.findall(r"^(?:static inline )?[\w *]*?\b(tb_\w+)\(", text, re.M))
-    assert len(declared) == 16 + 14
+    assert len(declared) == 19 + 19
     source = (DRIVERS / "calls.c").read_text(encoding="utf-8")
     assert declared <= set(re.findall(r"\b(tb_\w+)\(", source))
     known = {"heap", *(it.text.split()[0] for lines in GROUPS.values() for it in lines())}
@@ -260,5 +274,6 @@ def test_each_call_is_made_from(language: str, file: str) -> None:
     names = {it.text.split()[0] for lines in GROUPS.values() for it in lines()
              if language in it.languages}
     assert names >= {"version", "session", "alone", "places", "map", "unmap", "read", "write",
-                     "load", "load_tag", "store_tags", "step", "run", "until", "heap"}
+                     "load", "load_tag", "store_tags", "step", "run", "until", "heap", "replay",
+                     "traced"}
     assert (DRIVERS / file).exists()

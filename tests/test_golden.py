@@ -23,6 +23,7 @@ GOLDEN = EXAMPLES / "golden"
 ROWS = 41
 EACH = 20
 CONSUMERS = ("unicorn", "qemu")
+MAKERS = ("make_golden.py", "make_golden.c")
 KINDS = {"Translation", "Permission", "TagCheck", "Alignment", "SpAlignment", "PcAlignment"}
 
 
@@ -33,13 +34,23 @@ def make(shared: pathlib.Path, count: int, seed: int) -> bytes:
     return ran.out
 
 
-def golden(shared: pathlib.Path) -> pathlib.Path:
+def make_in_c(shared: pathlib.Path, *words: str) -> Ran:
+    """What the script over make_golden.c says."""
+    need("cc")
+    return run([sys.executable, GOLDEN / "golden_file.py", *words], seconds=120,
+               extra={"TOMBOLOPAN": str(shared_object(shared))})
+
+
+def golden(shared: pathlib.Path, maker: str = MAKERS[0]) -> pathlib.Path:
     """A small file: twenty steps of each group."""
 
     def write(path: pathlib.Path) -> None:
-        path.write_bytes(make(shared, EACH * (ROWS + 2), 7))
+        if maker == MAKERS[0]:
+            path.write_bytes(make(shared, EACH * (ROWS + 2), 7))
+        else:
+            assert make_in_c(shared, str(EACH * (ROWS + 2)), "7", str(path)).status == 0
 
-    return make_once(shared / "golden.jsonl", write)
+    return make_once(shared / f"golden.{maker}.jsonl", write)
 
 
 def steps_of(path: pathlib.Path) -> list[dict[str, Any]]:
@@ -59,10 +70,11 @@ def check(consumer: str, path: pathlib.Path) -> Ran:
     return run([sys.executable, GOLDEN / f"check_{consumer}.py", path], seconds=120)
 
 
-def test_a_file_has_each_row_as_often(shared: pathlib.Path) -> None:
+@pytest.mark.parametrize("maker", MAKERS)
+def test_a_file_has_each_row_as_often(shared: pathlib.Path, maker: str) -> None:
     """Twenty steps of each row, refused words and faulting fetches; all kinds of faults, both
     modes; a flag of the asynchronous mode that is set."""
-    steps = steps_of(golden(shared))
+    steps = steps_of(golden(shared, maker))
     counts = collections.Counter(it["row"] for it in steps)
     names = {line.split()[0] for line in (ROOT / "isa/a64.rows").read_text().splitlines()
              if line[:1].isupper()}
@@ -80,10 +92,48 @@ def test_a_file_is_a_function_of_its_seed(shared: pathlib.Path) -> None:
     assert make(shared, 86, 7) != make(shared, 86, 8)
 
 
+def test_a_file_has_the_sum_of_the_repository(
+    shared: pathlib.Path, tmp_path: pathlib.Path
+) -> None:
+    """The C program makes the steps whose sums are kept, of 860 and of 100,000; the format is that
+    of the Python script, and another sum is told."""
+    lines = (GOLDEN / "sums.txt").read_text(encoding="utf-8").splitlines()
+    assert [it.split()[0] for it in lines] == ["860", "100000"]
+    for line in lines:
+        count, seed, _ = line.split()
+        ran = make_in_c(shared, count, seed, str(tmp_path / count))
+        assert (ran.status, ran.output, ran.errors) == (0, f"{line}\n", "")
+    heads = [json.loads(path.read_text(encoding="utf-8").splitlines()[0])
+             for path in (tmp_path / "860", golden(shared))]
+    assert heads[0] == {**heads[1], "seed": 1}
+    other = tmp_path / "examples" / "golden"
+    other.mkdir(parents=True)
+    for path in [*GOLDEN.glob("*.h"), GOLDEN / "make_golden.c", GOLDEN / "golden_file.py"]:
+        text = path.read_text(encoding="utf-8")
+        (other / path.name).write_text(text.replace("below(1008)", "below(1007)"))
+    (other / "sums.txt").write_text("\n".join(lines) + "\n")
+    (tmp_path / "examples" / "over_library.py").symlink_to(EXAMPLES / "over_library.py")
+    (tmp_path / "isa").symlink_to(ROOT / "isa")
+    ran = run([sys.executable, other / "golden_file.py", "860", "1", tmp_path / "other"],
+              extra={"TOMBOLOPAN": str(shared_object(shared))})
+    assert ran.status == 1 and "has another sum, " in ran.errors
+
+
+def test_steps_are_counted(shared: pathlib.Path) -> None:
+    """How they end adds up, and is what a file has."""
+    ran = make_in_c(shared, "--count", str(EACH * (ROWS + 2)), "7")
+    first, second = ran.output.splitlines()
+    counts = {it.split()[0]: int(it.split()[1]) for it in first.split(", ")}
+    ends = collections.Counter(
+        it["end"].get("kind", it["end"]["is"]) for it in steps_of(golden(shared, MAKERS[1])))
+    assert counts == dict(ends) and re.fullmatch(r"\d+\.\d\d s of a processor", second)
+
+
+@pytest.mark.parametrize("maker", MAKERS)
 @pytest.mark.parametrize("consumer", CONSUMERS)
-def test_emulators_agree(shared: pathlib.Path, consumer: str) -> None:
+def test_emulators_agree(shared: pathlib.Path, consumer: str, maker: str) -> None:
     """No step differs but in a way that is known."""
-    ran = check(consumer, golden(shared))
+    ran = check(consumer, golden(shared, maker))
     assert ran.status == 0, ran.output + ran.errors
     assert "different 0," in ran.output
 
@@ -108,10 +158,11 @@ def drawn_tag(rgsr: list[int], exclude: int) -> tuple[int, list[int]]:
     return tag, [tag, seed]
 
 
-def test_draws_of_irg(shared: pathlib.Path) -> None:
+@pytest.mark.parametrize("maker", MAKERS)
+def test_draws_of_irg(shared: pathlib.Path, maker: str) -> None:
     """IRG's tag and state are those of the manual's functions, written out here: no program can set
     the state under an emulator's user mode."""
-    steps = [it for it in steps_of(golden(shared)) if it["row"] == "Irg"]
+    steps = [it for it in steps_of(golden(shared, maker)) if it["row"] == "Irg"]
     for it in steps:
         word, before, after = int(it["word"], 16), it["before"], it["after"]
         number, source, to = word >> 16 & 31, word >> 5 & 31, word & 31
@@ -252,7 +303,7 @@ def test_a_wrong_file_is_refused(
 @pytest.mark.parametrize("words", [[], ["no such file"], ["a", "b", "c"]])
 def test_a_wrong_command_line_is_refused(words: list[str]) -> None:
     """Status 2 and a line on standard error."""
-    for program in ("check_unicorn.py", "check_qemu.py", "make_golden.py"):
+    for program in ("check_unicorn.py", "check_qemu.py", "make_golden.py", "golden_file.py"):
         ran = run([sys.executable, GOLDEN / program, *words])
         assert ran.status in (1, 2) and ran.errors and ran.output == ""
 

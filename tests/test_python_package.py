@@ -406,7 +406,7 @@ print(grown if grown > 2000 else "")
 """) == "\n"
 
 
-@pytest.mark.parametrize("name", ["watch", "protect", "context"])
+@pytest.mark.parametrize("name", ["watch", "hooks", "services", "protect", "context"])
 def test_samples(shared: pathlib.Path, name: str) -> None:
     """The samples for those who come from Unicorn write what the architecture says."""
     it = in_python(shared, SAMPLES / f"{name}.py")

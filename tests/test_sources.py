@@ -10,7 +10,7 @@ from tests.support.places import ROOT
 
 # Functions of seven parameters or more: an interface that a standard or the language fixes, or
 # borrows of which each is a part of its own.
-MANY_PARAMETERS = 6
+MANY_PARAMETERS = 7
 # Requirements that are one comparison of numbers.
 RANGES = 401
 

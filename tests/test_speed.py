@@ -9,7 +9,7 @@ from tests.support.running import run, succeed
 from tests.support.tools import need
 
 # The most instructions a step; docs/SPEED.md has what was measured.
-MOST = {"alu": 25.8, "memory": 43.1, "offsets": 34.2, "mix": 35.2, "svc18": 36.0, "slices16": 112.0}
+MOST = {"alu": 25.8, "memory": 41.2, "offsets": 33.3, "mix": 34.9, "svc18": 36.0, "slices16": 112.0}
 
 
 def test_a_step_calls_nothing(host: pathlib.Path) -> None:

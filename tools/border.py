@@ -23,8 +23,9 @@ HERE = pathlib.Path(__file__).resolve().parent.parent
 
 
 def crate_files(root: pathlib.Path) -> list[str]:
-    """The sources of the crate, as paths of the repository."""
-    return sorted(str(it.relative_to(root)) for it in (root / compare.CRATE).glob("*.rt"))
+    """The sources of the border's crates, as paths of the repository."""
+    found = (it for folder in compare.FOLDERS for it in (root / folder).glob("*.rt"))
+    return sorted(str(it.relative_to(root)) for it in found)
 
 
 def write(root: pathlib.Path) -> None:

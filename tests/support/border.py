@@ -8,7 +8,7 @@ from border_to_c import compare
 
 from tests.support.places import ROOT
 
-CRATE = ROOT / "crates" / "tombolopan_c" / "src"
+FOLDERS = [ROOT / it for it in compare.FOLDERS]
 HEADER = "include/tombolopan.h"
 RUST = "examples/embed/tombolopan.rs"
 PYTHON = "examples/embed/tombolopan/abi.py"
@@ -24,8 +24,8 @@ def text_of(path: str) -> str:
 
 @functools.cache
 def crate_files() -> list[str]:
-    """The sources of the crate."""
-    return sorted(str(it.relative_to(ROOT)) for it in CRATE.glob("*.rt"))
+    """The sources of the border's crates."""
+    return sorted(str(it.relative_to(ROOT)) for folder in FOLDERS for it in folder.glob("*.rt"))
 
 
 def differences(*changed: Changed) -> list[str]:

@@ -10,6 +10,8 @@ from .shapes import Border, BorderError, Call, Place, Struct, layout, renamed
 from .tables import SOURCE, Tables, read
 
 CRATE = "crates/tombolopan_c/src"
+# All sources that declare what crosses the border.
+FOLDERS = (CRATE, "crates/traced_run/src")
 Read = Callable[[str], str]
 Names = tuple[tuple[str, str], ...]  # of a language, each with the name of C
 

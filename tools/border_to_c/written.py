@@ -104,15 +104,24 @@ def class_name(name: str) -> str:
     return "".join(it.title() for it in name.removeprefix("tb_").split("_"))
 
 
+def short_name(name: str) -> str:
+    """The name of a number in its enum of Python."""
+    return name.removeprefix("STATUS_").removeprefix("ACCESS_")
+
+
+# Enums whose numbers are added up.
+SUMS = ("tb_attrs", "tb_access_kind")
+
+
 def python_enum(it: Enum) -> str:
     """An enum of Python: of words where its numbers have texts, else of numbers."""
-    base = "Word" if it.texts else "IntFlag" if it.name == "tb_attrs" else "IntEnum"
+    base = "Word" if it.texts else "IntFlag" if it.name in SUMS else "IntEnum"
     about = textwrap.fill(f'"""{it.about}"""', WIDTH - 4, subsequent_indent="    ",
                           break_on_hyphens=False)
     text = f"class {class_name(it.name)}({base}):\n    {about}\n\n"
     for entry in it.entries:
         said = f', "{entry.text}"' if it.texts else ""
-        text += f"    {entry.name.removeprefix('STATUS_')} = {entry.number}{said}\n"
+        text += f"    {short_name(entry.name)} = {entry.number}{said}\n"
     return text
 
 

@@ -102,6 +102,7 @@ def scripts(name: str) -> dict[str, str]:
 OVERRIDES = f"""# These run on the modelled core, whatever machine has the package.
 binary-from-other-architecture [usr/{IMAGE}]
 binary-from-other-architecture [usr/{TENANTS}/lib/start.o]
+binary-from-other-architecture [usr/{TENANTS}/lib/large_blocks.o]
 statically-linked-binary [usr/{IMAGE}]
 """
 

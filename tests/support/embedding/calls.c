@@ -217,13 +217,18 @@ static void tell_place(void) {
     tell(5, it->number, (uint64_t)it->mapped, (uint64_t)it->attrs, sum, tags);
 }
 
-static void heap_calls(void) {
+static tb_heap_setup read_setup(void) {
     tb_heap_setup setup;
     setup.cookie = (uint32_t)number();
     setup.pages = (uint32_t)number();
     setup.asynchronous = (uint32_t)number();
     setup.rgsr_seed = (uint16_t)number();
     setup.rgsr_tag = (uint16_t)number();
+    return setup;
+}
+
+static void heap_calls(void) {
+    const tb_heap_setup setup = read_setup();
     const size_t count = (size_t)number();
     tb_heap_call *calls = (tb_heap_call *)take(count, sizeof(tb_heap_call));
     for (size_t i = 0; i < count; i++) {
@@ -239,6 +244,145 @@ static void heap_calls(void) {
         tell_fault(&calls[i].fault);
     }
     free(calls);
+}
+
+static void heap_replay(void) {
+    const tb_heap_setup setup = read_setup();
+    const size_t count = (size_t)number();
+    uint64_t bad = 0xee;
+    tb_heap_step *steps = (tb_heap_step *)take(count, sizeof(tb_heap_step));
+    for (size_t i = 0; i < count; i++) {
+        steps[i].call.op = (uint32_t)number();
+        steps[i].call.first = number();
+        steps[i].call.second = number();
+        steps[i].first_of = (uint32_t)number();
+        steps[i].second_of = (uint32_t)number();
+    }
+    tell(1, (uint64_t)tb_heap_replay(&setup, steps, count, &bad));
+    tell(1, bad);
+    for (size_t i = 0; i < count; i++) {
+        const tb_heap_call *it = &steps[i].call;
+        printf(" |");
+        tell(5, (uint64_t)it->op, (uint64_t)it->code, it->first, it->second, it->answer);
+        tell_fault(&it->fault);
+        tell(2, (uint64_t)steps[i].first_of, (uint64_t)steps[i].second_of);
+    }
+    free(steps);
+}
+
+/* How far a traced run goes: steps, kinds, both ranges; and then its stops. */
+static tb_trace_request read_request(void) {
+    tb_trace_request it;
+    it.steps = number();
+    it.kinds = (uint32_t)number();
+    it.code_low = number();
+    it.code_high = number();
+    it.low = number();
+    it.high = number();
+    it.unused = 0;
+    it.stop_count = (size_t)number();
+    uint64_t *stops = (uint64_t *)take(it.stop_count, sizeof(uint64_t));
+    for (size_t i = 0; i < it.stop_count; i++)
+        stops[i] = number();
+    it.stops = stops;
+    return it;
+}
+
+static void tell_report(uint32_t code, const tb_trace_report *it) {
+    tell(6, (uint64_t)code, it->steps, it->instructions, it->accesses, (uint64_t)it->code,
+         (uint64_t)it->number);
+    tell_fault(&it->fault);
+}
+
+static void run_traced(void) {
+    tb_trace_report end;
+    const size_t most = (size_t)number(), room = (size_t)number();
+    const tb_trace_request request = read_request();
+    tb_traced_instruction *code =
+        (tb_traced_instruction *)take(most, sizeof(tb_traced_instruction));
+    tb_traced_access *data = (tb_traced_access *)take(room, sizeof(tb_traced_access));
+    memset(&end, 0xee, sizeof end);
+    tell_report(tb_run_traced(pages, place_count, &state, &regs, &request, code, most, data,
+                                      room, &end),
+                &end);
+    for (size_t i = 0; i < end.instructions && i < most; i++) {
+        printf(" |");
+        tell(4, code[i].step, code[i].pc, (uint64_t)code[i].word, (uint64_t)code[i].unused);
+    }
+    for (size_t i = 0; i < end.accesses && i < room; i++) {
+        printf(" >");
+        tell(7, data[i].step, data[i].pc, data[i].addr, data[i].value[0], data[i].value[1],
+             (uint64_t)data[i].size, (uint64_t)data[i].kind);
+    }
+    free(code);
+    free(data);
+    free((void *)request.stops);
+}
+
+static void disassemble(void) {
+    const uint32_t it = (uint32_t)number();
+    const uint64_t pc = number();
+    const size_t room = (size_t)number();
+    uint8_t *text = (uint8_t *)take(room, 1);
+    memset(text, 0xee, room);
+    tell(1, (uint64_t)tb_disassemble(it, pc, text, room));
+    tell_bytes(text, room);
+    free(text);
+}
+
+/* What hostile arguments are answered by: each a code. */
+static void be_hostile(void) {
+    tb_heap_setup setup = {1, 64, 0, 1, 0};
+    tb_heap_step step[2];
+    uint64_t stops[2] = {0, 0}, bad = 0;
+    uint8_t text[8];
+    tb_traced_access data[2];
+    tb_traced_instruction code[2];
+    tb_trace_request request = {stops, 1, 1, 0, ~(uint64_t)0, 0, ~(uint64_t)0, 15, 0};
+    tb_trace_report end;
+    const size_t huge = ~(size_t)0;
+    memset(step, 0, sizeof step);
+    tell(2, (uint64_t)tb_checked_disassemble(0, 0, NULL, 8),
+         (uint64_t)tb_checked_disassemble(0, 0, text, huge));
+    printf(" |");
+    tell(4, (uint64_t)tb_checked_heap_replay(NULL, step, 1, &bad),
+         (uint64_t)tb_checked_heap_replay(&setup, NULL, 1, &bad),
+         (uint64_t)tb_checked_heap_replay(&setup, step, huge, &bad),
+         (uint64_t)tb_checked_heap_replay(&setup, step, 1, NULL));
+    tell(3, (uint64_t)tb_checked_heap_replay(&setup, step, 1, (uint64_t *)(void *)step),
+         (uint64_t)tb_checked_heap_replay((tb_heap_setup *)(void *)step, step, 1, &bad),
+         (uint64_t)tb_checked_heap_replay(&setup, step, huge / 64, &bad));
+    printf(" |");
+#define TRACED(p, s, r, q, i, n, a, m, e)                                                         \
+    tell(1, (uint64_t)tb_checked_run_traced(p, place_count, s, r, q, i, n, a, m, e))
+    TRACED(NULL, &state, &regs, &request, code, 2, data, 2, &end);
+    TRACED(pages, NULL, &regs, &request, code, 2, data, 2, &end);
+    TRACED(pages, &state, NULL, &request, code, 2, data, 2, &end);
+    TRACED(pages, &state, &regs, NULL, code, 2, data, 2, &end);
+    TRACED(pages, &state, &regs, &request, NULL, 2, data, 2, &end);
+    TRACED(pages, &state, &regs, &request, code, huge, data, 2, &end);
+    TRACED(pages, &state, &regs, &request, code, 2, NULL, 0, &end);
+    TRACED(pages, &state, &regs, &request, code, 2, data, 2, NULL);
+    TRACED(pages, &state, &regs, &request, code, 2, (tb_traced_access *)(void *)code, 1, &end);
+    TRACED(pages, &state, &regs, &request, code, 2, data, 2, (tb_trace_report *)(void *)data);
+    request.stops = NULL;
+    TRACED(pages, &state, &regs, &request, code, 2, data, 2, &end);
+    request.stops = stops;
+    request.stop_count = huge / 16;
+    TRACED(pages, &state, &regs, &request, code, 2, data, 2, &end);
+    request.stop_count = 1;
+    request.low = 2, request.high = 1;
+    TRACED(pages, &state, &regs, &request, code, 2, data, 2, &end);
+    request.low = 0, request.code_low = 5, request.code_high = 4;
+    TRACED(pages, &state, &regs, &request, code, 2, data, 2, &end);
+    request.code_low = 0, request.kinds = 16;
+    TRACED(pages, &state, &regs, &request, code, 2, data, 2, &end);
+#undef TRACED
+    printf(" |");
+    tell(4, (uint64_t)tb_is_array(text, 8, 1, 1), (uint64_t)tb_is_array(text, huge, 2, 1),
+         (uint64_t)tb_are_apart(text, 4, text + 4, 4),
+         (uint64_t)tb_are_apart(text, 5, text + 4, 4));
+    tell(3, (uint64_t)tb_is_array((const void *)(uintptr_t)12, 1, 8, 8), step[0].call.answer, bad);
 }
 
 static void session(void) {
@@ -386,6 +530,14 @@ static void answer(const char *what) {
         alone();
     else if (strcmp(what, "texts") == 0)
         tell_texts();
+    else if (strcmp(what, "replay") == 0)
+        heap_replay();
+    else if (strcmp(what, "traced") == 0)
+        run_traced();
+    else if (strcmp(what, "disassemble") == 0)
+        disassemble();
+    else if (strcmp(what, "hostile") == 0)
+        be_hostile();
     else
         exit(8);
 }

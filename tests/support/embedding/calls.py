@@ -179,6 +179,49 @@ class Calls:
             text += " |" + told(it.op, it.code, it.first, it.second, it.answer) + fault_of(it.fault)
         return text
 
+    def replay(self, words: Words) -> str:
+        """Calls of a heap that take answers of earlier ones."""
+        setup = abi._HeapSetup(*(number(words) for _ in range(5)))
+        count, bad = number(words), ctypes.c_uint64(0xEE)
+        steps = (abi._HeapStep * max(count, 1))()
+        for it in steps[:count]:
+            call = it.call
+            call.op, call.first, call.second = number(words), number(words), number(words)
+            it.first_of, it.second_of = number(words), number(words)
+        text = told(LIBRARY.tb_heap_replay(byref(setup), steps, count, byref(bad)), bad.value)
+        for it in steps[:count]:
+            call = it.call
+            text += " |" + told(call.op, call.code, call.first, call.second, call.answer)
+            text += fault_of(call.fault) + told(it.first_of, it.second_of)
+        return text
+
+    def traced(self, words: Words) -> str:
+        """A run whose instructions and accesses are entered."""
+        most, room, steps, kinds = (number(words) for _ in range(4))
+        ranges = [number(words) for _ in range(4)]
+        count = number(words)
+        stops = (ctypes.c_uint64 * max(count, 1))(*(int(it, 0) for it in words))
+        request = abi._TraceRequest(stops, count, steps, *ranges, kinds, 0)
+        code = (abi._TracedInstruction * max(most, 1))()
+        data = (abi._TracedAccess * max(room, 1))()
+        end = abi._TraceReport()
+        answer = LIBRARY.tb_run_traced(
+            *self.lent(), byref(self.regs._held), byref(request), code, most, data, room, byref(end)
+        )
+        text = told(answer, end.steps, end.instructions, end.accesses, end.code, end.number)
+        text += fault_of(end.fault)
+        for it in code[: min(end.instructions, most)]:
+            text += " |" + told(it.step, it.pc, it.word, it.unused)
+        for at in data[: min(end.accesses, room)]:
+            text += " >" + told(at.step, at.pc, at.addr, *at.value, at.size, at.kind)
+        return text
+
+    def disassemble(self, words: Words) -> str:
+        """The text of a word."""
+        word, pc, room = number(words), number(words), number(words)
+        text = ctypes.create_string_buffer(b"\xee" * max(room, 1), max(room, 1))
+        return told(LIBRARY.tb_disassemble(word, pc, text, room)) + hexed(text.raw[:room])
+
     def session(self, words: Words) -> str:
         """A session."""
         frames, room, script = number(words), number(words), raw(words)

@@ -136,6 +136,32 @@ impl Calls {
         text
     }
 
+    fn traced(&mut self, words: &mut SplitWhitespace<'_>) -> String {
+        let (most, room) = (number(words) as usize, number(words) as usize);
+        let (steps, kinds) = (number(words), number(words) as u32);
+        let (code, data) = ((number(words), number(words)), (number(words), number(words)));
+        let stops: Vec<u64> = (0..number(words)).map(|_| number(words)).collect();
+        let request = TraceRequest { stops: &stops, steps, code, data, kinds };
+        let mut instructions = vec![TracedInstruction::default(); most];
+        let mut accesses = vec![TracedAccess::default(); room];
+        let TraceReport { steps, instructions: count, accesses: entered, code, number, fault } =
+            self.memory.run_traced(&mut self.regs, &request, &mut instructions, &mut accesses);
+        let mut text = told(&[code.into(), steps, count, entered, code.into(), number.into()]);
+        text += &fault_of(&fault);
+        for TracedInstruction { step, pc, word, unused } in instructions.iter().take(count as usize)
+        {
+            text += " |";
+            text += &told(&[*step, *pc, (*word).into(), (*unused).into()]);
+        }
+        for TracedAccess { step, pc, addr, value, size, kind } in
+            accesses.iter().take(entered as usize)
+        {
+            text += " >";
+            text += &told(&[*step, *pc, *addr, value[0], value[1], (*size).into(), (*kind).into()]);
+        }
+        text
+    }
+
     fn place(&self, words: &mut SplitWhitespace<'_>) -> String {
         let it = &self.memory.pages[number(words) as usize];
         let sum = |of: &[u8]| of.iter().zip(1..).map(|(byte, at)| u64::from(*byte) * at).sum();
@@ -158,6 +184,8 @@ impl Calls {
             "run" => stop_of(&self.memory.run(&mut self.regs, number(words))),
             "until" => self.until(words),
             "trace" => self.trace(words),
+            "traced" => self.traced(words),
+            "replay" => replay(words),
             "peek" => told(&[self.memory.peek(number(words), number(words) as u32)]),
             "place" => self.place(words),
             "heap" => heap(words),
@@ -169,14 +197,39 @@ impl Calls {
     }
 }
 
-fn heap(words: &mut SplitWhitespace<'_>) -> String {
-    let setup = HeapSetup {
+fn replay(words: &mut SplitWhitespace<'_>) -> String {
+    let setup = setup(words);
+    let mut steps: Vec<HeapStep> = (0..number(words))
+        .map(|_| {
+            let op = number(words) as u32;
+            let (first, second) = (number(words), number(words));
+            let call = HeapCall { op, first, second, ..HeapCall::default() };
+            HeapStep { call, first_of: number(words) as u32, second_of: number(words) as u32 }
+        })
+        .collect();
+    let (code, bad) = heap_replay(&setup, &mut steps);
+    let mut text = told(&[code.into(), bad]);
+    for HeapStep { call, first_of, second_of } in &steps {
+        text += " |";
+        text += &told(&[call.op.into(), call.code.into(), call.first, call.second, call.answer]);
+        text += &fault_of(&call.fault);
+        text += &told(&[(*first_of).into(), (*second_of).into()]);
+    }
+    text
+}
+
+fn setup(words: &mut SplitWhitespace<'_>) -> HeapSetup {
+    HeapSetup {
         cookie: number(words) as u32,
         pages: number(words) as u32,
         asynchronous: number(words) as u32,
         rgsr_seed: number(words) as u16,
         rgsr_tag: number(words) as u16,
-    };
+    }
+}
+
+fn heap(words: &mut SplitWhitespace<'_>) -> String {
+    let setup = setup(words);
     let count = number(words);
     let mut call = || HeapCall {
         op: number(words) as u32,

@@ -102,6 +102,45 @@ def setups() -> Iterator[Line]:
         yield line(f"heap 1 {pages} 0 1 0 1 1 24 0", BAD_ARGUMENT, "|", 1, 0, 24, 0, 0, *NO_FAULT)
 
 
+def replay(setup: tuple[int, int, int, int, int], *made: tuple[tuple[int, ...], tuple[int, ...]],
+           bad: int = 0) -> Line:
+    """Steps, each its operation, its arguments and the calls that they refer to, and its answer."""
+    rows: list[object] = []
+    for (op, first, second, *of), (code, answer, *fault) in made:
+        rows += ["|", op, code, first, second, answer, *fault, *of]
+    steps = words(it for step, _ in made for it in step)
+    code = BAD_ARGUMENT if bad else OK
+    return line(f"replay {words(setup)} {len(made)} {steps}".rstrip(), code, bad, *rows)
+
+
+def replays() -> Iterator[Line]:
+    """Calls that take answers of earlier ones, and steps that are none."""
+    tags, setup = Generator(1), (1, 64, 0, 1, 0)
+    it, other = chunk(tags.draw(0)), chunk(tags.draw(1), 1)
+    none, nothing = (BAD_ARGUMENT, 0, *NO_FAULT), (0, 0, *NO_FAULT)
+    yield replay(
+        setup, ((MALLOC, 24, 0, 0, 0), value(it)), ((STORE, 16, 8, 1, 0), value(0)),
+        ((LOAD, 16, 0, 1, 0), value(8)), ((STORE, 0, 34, 1, 3), value(0)),
+        ((LOAD, 0, 0, 1, 0), value(42)), ((MALLOC, 16, 0, 3, 0), value(other)),
+        ((FREE, 0, 0, 1, 0), value(0)), ((LOAD, 0, 0, 0, 0), (FAULT, 0, 0, TRANSLATION, 0, 0, 0)),
+        ((STORE, 0, 0, 6, 8), none), ((FREE, 0, 0, 1, 0), aborted(INVALID_STATE)),
+        ((LOAD, 1 << 63, 0, 6, 0), value(0)),
+        ((USABLE_SIZE, (1 << 64) - 8, 0, 6, 0), aborted(MISALIGNED)),
+        ((LOAD, 0, 0, 12, 0), none), ((USABLE_SIZE, 0, 0, 6, 0), value(24)),
+    )
+    yield replay(setup)
+    malloc = ((MALLOC, 24, 0, 0, 0), nothing)
+    for at, step in enumerate(((FREE, 0, 0, 1, 0), (FREE, 0, 0, 2, 0), (FREE, 0, 0, 0xFFFFFFFF, 0),
+                               (MALLOC, 0, 0, 0, 1), (0, 0, 0, 0, 0), (10, 0, 0, 0, 0))):
+        yield replay(setup, (step, nothing), bad=1)
+        if at:
+            yield replay(setup, malloc, ((FREE, 0, 0, 1, 0), nothing), malloc,
+                         ((LOAD, 0, 0, 2, 0), nothing), (step, nothing), bad=4)
+    yield line("replay 1 0 0 1 0 1 1 24 0 0 0", BAD_ARGUMENT, 0, "|", 1, 0, 24, 0, 0, *NO_FAULT,
+               0, 0)
+    yield line("replay 1 4097 0 1 0 0", BAD_ARGUMENT, 0)
+
+
 def headers() -> dict[int, Line]:
     """By the cookie, a line that loads the header of a chunk of 24 bytes."""
     return {

@@ -1,0 +1,249 @@
+"""Recorded heap calls, their replay with statistics, and the margins of tags on the page."""
+
+import csv
+import pathlib
+import re
+import sys
+
+import pytest
+
+from tests.support.library import shared_object
+from tests.support.once import make_once
+from tests.support.pages import read_page
+from tests.support.places import EXAMPLES
+from tests.support.running import Ran, run, succeed
+from tests.support.tools import need
+
+ALLOC = EXAMPLES / "alloc"
+HEAD = "tombolopan heap calls 1\n"
+THREADS = """
+#include <pthread.h>
+#include <stdlib.h>
+#include <string.h>
+enum { THREADS = 4, TURNS = 3000 };
+static void *turn(void *number)
+{
+    for (long i = 0; i < TURNS; i++) {
+        char *volatile chunk = malloc(16 + (size_t)(i * 7 % 900));
+        memset(chunk, (int)i, 16);
+        if (i % 3 == 0)
+            chunk = realloc(chunk, 2000);
+        if (i % 100 == 0) {
+            void *other = NULL;
+            free(posix_memalign(&other, 64, 100) == 0 ? other : NULL);
+            free(calloc(3, 40));
+        }
+        free(chunk);
+    }
+    return number;
+}
+int main(void)
+{
+    pthread_t threads[THREADS];
+    for (long i = 0; i < THREADS; i++)
+        pthread_create(&threads[i], NULL, turn, NULL);
+    for (long i = 0; i < THREADS; i++)
+        pthread_join(threads[i], NULL);
+    return 0;
+}
+"""
+
+
+def recorder(shared: pathlib.Path) -> pathlib.Path:
+    """The recorder, compiled as its comment says."""
+    need("cc")
+    words = ["cc", "-O2", "-Wall", "-Wextra", "-Werror", "-shared", "-fPIC", "-o"]
+
+    def link(path: pathlib.Path) -> None:
+        succeed([*words, str(path), str(ALLOC / "record.c")])
+
+    return make_once(shared / "record.so", link)
+
+
+def record(shared: pathlib.Path, trace: pathlib.Path, *words: str) -> str:
+    """The lines of a program's heap calls."""
+    succeed(words, extra={"LD_PRELOAD": str(recorder(shared)), "HEAP_TRACE": str(trace)})
+    return trace.read_text(encoding="ascii")
+
+
+def replay(shared: pathlib.Path, trace: pathlib.Path, *words: str) -> Ran:
+    """What the script says of a trace."""
+    return run([sys.executable, ALLOC / "replay.py", *words, trace], seconds=120,
+               extra={"TOMBOLOPAN": str(shared_object(shared))})
+
+
+def rows_of(ran: Ran) -> list[dict[str, str]]:
+    """The rows of statistics."""
+    assert ran.status == 0, ran.errors
+    return list(csv.DictReader(ran.output.splitlines()))
+
+
+def test_threads_are_recorded_in_order(shared: pathlib.Path, tmp_path: pathlib.Path) -> None:
+    """No chunk is made where one is, and none freed that is not there; all calls are there."""
+    source, program = tmp_path / "threads.c", tmp_path / "threads"
+    source.write_text(THREADS)
+    succeed(["cc", "-O1", "-o", program, source, "-lpthread"])
+    text = record(shared, tmp_path / "trace", str(program))
+    assert text.startswith(HEAD)
+    live: set[str] = set()
+    for line in text.splitlines()[1:]:
+        name, _, made = line.partition(" = ")
+        if name.startswith(("free", "realloc")):
+            live.remove(name.split()[1])
+        if made:
+            assert made not in live
+            live.add(made)
+    counts = {it: len(re.findall(rf"^{it} ", text, re.M))
+              for it in ("realloc", "memalign", "malloc")}
+    assert counts["realloc"] == 4 * 1000 and counts["memalign"] == 4 * 30
+    assert counts["malloc"] >= 4 * 3000
+    rows = rows_of(replay(shared, tmp_path / "trace", "--every", "5000"))
+    assert len(rows) >= 5 and int(rows[-1]["live_chunks"]) == int(rows[-1]["native_live_chunks"])
+
+
+def test_a_program_does_what_it_did(shared: pathlib.Path, tmp_path: pathlib.Path) -> None:
+    """Perl under the recorder, whose children are not recorded; and its heap in the replay."""
+    need("perl")
+    word = "my %h; $h{$_ % 70} .= q(x) x ($_ % 50) for 1 .. 500; print `echo child`, scalar %h;"
+    ran = succeed(["perl", "-e", word])
+    trace = tmp_path / "trace"
+    with_it = succeed(["perl", "-e", word], extra={
+        "LD_PRELOAD": str(recorder(shared)), "HEAP_TRACE": str(trace)})
+    assert (with_it.out, with_it.err) == (ran.out, ran.err)
+    rows = rows_of(replay(shared, trace, "--every", "500"))
+    for row in rows:
+        live, blocks, mapped, free = (
+            int(row[name]) for name in ("live_bytes", "block_bytes", "mapped_bytes", "free_bytes"))
+        assert 0 < live <= blocks and blocks + free <= mapped
+        assert row["fragmentation"] == f"{1 - live / mapped:.4f}"
+        assert row["live_bytes"] == row["native_live_bytes"]
+        classes = {int(name[5:]): int(it) for name, it in row.items() if re.match(r"free_\d", name)}
+        assert len(classes) == 44
+        assert sum(size * count for size, count in classes.items()) == free
+
+
+SMALL = HEAD + """\
+malloc 24 = 0x10
+malloc 24 = 0x20
+calloc 2 100 = 0x30
+free 0x20
+malloc 20 = 0x20
+realloc 0x30 3000 = 0x40
+memalign 64 100 = 0x50
+malloc 200000 = 0x60
+free 0x99
+free 0x0
+malloc 30 = 0x0
+realloc 0x10 0 = 0x0
+"""
+
+
+def test_statistics_of_a_few_calls(shared: pathlib.Path, tmp_path: pathlib.Path) -> None:
+    """As they are counted by hand: one block is used again, by the call behind its free."""
+    path = tmp_path / "trace"
+    path.write_text(SMALL)
+    ran = replay(shared, path, "--every", "1")
+    rows = rows_of(ran)
+    assert ran.errors.splitlines()[0] == "calls 9, unknown 1, refused 0, runs 2"
+    assert [row["live_bytes"] for row in rows] == [
+        "24", "48", "248", "224", "244", "3044", "3144", "203144", "203120"]
+    assert [row["tags_drawn"] for row in rows] == ["1", "2", "3", "4", "5", "7", "8", "8", "9"]
+    assert (rows[4]["reused"], rows[4]["reuse_distance"]) == ("1", "1.0")
+    # A page of blocks of 64 and of 224 bytes; the last row has pages of a chunk of 200,000 too.
+    assert [row["mapped_bytes"] for row in rows[:3]] == ["4096", "4096", "8192"]
+    assert int(rows[7]["mapped_bytes"]) - int(rows[6]["mapped_bytes"]) == 49 * 4096
+    assert rows[-1]["free_64"] == str(64 - 1)
+
+
+def test_a_heap_that_is_used_up(shared: pathlib.Path, tmp_path: pathlib.Path) -> None:
+    """Requests that the profile refuses, of size and of pages, are counted; chunks that are not
+    there are neither moved nor freed."""
+    lines = ["malloc 2000000 = 0x10", "realloc 0x10 50 = 0x20", "free 0x20"]
+    lines += [f"malloc 1000 = {at:#x}" for at in range(0x1000, 0x1000 + 40 * 16, 16)]
+    lines += [f"free {at:#x}" for at in range(0x1000, 0x1000 + 40 * 16, 16)]
+    path = tmp_path / "trace"
+    path.write_text(HEAD + "\n".join(lines) + "\n")
+    ran = replay(shared, path, "--pages", "5", "--every", "43")
+    rows = rows_of(ran)
+    # Blocks of 1,024 bytes; one page has the block of 50 bytes.
+    assert ran.errors.splitlines()[0] == "calls 83, unknown 0, refused 25, runs 2"
+    assert (rows[0]["live_chunks"], rows[0]["free_1024"], rows[-1]["live_chunks"]) == (
+        "16", "0", "0")
+
+
+@pytest.mark.parametrize("right, wrong, said", [
+    ("return 32 * class", "return 48 * class", "50 runs do not tell where all chunks are"),
+    ("it->pages += more", "it->pages += more + 1", "pages and free blocks are not as they were"),
+    ("it->freed[--it->count]", "it->freed[it->count-- / 2]", "pages and free blocks are not as"),
+])
+def test_a_wrong_guess_is_told(
+    shared: pathlib.Path, tmp_path: pathlib.Path, right: str, wrong: str, said: str
+) -> None:
+    """Of blocks, of pages, and of which free block is next."""
+    folder = tmp_path / "examples" / "alloc"
+    folder.mkdir(parents=True)
+    for path in [*ALLOC.glob("*.h"), ALLOC / "replay.c", ALLOC / "replay.py"]:
+        text = path.read_text(encoding="utf-8")
+        (folder / path.name).write_text(text.replace(right, wrong), encoding="utf-8")
+    (tmp_path / "examples" / "over_library.py").symlink_to(EXAMPLES / "over_library.py")
+    (tmp_path / "include").symlink_to(ALLOC.parents[1] / "include")
+    lines = [f"malloc 24 = {at:#x}" for at in range(0x1000, 0x1000 + 130 * 16, 16)]
+    lines += ["free 0x1000", "free 0x1010", "free 0x1020", "malloc 24 = 0x1020"]
+    trace = tmp_path / "trace"
+    trace.write_text(HEAD + "\n".join(lines) + "\n")
+    ran = run([sys.executable, folder / "replay.py", trace], seconds=120,
+              extra={"TOMBOLOPAN": str(shared_object(shared))})
+    assert f"replay: {said}" in ran.errors and (ran.status, ran.output) == (1, ""), ran.errors
+
+
+@pytest.mark.parametrize("text, said", [
+    ("", ":1: "), ("malloc 1 = 0x10\n", ":1: "), (HEAD + "malloc 1\n", ":2: "),
+    (HEAD + "malloc 1 = 0x10\nfree\n", ":3: "), (HEAD + "mallocs 1 = 0x10\n", ":2: "),
+    (HEAD + "malloc 1 = 0x10", ":2: "), (HEAD + "free 0x10 = 0x10\n", ":2: "),
+])
+def test_a_trace_that_is_none(
+    shared: pathlib.Path, tmp_path: pathlib.Path, text: str, said: str
+) -> None:
+    """Is refused with its first line that has not the form."""
+    path = tmp_path / "trace"
+    path.write_text(text)
+    ran = replay(shared, path)
+    assert ran.status == 2 and ran.output == ""
+    assert ran.errors == f"replay: {path}{said}it has not the form of a heap call\n"
+
+
+def margins(shared: pathlib.Path, *words: str) -> Ran:
+    """What the script says."""
+    return run([sys.executable, ALLOC / "margins.py", *words], seconds=300,
+               extra={"TOMBOLOPAN": str(shared_object(shared))})
+
+
+def cells_of(table: str) -> dict[str, list[str]]:
+    """The rows of a table by their mistakes."""
+    parts = [[it.strip() for it in line.strip("|").split("|")] for line in table.splitlines()
+             if line.startswith("|")]
+    return {it[0]: it[1:] for it in parts[2:]}
+
+
+def test_the_page_has_the_margins(shared: pathlib.Path) -> None:
+    """What a part of the states gives is near what the page has of all of them; what laws say is
+    the same, and no state counts against one."""
+    ran = margins(shared, "--states", "40000")
+    assert (ran.status, ran.errors) == (0, "")
+    page = re.search(r"margins\.py: -->\n(.*?)<!-- to here", read_page("docs/ALLOCATORS.md"), re.S)
+    assert page
+    wanted, found = cells_of(page[1]), cells_of(ran.output)
+    assert list(found) == list(wanted) and len(found) == 18
+    for name, cells in found.items():
+        assert cells[-1] == wanted[name][-1]
+        for one, other in zip(cells[:-1], wanted[name]):
+            assert abs(float(one) - float(other)) < 0.01, name
+    laws = set(re.findall(r"`(\w+)`", page[1]))
+    assert len(laws) == 4 and all(f"`{it}`" in read_page("docs/PROVED.md") for it in laws)
+
+
+def test_margins_of_wrong_words(shared: pathlib.Path) -> None:
+    """Status 2 and a line."""
+    for words in (["--states", "0"], ["--states", "1048577"], ["--states", "5", "--write"]):
+        ran = margins(shared, *words)
+        assert ran.status == 2 and "--states is 1 to 1048576" in ran.errors
