@@ -174,8 +174,8 @@ pub(crate) fn word_in_page<S: PageStore>(store: &S, place: usize, at: u64) -> u3
     u32::from_le_bytes(word)
 }
 
-/// Replaces a run of the 4096 bytes of a page. Runs of one register go through a copy, which lies
-/// of its own.
+/// Replaces a run of the 4096 bytes of a page. Runs of one register go through a copy that is no
+/// part of the page.
 #[inline]
 pub fn copy_in(page: &mut [u8], at: u64, bytes: &[u8])
     requires page { length page.old ≡ 4096 }
