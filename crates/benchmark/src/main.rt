@@ -14,7 +14,7 @@ use anyhow::{Result, bail};
 use bench::{Bench, Lists, PAGES};
 use measured::Measured;
 use mte_flat::Flat;
-use mte_space::{Space, pages_of_a_space};
+use mte_space::{RememberedPages, Space, Tenancy, pages_of_a_space};
 use mte_tags::{Paged, TagMode, TagState};
 use mte_translate::{Table, Tlb};
 use shared::{has_room, pool_for};
@@ -78,14 +78,23 @@ fn run_asked(rt: &HostRuntime, asked: Asked) -> Result<()> {
     if !has_room(&pool, &table, &quota, PAGES) {
         bail!("there are too few frames");
     }
-    let mut tlb = Tlb::new();
+    let (mut tlb, mut remembered) = (Tlb::new(), RememberedPages::new());
     let mut state = TagState {
         mode: TagMode::Sync,
         pending: false,
     };
     pages_of_a_space();
     let mut shared = Space::new(
-        &mut pool, &mut table, &mut quota, &mut tlb, &mut state, 1, PAGES,
+        &mut pool,
+        &mut table,
+        &mut quota,
+        &mut tlb,
+        &mut remembered,
+        &mut state,
+        Tenancy {
+            asid: 1,
+            pages: PAGES,
+        },
     );
     let lists = Lists::new(rt.alloc())?;
     let mut plain = Bench::new(rt.alloc(), &mut plain, &lists)?;

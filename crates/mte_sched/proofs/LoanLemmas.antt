@@ -17,6 +17,7 @@ use Rattle.mte_frames.proofs.Keeps.{keeps_written}
 use Rattle.mte_translate.specs.Tables.{pages_of, Stays}
 use Rattle.mte_translate.specs.declared.translation.Translation.{Translation}
 use Rattle.mte_translate.proofs.KeptTables.{kept-others, kept-after-write-of, page-frame}
+use Rattle.mte_space.specs.Remembered.{IsRemembered}
 use Rattle.mte_space.specs.Spaces.{page_of}
 use Rattle.mte_space.specs.KeptSpaces.{none_enters_same}
 use Rattle.mte_space.proofs.Memories.{page_at-space, pages_left-space, page_found}
@@ -104,6 +105,7 @@ module _ (p : Pool) (us : List Translation) (ts : List code.Tenant) (sharing : I
     charged = placed.charged;
     counted = placed.counted;
     cached = cached_framed p x.live.memory.quota x.live.memory.table x.tenant.pages q f a frame placed.space x.mapped x.at us placed.cached;
+    remembered = subst (λ m. IsRemembered m x.live.memory.remembered.value) (sym stays.pages) placed.remembered;
     some = placed.some;
     most = placed.most;
   }

@@ -8,6 +8,7 @@ use Rattle.mte_frames.proofs.Counts.{sum-set, within_of}
 use Rattle.mte_translate.specs.Tables.{Root, pages_of, IsTable, IsCached}
 use Rattle.mte_translate.specs.declared.translation.Translation.{Translation}
 use Rattle.mte_translate.proofs.TableLemmas.{leaves-len}
+use Rattle.mte_space.specs.Remembered.{IsRemembered}
 use Rattle.mte_space.specs.Spaces.{IsSpace, KeepsRest}
 use Rattle.mte_sched.specs.declared.memory.TenantMemory.{TenantMemory}
 use Rattle.mte_tenant.specs.Ledger.{charge_of}
@@ -15,12 +16,13 @@ use Rattle.mte_sched.specs.Memories.{IsTenantMemory}
 
 pub placed_after : (p n : Pool) (us vs : List Translation) (i pages : ℕ) (a b : TenantMemory) → IsTenantMemory p us i pages a
     → KeepsRest a.quota p n a.table b.table → b.quota ≡ a.quota → IsSpace n b.quota b.table pages → IsCached (pages_of n b.table.frame) i vs
-    → IsTenantMemory n vs i pages b
-placed_after p n us vs i pages a b h rest same space cached = record {
+    → IsRemembered (pages_of n b.table.frame) b.remembered.value → IsTenantMemory n vs i pages b
+placed_after p n us vs i pages a b h rest same space cached remembered = record {
   space = space;
   charged = ap (reserved_by n) same ∙ rest.reserved ∙ h.charged;
   counted = ap (taken_by n) same ∙ rest.taken 1 h.counted;
   cached = cached;
+  remembered = remembered;
   some = h.some;
   most = h.most;
 }
@@ -70,12 +72,13 @@ sum_more p m k c inside sound none e =
 
 pub first_placed : (p n : Pool) (vs : List Translation) (i pages : ℕ) (a b : TenantMemory) → taken_by p a.quota ≡ 1 → reserved_by p a.quota ≡ charge_of pages
     → a.table.len ≡ 0 → a.table.leaves ≡ 0 → KeepsRest a.quota p n a.table b.table → b.quota ≡ a.quota → IsSpace n b.quota b.table pages → IsCached (pages_of n b.table.frame) i vs
-    → 0 < pages → pages ≤ MAX_PAGES → IsTenantMemory n vs i pages b
-first_placed p n vs i pages a b taken charged len leaves rest same space cached some most = record {
+    → IsRemembered (pages_of n b.table.frame) b.remembered.value → 0 < pages → pages ≤ MAX_PAGES → IsTenantMemory n vs i pages b
+first_placed p n vs i pages a b taken charged len leaves rest same space cached remembered some most = record {
   space = space;
   charged = ap (reserved_by n) same ∙ rest.reserved ∙ charged;
   counted = ap (taken_by n) same ∙ rest.taken 1 (omega (arith, taken, len, leaves));
   cached = cached;
+  remembered = remembered;
   some = some;
   most = most;
 }

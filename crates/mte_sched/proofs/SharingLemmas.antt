@@ -8,7 +8,7 @@ use Rattle.std.proofs.lemmas.List.Elements.{All-weaker, All-contains}
 use Rattle.mte_frames.specs.Pool.{Pool, KeepsOthers}
 use Rattle.mte_translate.specs.declared.translation.Translation.{Translation}
 use Rattle.mte_space.specs.Spaces.{NoneEnters}
-use Rattle.mte_space.proofs.OtherSpaces.{other_memory, other_space, other_cached}
+use Rattle.mte_space.proofs.OtherSpaces.{other_memory, other_space, other_cached, other_remembered}
 use Rattle.mte_sched.specs.declared.memory.TenantMemory.{TenantMemory}
 use Rattle.mte_sched.specs.declared.tenant.Tenant as code
 use Rattle.mte_sched.specs.declared.tenant.Live.{Live}
@@ -38,6 +38,7 @@ placed_stays p n us vs k i j pages a turn differs apart h = record {
   charged = (turn.others.counts a.quota differs).0 ∙ h.charged;
   counted = (turn.others.counts a.quota differs).1 ∙ h.counted;
   cached = other_cached p n k a.quota i j a.table us vs differs turn.others h.space.table apart turn.entries h.cached;
+  remembered = other_remembered p n k a.quota a.table a.remembered.value differs turn.others h.space.table h.remembered;
   some = h.some;
   most = h.most;
 }

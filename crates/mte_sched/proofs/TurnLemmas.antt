@@ -12,6 +12,7 @@ use Rattle.mte_translate.specs.Tables.{pages_of, IsCached}
 use Rattle.mte_translate.specs.Translations.{without_asid}
 use Rattle.mte_translate.specs.declared.translation.Translation.{Translation}
 use Rattle.mte_translate.proofs.StandingLaws.{forget-asid}
+use Rattle.mte_space.specs.Remembered.{IsRemembered}
 use Rattle.mte_space.specs.Spaces.{IsSpace, KeepsRest, NoneEnters}
 use Rattle.mte_svc.specs.declared.parts.TenantParts.{TenantParts}
 use Rattle.mte_svc.specs.declared.record.Record.{Record}
@@ -102,7 +103,7 @@ module _ (p n : Pool) (us vs : List Translation) (ts : List code.Tenant) (i id :
   -- ---- a slice
 
   module _ (steps : ℕ) (b : TenantMemory) (parts : Box TenantParts Global) (rest : KeepsRest a.memory.quota p n a.memory.table b.table) (quota : b.quota ≡ a.memory.quota) (space : IsSpace n b.quota b.table t.pages)
-      (cached : IsCached (pages_of n b.table.frame) i vs) (ready : IsReady parts.value (memory_at n b t.pages))
+      (cached : IsCached (pages_of n b.table.frame) i vs) (remembered : IsRemembered (pages_of n b.table.frame) b.remembered.value) (ready : IsReady parts.value (memory_at n b t.pages))
       (step : machine_of parts.value (memory_at n b t.pages) ≡ after_slice steps (machine_of a.parts.value (memory_at p a.memory t.pages))) (was : IsSound p) (is : IsSound n) where
     abbrev pub after : code.Tenant
     after = record { pages = t.pages; holding = kept.Live (record { parts = parts; memory = b }) }
@@ -118,7 +119,7 @@ module _ (p n : Pool) (us vs : List Translation) (ts : List code.Tenant) (i id :
     own : (c : Live) → after.holding ≡ kept.Live c → (c.memory.quota ≡ a.memory.quota) × IsTenantMemory n vs i after.pages c.memory × IsReady c.parts.value (memory_at n c.memory after.pages)
     own c e =
         subst (λ (z : Live). (z.memory.quota ≡ a.memory.quota) × IsTenantMemory n vs i t.pages z.memory × IsReady z.parts.value (memory_at n z.memory t.pages)) (live_same (record { parts = parts; memory = b }) c e)
-        (quota, placed_after p n us vs i t.pages a.memory b (sharing.placed i t a lies) rest quota space cached, ready)
+        (quota, placed_after p n us vs i t.pages a.memory b (sharing.placed i t a lies) rest quota space cached remembered, ready)
 
     pub sliced_sharing : IsSharing n vs (slice_set ts i after)
     sliced_sharing =

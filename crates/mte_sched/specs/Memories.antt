@@ -7,6 +7,7 @@ use Rattle.mte_tags.specs.Memory.{Memory}
 use Rattle.mte_frames.specs.Pool.{Pool, frames_left, taken_by, reserved_by}
 use Rattle.mte_translate.specs.Tables.{pages_of, IsCached}
 use Rattle.mte_translate.specs.declared.translation.Translation.{Translation}
+use Rattle.mte_space.specs.Remembered.{IsRemembered}
 use Rattle.mte_space.specs.Spaces.{space_memory, IsSpace}
 use Rattle.mte_elf.specs.Headers.{segments_of}
 use Rattle.mte_elf.specs.Images.{refusal_of, pages_of as image_pages}
@@ -37,5 +38,7 @@ pub record IsTenantMemory (p : Pool) (ts : List Translation) (asid pages : ℕ)
   pub counted : taken_by p a.quota ≡ 1 + a.table.len + a.table.leaves
   -- the translations of the ASID are those of the table
   pub cached : IsCached (pages_of p a.table.frame) asid ts
+  -- the remembered pages are those of the table
+  pub remembered : IsRemembered (pages_of p a.table.frame) a.remembered.value
   pub some : 0 < pages
   pub most : pages ≤ MAX_PAGES

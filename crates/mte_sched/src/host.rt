@@ -23,6 +23,7 @@ use a64_run::OpCache;
 use address_map::MAX_FRAMES;
 use mte_arena::{Arena, ArenaError, FRAME_BYTES};
 use mte_frames::FramePool;
+use mte_space::RememberedPages;
 use mte_svc::Record;
 use mte_tenant::{
     Admission, AdmitError, LedgerFacts, NotLive, accept, accepted_means, start_parts,
@@ -112,10 +113,12 @@ impl Host {
         accepted_means(facts, admission);
         let first = start_parts(alloc, admission, &plan)?;
         let parts = Box::new(alloc, first)?;
+        let remembered = Box::new(alloc, RememberedPages::new())?;
         make_room(&mut self.tenants)?;
         let asid = self.tenants.len();
         self.index.enter(admission.id, asid);
-        let memory = start_memory(&mut self.pool, &mut self.caches.tlb, asid, admission, &plan);
+        let tlb = &mut self.caches.tlb;
+        let memory = start_memory(&mut self.pool, tlb, asid, admission, &plan, remembered);
         self.tenants.push_reserved(Tenant {
             pages: admission.terms.pages,
             holding: Holding::Live(Live { parts, memory }),

@@ -1,12 +1,13 @@
-//! Where a live tenant's memory is: its table, its quota and its tag state, over the frames and
-//! the translation lookaside buffer that all tenants share.
+//! Where a live tenant's memory is: its table, its quota, its tag state and the pages that it
+//! remembers, over the frames and the translation lookaside buffer that all tenants share.
 
 ghost use Rattle.std.specs.Prelude.{◌≡◌, ◌≢◌, ◌+◌, ◌<◌, ◌≤◌, None, All, sum, false};
 ghost use Rattle.std.specs.FinMap.{empty};
 ghost use Rattle.mte_frames.specs.Pool.{reserved_by, taken_by, KeepsOthers};
+ghost use Rattle.mte_space.specs.Remembered.{IsRemembered};
 ghost use Rattle.mte_space.specs.Spaces.{IsSpace, HasFrames, KeepsRest, NoneEnters};
 ghost use Rattle.mte_tags.specs.Memory.{no_pages};
-ghost use Rattle.mte_translate.specs.Tables.{pages_of, IsTable, MapsOnce, IsCached};
+ghost use Rattle.mte_translate.specs.Tables.{Pages, pages_of, IsTable, MapsOnce, IsCached};
 ghost use Rattle.mte_translate.specs.Translations.{without_asid};
 ghost use Rattle.scudo_heap.specs.Served.{IsUntouched};
 ghost use Rattle.mte_tenant.specs.Ledger.{charge_of};
@@ -18,17 +19,18 @@ use crate::tenant::{Caches, Live};
 use address_map::MAX_PAGES;
 use mte_elf::Plan;
 use mte_frames::{FramePool, Quota};
-use mte_space::{Space, pages_of_a_space, unmap_all};
+use mte_space::{RememberedPages, Space, Tenancy, pages_of_a_space, unmap_all};
 use mte_tags::{TagMode, TagState};
 use mte_tenant::{Admission, charge, fill, slice};
 use mte_translate::{Table, Tlb};
 
-/// A live tenant's table, its quota and its tag state.
+/// A live tenant's table, its quota, its tag state, and where its last accesses found their pages.
 #[derive(Drop)]
 pub struct TenantMemory {
     pub(crate) table: Table,
     pub(crate) quota: Quota,
     pub(crate) state: TagState,
+    pub(crate) remembered: Box<RememberedPages>,
 }
 
 /// Reserves a new tenant's charge, and maps and loads its image and its stack.
@@ -38,11 +40,13 @@ pub(crate) fn start_memory(
     asid: usize,
     admission: &Admission<'_>,
     plan: &Plan,
+    remembered: Box<RememberedPages>,
 ) -> TenantMemory
     requires image { IsPlanned admission.now.image.now plan.now admission.now.terms.pages }
     requires most { admission.now.terms.pages ≤ MAX_PAGES }
     requires frames { HasCharge pool.old admission.now.terms.pages }
     requires fresh { All (λ u. u.asid ≢ asid) tlb.old }
+    requires remembered { (m : Pages) → IsRemembered m remembered.value }
     ensures placed { IsTenantMemory pool.new tlb.new asid admission.now.terms.pages result }
     ensures memory { memory_at pool.new result admission.now.terms.pages
         ≡ first_memory admission.now.image.now admission.now.terms.pages admission.now.terms.mode }
@@ -57,7 +61,8 @@ pub(crate) fn start_memory(
     ensures capacities { pool.new.capacities ≡ pool.old.capacities }
 {
     pages_of_a_space();
-    let mut memory = reserve_memory(pool, admission.terms.pages, admission.terms.mode);
+    let (pages, mode) = (admission.terms.pages, admission.terms.mode);
+    let mut memory = reserve_memory(pool, pages, mode, remembered);
     pool.recall();
     fill_memory(pool, tlb, asid, admission, plan, &mut memory);
     pool.recall();
@@ -65,7 +70,12 @@ pub(crate) fn start_memory(
 }
 
 /// Reserves a new tenant's charge, and makes a table that maps nothing.
-fn reserve_memory(pool: &mut FramePool, pages: u32, mode: TagMode) -> TenantMemory
+fn reserve_memory(
+    pool: &mut FramePool,
+    pages: u32,
+    mode: TagMode,
+    remembered: Box<RememberedPages>,
+) -> TenantMemory
     requires frames { HasCharge pool.old pages }
     ensures table { IsTable pool.new result.quota result.table }
     ensures none { pages_of pool.new result.table.frame ≡ empty }
@@ -73,6 +83,7 @@ fn reserve_memory(pool: &mut FramePool, pages: u32, mode: TagMode) -> TenantMemo
     ensures len { result.table.len ≡ 0 }
     ensures leaves { result.table.leaves ≡ 0 }
     ensures state { result.state ≡ record { mode = mode; pending = false } }
+    ensures remembered { result.remembered ≡ remembered }
     ensures taken { taken_by pool.new result.quota ≡ 1 }
     ensures charged { reserved_by pool.new result.quota ≡ charge_of pages }
     ensures unused { reserved_by pool.old result.quota ≡ 0 }
@@ -94,6 +105,7 @@ fn reserve_memory(pool: &mut FramePool, pages: u32, mode: TagMode) -> TenantMemo
         table,
         quota,
         state,
+        remembered,
     }
 }
 
@@ -115,6 +127,8 @@ fn fill_memory(
     requires left { HasFrames pool.old memory.old.quota memory.old.table
         admission.now.terms.pages }
     requires cached { IsCached (pages_of pool.old memory.old.table.frame) asid tlb.old }
+    requires remembered { IsRemembered (pages_of pool.old memory.old.table.frame)
+        memory.old.remembered.value }
     ensures memory { memory_at pool.new memory.new admission.now.terms.pages
         ≡ first_memory admission.now.image.now admission.now.terms.pages admission.now.terms.mode }
     ensures limit { (memory_at pool.new memory.new admission.now.terms.pages).limit
@@ -122,6 +136,8 @@ fn fill_memory(
     ensures untouched { IsUntouched (memory_at pool.new memory.new admission.now.terms.pages) }
     ensures space { IsSpace pool.new memory.new.quota memory.new.table admission.now.terms.pages }
     ensures cached { IsCached (pages_of pool.new memory.new.table.frame) asid tlb.new }
+    ensures remembered { IsRemembered (pages_of pool.new memory.new.table.frame)
+        memory.new.remembered.value }
     ensures rest { KeepsRest memory.old.quota pool.old pool.new memory.old.table memory.new.table }
     ensures same { memory.new.quota ≡ memory.old.quota }
     ensures entries { NoneEnters asid tlb.old tlb.new }
@@ -131,9 +147,12 @@ fn fill_memory(
         &mut memory.table,
         &mut memory.quota,
         tlb,
+        &mut memory.remembered,
         &mut memory.state,
-        asid,
-        admission.terms.pages as usize,
+        Tenancy {
+            asid,
+            pages: admission.terms.pages as usize,
+        },
     );
     fill(
         plan,
@@ -167,6 +186,8 @@ impl Live {
         ensures space { IsSpace pool.new self.new.memory.quota self.new.memory.table pages }
         ensures cached { IsCached (pages_of pool.new self.new.memory.table.frame) asid
             caches.new.tlb }
+        ensures remembered { IsRemembered (pages_of pool.new self.new.memory.table.frame)
+            self.new.memory.remembered.value }
         ensures rest { KeepsRest self.old.memory.quota pool.old pool.new
             self.old.memory.table self.new.memory.table }
         ensures same { self.new.memory.quota ≡ self.old.memory.quota }
@@ -177,9 +198,12 @@ impl Live {
             &mut self.memory.table,
             &mut self.memory.quota,
             &mut caches.tlb,
+            &mut self.memory.remembered,
             &mut self.memory.state,
-            asid,
-            pages as usize,
+            Tenancy {
+                asid,
+                pages: pages as usize,
+            },
         );
         slice(&mut caches.ops, &mut *self.parts, &mut space, steps);
     }

@@ -1,5 +1,5 @@
 -- A space beside another tenant's step.
-use Rattle.std.proofs.Common.{◌≡◌, ◌≢◌, ℕ, List, refl, sym, ap, ◌∙◌, arith}
+use Rattle.std.proofs.Common.{◌≡◌, ◌≢◌, ℕ, List, refl, sym, ap, subst, ◌∙◌, arith}
 use Rattle.std.specs.Prelude.{Contains}
 use Rattle.std.proofs.lemmas.List.Elements.{All-weaker, All-contains}
 use Rattle.std.specs.Ordering.{nat_cmp}
@@ -16,6 +16,8 @@ use Rattle.mte_translate.specs.Tables.{Root, pages_of, IsTable, IsCached, Agrees
 use Rattle.mte_translate.specs.declared.translation.Translation.{Translation}
 use Rattle.mte_translate.proofs.KeptTables.{kept-others, page-frame}
 use Rattle.mte_space.specs.Spaces.{space_memory, IsSpace, NoneEnters}
+use Rattle.mte_space.specs.Remembered.{IsRemembered}
+use Rattle.mte_space.specs.declared.remembered.RememberedPages.{RememberedPages}
 use Rattle.mte_space.proofs.Memories.{space_same, page_missing, rest-space}
 
 pub other_memory : (p n : Pool) (j k l : ℕ) (t : Root) (s : TagState) → k ≢ j → KeepsOthers j p n → IsTable p k t → space_memory n t l s ≡ space_memory p t l s
@@ -39,6 +41,9 @@ other_cached p n j k asid other t ts us d keeps h apart none c =
     let same = (kept-others p n j k t d keeps h).pages in
     All-weaker (λ u. u.asid ≢ asid → Contains ts u) (Agrees (pages_of n t.frame) other)
     (λ u stood is. ap (λ m. finite.get m u.page) same ∙ All-contains (Agrees (pages_of p t.frame) other) ts u c (stood (λ e. apart (sym is ∙ e))) is) us none
+
+pub other_remembered : (p n : Pool) (j k : ℕ) (t : Root) (r : RememberedPages) → k ≢ j → KeepsOthers j p n → IsTable p k t → IsRemembered (pages_of p t.frame) r → IsRemembered (pages_of n t.frame) r
+other_remembered p n j k t r d keeps h are = subst (λ m. IsRemembered m r) (sym (kept-others p n j k t d keeps h).pages) are
 
 rest-no_pages : (l : ℕ) (mode : TagMode) → rest_of (no_pages l mode) ≡ (l, record { mode = mode; pending = false })
 unfolding no_pages

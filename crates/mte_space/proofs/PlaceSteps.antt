@@ -8,7 +8,7 @@ use Rattle.mte_translate.specs.Tables.{pages_of, IsCached}
 use Rattle.mte_translate.specs.declared.translation.Translation.{Translation}
 use Rattle.mte_space.specs.Spaces.{page_of, space_memory, IsSpace, KeepsRest}
 use Rattle.mte_space.specs.SpaceMemory.{memory_of}
-use Rattle.mte_space.specs.Remembered.{attrs_of, IsUpToDate, AreUpToDate}
+use Rattle.mte_space.specs.Remembered.{attrs_of, IsUpToDate, IsRemembered}
 use Rattle.mte_space.specs.Writes.{with_frame}
 use Rattle.mte_space.specs.Places.{IsPlace, remembered_in, number_in, page_in, no_page}
 use Rattle.mte_space.specs.declared.remembered.RememberedPage.{RememberedPage}
@@ -34,13 +34,13 @@ page_of_place s q i h same =
     (page_found s.pool.now s.table.now s.limit s.state.now (number_in s i) (remembered_in s i).frame (attrs_of (remembered_in s i)) (found_in s i h))
 
 -- the page that was found is in its place
-pub page_in_place : (s : Space) (q i : ℕ) (r : RememberedPage) → i < length s.remembered → IsUpToDate (pages_of s.pool.now s.table.now.frame) r → r.address ≡ q * 4096 → q < 2 ^ 44
-    → page_at (memory_of s) q ≡ Some (page_of s.pool.now ((get_or (slice_set s.remembered i r) i no_page).frame, attrs_of (get_or (slice_set s.remembered i r) i no_page)))
+pub page_in_place : (s : Space) (q i : ℕ) (r : RememberedPage) → i < length s.remembered.now.pages → IsUpToDate (pages_of s.pool.now s.table.now.frame) r → r.address ≡ q * 4096 → q < 2 ^ 44
+    → page_at (memory_of s) q ≡ Some (page_of s.pool.now ((get_or (slice_set s.remembered.now.pages i r) i no_page).frame, attrs_of (get_or (slice_set s.remembered.now.pages i r) i no_page)))
 page_in_place s q i r l is same low =
     let place : r.address / 4096 ≡ q = omega (arith, same) in
     let found = ap (λ k. finite.get (pages_of s.pool.now s.table.now.frame) k) (sym place) ∙ (is (omega (arith, same, low))).1 in
     page_found s.pool.now s.table.now s.limit s.state.now q r.frame (attrs_of r) found
-    ∙ ap (λ (x : RememberedPage). Some (page_of s.pool.now (x.frame, attrs_of x))) (sym (get_or-set_same s.remembered i r no_page l))
+    ∙ ap (λ (x : RememberedPage). Some (page_of s.pool.now (x.frame, attrs_of x))) (sym (get_or-set_same s.remembered.now.pages i r no_page l))
 
 -- a space whose frame in a place is written
 module _ (s : Space) (i : ℕ) (x : Frame) (n : Pool) (h : IsPlace s i) (new : n ≡ with_frame s.pool.now (remembered_in s i).frame x) where
@@ -54,8 +54,8 @@ module _ (s : Space) (i : ℕ) (x : Frame) (n : Pool) (h : IsPlace s i) (new : n
       subst (λ p. IsCached (pages_of p s.table.now.frame) asid ts) (sym new)
       (cached_framed s.pool.now s.quota.now s.table.now s.limit (number_in s i) (remembered_in s i).frame (attrs_of (remembered_in s i)) x s.space (found_in s i h) asid ts c)
 
-  pub up_to_date_in : AreUpToDate (pages_of n s.table.now.frame) s.remembered
-  up_to_date_in = pages_stay_up_to_date (pages_of s.pool.now s.table.now.frame) (pages_of n s.table.now.frame) s.remembered cached_in s.up_to_date
+  pub up_to_date_in : IsRemembered (pages_of n s.table.now.frame) s.remembered.now
+  up_to_date_in = pages_stay_up_to_date (pages_of s.pool.now s.table.now.frame) (pages_of n s.table.now.frame) s.remembered.now cached_in s.up_to_date
 
   pub memory_in : IsSound s.pool.now
       → space_memory n s.table.now s.limit s.state.now

@@ -3,8 +3,9 @@ use Rattle.std.proofs.Common.{ℕ, ◌/◌, List, [], ◌∷◌, refl}
 use Rattle.std.proofs.lemmas.List.Elements.{All-weaker, All-head, All-cons, All-nil}
 use Rattle.mte_translate.specs.Tables.{Pages, Agrees, IsCached}
 use Rattle.mte_translate.specs.declared.translation.Translation.{Translation}
-use Rattle.mte_space.specs.Remembered.{attrs_of, IsUpToDate, AreUpToDate}
+use Rattle.mte_space.specs.Remembered.{attrs_of, IsUpToDate, IsRemembered}
 use Rattle.mte_space.specs.declared.remembered.RememberedPage.{RememberedPage}
+use Rattle.mte_space.specs.declared.remembered.RememberedPages.{RememberedPages}
 
 pub page_stays_up_to_date :
     (m n : Pages) (on : (asid : ℕ) (ts : List Translation) → IsCached m asid ts → IsCached n asid ts)
@@ -16,7 +17,7 @@ page_stays_up_to_date m n on p is = λ low.
 
 -- where every translation that was right stays so, every remembered page does
 pub pages_stay_up_to_date :
-    (m n : Pages) (ps : List RememberedPage)
+    (m n : Pages) (r : RememberedPages)
     → ((asid : ℕ) (ts : List Translation) → IsCached m asid ts → IsCached n asid ts)
-    → AreUpToDate m ps → AreUpToDate n ps
-pages_stay_up_to_date m n ps on are = All-weaker (IsUpToDate m) (IsUpToDate n) (page_stays_up_to_date m n on) ps are
+    → IsRemembered m r → IsRemembered n r
+pages_stay_up_to_date m n r on are = All-weaker (IsUpToDate m) (IsUpToDate n) (page_stays_up_to_date m n on) r.pages are

@@ -49,7 +49,15 @@ none_enters_on asid ts us vs h k =
 
 -- The borrows are those that they are.
 pub same_borrows : (a : Space) → SameBorrows a a
-same_borrows a = record { pool = refl; table = refl; quota = refl; tlb = refl; state = refl }
+same_borrows a =
+    record {
+      pool = refl;
+      table = refl;
+      quota = refl;
+      tlb = refl;
+      state = refl;
+      remembered = refl;
+    }
 
 -- A call that does nothing keeps a space.
 pub kept_same : (a : Space) → IsKept a a
@@ -71,6 +79,7 @@ kept_on a b c h k = record {
     quota = k.borrows.quota ∙ h.borrows.quota;
     tlb = k.borrows.tlb ∙ h.borrows.tlb;
     state = k.borrows.state ∙ h.borrows.state;
+    remembered = k.borrows.remembered ∙ h.borrows.remembered;
   };
   asid = k.asid ∙ h.asid;
   limit = k.limit ∙ h.limit;

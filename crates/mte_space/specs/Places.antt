@@ -12,11 +12,11 @@ no_page = record { address = 0; frame = 0; attrs = 0 }
 
 -- The remembered page with an index.
 abbrev pub remembered_in : Space → ℕ → RememberedPage
-remembered_in s i = get_or s.remembered i no_page
+remembered_in s i = get_or s.remembered.now.pages i no_page
 
 -- a place in which a page was found
 abbrev pub IsPlace : Space → ℕ → Type 0
-IsPlace s i = (i < length s.remembered) × ((remembered_in s i).address < 2 ^ 56)
+IsPlace s i = (i < length s.remembered.now.pages) × ((remembered_in s i).address < 2 ^ 56)
 
 -- The number of a remembered page.
 abbrev pub number_in : Space → ℕ → ℕ

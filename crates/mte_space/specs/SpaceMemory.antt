@@ -8,6 +8,7 @@ use Rattle.mte_frames.specs.declared.pool.Quota.{Quota}
 use Rattle.mte_translate.specs.declared.table.Table.{Table}
 use Rattle.mte_translate.specs.declared.tlb.Tlb.{Tlb}
 use Rattle.mte_space.specs.Spaces.{space_memory, KeepsRest, NoneEnters}
+use Rattle.mte_space.specs.declared.remembered.RememberedPages.{RememberedPages}
 use Rattle.mte_space.specs.declared.space.Space.{Space}
 
 -- The tagged memory of a space.
@@ -22,6 +23,7 @@ pub record SameBorrows (a b : Space) : Type 0 where
   pub quota : b.quota.ghost_name ≡ a.quota.ghost_name
   pub tlb : b.tlb.ghost_name ≡ a.tlb.ghost_name
   pub state : b.state.ghost_name ≡ a.state.ghost_name
+  pub remembered : b.remembered.ghost_name ≡ a.remembered.ghost_name
 
 -- the borrows are the same, and what they hold beside the memory stays
 pub record IsKept (a b : Space) : Type 0 where
@@ -34,12 +36,14 @@ pub record IsKept (a b : Space) : Type 0 where
 
 -- a space over these borrows
 pub record IsOver (s : Space) (pool : MutBor FramePool) (table : MutBor Table)
-    (quota : MutBor Quota) (tlb : MutBor Tlb) (state : MutBor TagState) (asid limit : ℕ)
+    (quota : MutBor Quota) (tlb : MutBor Tlb) (state : MutBor TagState)
+    (remembered : MutBor RememberedPages) (asid limit : ℕ)
     : Type 0 where
   pub pool_is : s.pool ≡ pool
   pub table_is : s.table ≡ table
   pub quota_is : s.quota ≡ quota
   pub tlb_is : s.tlb ≡ tlb
   pub state_is : s.state ≡ state
+  pub remembered_is : s.remembered ≡ remembered
   pub asid_is : s.asid ≡ asid
   pub limit_is : s.limit ≡ limit

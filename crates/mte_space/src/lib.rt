@@ -11,4 +11,5 @@ mod writing;
 
 pub use clearing::unmap_all;
 pub use laws::{other_tenants_stay, pages_of_a_space, written_frames_are_pages};
-pub use space::Space;
+pub use remembered::RememberedPages;
+pub use space::{Space, Tenancy};

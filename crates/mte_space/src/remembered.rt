@@ -1,9 +1,9 @@
-//! Where a space's last accesses found their pages.
+//! Where a tenant's last accesses found their pages.
 
 ghost use Rattle.std.specs.Prelude.{◌≡◌, ◌<◌, ◌≤◌, ◌*◌, ◌/◌, ◌%◌, ◌^◌, IsTrue};
 ghost use Rattle.a64_bits.specs.Addresses.{plain};
 ghost use Rattle.mte_translate.specs.Tables.{Pages};
-ghost use Rattle.mte_space.specs.Remembered.{attrs_of, AreUpToDate};
+ghost use Rattle.mte_space.specs.Remembered.{attrs_of, IsRemembered};
 
 use a64_bits::plain;
 use mte_tags::Attrs;
@@ -57,13 +57,13 @@ impl RememberedPage {
     }
 }
 
-/// How many pages of data a space remembers, one for each place.
+/// How many pages of data are remembered, one for each place.
 pub(crate) const DATA_PAGES: usize = 64;
 
 /// The place of the page that instructions were fetched from, behind those of data.
 pub(crate) const CODE_PLACE: usize = DATA_PAGES;
 
-/// How many pages a space remembers.
+/// How many pages are remembered.
 pub(crate) const PLACES: usize = DATA_PAGES + 1;
 
 /// The pages from the start of one region of the heap to the start of the next.
@@ -78,14 +78,25 @@ pub(crate) fn data_place(page: u64) -> usize
     ((page ^ page / REGION_PAGES) % DATA_PAGES as u64) as usize
 }
 
-/// What is remembered where no page was found yet.
-pub(crate) fn no_pages() -> [RememberedPage; PLACES]
-    ensures { (m : Pages) → AreUpToDate m result }
-{
-    let none = RememberedPage {
-        address: u64::MAX,
-        frame: usize::MAX,
-        attrs: u64::MAX,
-    };
-    [none; PLACES]
+/// Where the last accesses of a tenant found their pages: one page for fetches, and sixty-four for
+/// data. It is the tenant's own, so that it outlives a slice.
+#[derive(Drop)]
+pub struct RememberedPages {
+    pub(crate) pages: [RememberedPage; PLACES],
+}
+
+impl RememberedPages {
+    /// Nothing is remembered, so that it is right of whatever pages are mapped.
+    pub fn new() -> RememberedPages
+        ensures { (m : Pages) → IsRemembered m result }
+    {
+        let none = RememberedPage {
+            address: u64::MAX,
+            frame: usize::MAX,
+            attrs: u64::MAX,
+        };
+        RememberedPages {
+            pages: [none; PLACES],
+        }
+    }
 }

@@ -3,11 +3,11 @@
 ghost use Rattle.std.specs.Prelude.{◌≡◌, ◌<◌, ◌≤◌, ◌^◌, IfSome, option_map};
 ghost use Rattle.mte_tags.specs.Memory.{page_at};
 ghost use Rattle.mte_translate.specs.Tables.{pages_of, IsTable, MapsOnce, IsCached};
-ghost use Rattle.mte_space.specs.Remembered.{AreUpToDate};
+ghost use Rattle.mte_space.specs.Remembered.{IsRemembered};
 ghost use Rattle.mte_space.specs.Spaces.{space_memory, IsSpace, HasFrames};
 
 use crate::mapping::{PageRange, map_range, unmap_range};
-use crate::remembered::{CODE_PLACE, PLACES, RememberedPage, data_place, no_pages};
+use crate::remembered::{CODE_PLACE, PLACES, RememberedPages, data_place};
 use crate::translation::remember;
 use crate::writing::{retag_frame, write_frame};
 use a64_bits::plain;
@@ -15,10 +15,18 @@ use mte_frames::{FramePool, Quota};
 use mte_tags::{Attrs, NoPagesLeft, PageStore, Paged, TagState, replace_bytes};
 use mte_translate::{Table, Tlb};
 
+/// Whose memory it is, and how large it may be.
+#[derive(Clone, Copy)]
+pub struct Tenancy {
+    /// The tenant's address space identifier.
+    pub asid: usize,
+    /// How many pages it may map at most.
+    pub pages: usize,
+}
+
 /// A tenant's memory: the pages that its table maps, in frames of a pool that it shares with other
 /// tenants, under its quota. Translations of its ASID are remembered in a translation lookaside
-/// buffer, which it shares too, and where its last accesses found their pages it remembers itself:
-/// one page for fetches, and sixty-four for data.
+/// buffer, which it shares too, and where its last accesses found their pages is its own.
 #[derive(Drop)]
 pub struct Space<'a> {
     pool: &'a mut FramePool,
@@ -28,38 +36,39 @@ pub struct Space<'a> {
     state: &'a mut TagState,
     asid: usize,
     limit: usize,
-    remembered: [RememberedPage; PLACES],
+    remembered: &'a mut RememberedPages,
     ghost space: { IsSpace pool.now quota.now table.now limit },
     ghost cached: { IsCached (pages_of pool.now table.now.frame) asid tlb.now },
-    ghost up_to_date: { AreUpToDate (pages_of pool.now table.now.frame) remembered },
+    ghost up_to_date: { IsRemembered (pages_of pool.now table.now.frame) remembered.now },
 }
 
 impl<'a> Space<'a> {
     ghost use Rattle.mte_space.specs.SpaceMemory.{memory_of, IsKept, IsOver};
     ghost use Rattle.mte_space.specs.Places.{IsPlace, number_in, page_in};
 
-    /// A tenant's memory of at most `pages` pages, over its table, its quota and its tag state. The
-    /// table maps no more, each in a frame of its own; the quota has a frame for each page and each
-    /// leaf that may come; what the lookaside buffer remembers of the ASID is what the table
-    /// maps.
+    /// A tenant's memory of at most as many pages as it may map, over its table, its quota, its tag
+    /// state and the pages that it remembers. The table maps no more, each in a frame of its own;
+    /// the quota has a frame for each page and each leaf that may come; what the lookaside buffer
+    /// remembers of the ASID, and what the tenant remembers, is what the table maps.
     pub fn new(
         pool: &'a mut FramePool,
         table: &'a mut Table,
         quota: &'a mut Quota,
         tlb: &'a mut Tlb,
+        remembered: &'a mut RememberedPages,
         state: &'a mut TagState,
-        asid: usize,
-        pages: usize,
+        tenant: Tenancy,
     ) -> Space<'a>
         requires table { IsTable pool.old quota.old table.old }
-        requires most { table.old.len ≤ pages }
+        requires most { table.old.len ≤ tenant.pages }
         requires once { MapsOnce (pages_of pool.old table.old.frame) }
-        requires frames { HasFrames pool.old quota.old table.old pages }
-        requires cached { IsCached (pages_of pool.old table.old.frame) asid tlb.old }
+        requires frames { HasFrames pool.old quota.old table.old tenant.pages }
+        requires cached { IsCached (pages_of pool.old table.old.frame) tenant.asid tlb.old }
+        requires remembered { IsRemembered (pages_of pool.old table.old.frame) remembered.old }
         ensures memory { memory_of result
-            ≡ space_memory pool.old table.old pages state.old }
-        ensures over { IsOver result pool.entry table.entry quota.entry tlb.entry state.entry asid
-            pages }
+            ≡ space_memory pool.old table.old tenant.pages state.old }
+        ensures over { IsOver result pool.entry table.entry quota.entry tlb.entry state.entry
+            remembered.entry tenant.asid tenant.pages }
     {
         Space {
             pool,
@@ -67,9 +76,9 @@ impl<'a> Space<'a> {
             quota,
             tlb,
             state,
-            asid,
-            limit: pages,
-            remembered: no_pages(),
+            asid: tenant.asid,
+            limit: tenant.pages,
+            remembered,
         }
     }
 
@@ -84,7 +93,7 @@ impl<'a> Space<'a> {
         ensures memory { memory_of self.new ≡ memory_of self.old }
         ensures kept { IsKept self.old self.new }
     {
-        let remembered = &mut self.remembered[place];
+        let remembered = &mut self.remembered.pages[place];
         if remember(remembered, self.pool, self.table, self.tlb, self.asid, page) {
             return Some(place);
         }
@@ -123,7 +132,7 @@ impl PageStore for Space<'_> {
     #[inline(always)]
     fn readable_place(&self, addr: u64, size: u64) -> Option<usize> {
         let place = data_place(addr / 4096);
-        let page = &self.remembered[place];
+        let page = &self.remembered.pages[place];
         if page.holds(addr, size) && page.attrs().contains(Attrs::READ) {
             return Some(place);
         }
@@ -133,7 +142,7 @@ impl PageStore for Space<'_> {
     #[inline(always)]
     fn writable_place(&self, addr: u64, size: u64) -> Option<usize> {
         let place = data_place(addr / 4096);
-        let page = &self.remembered[place];
+        let page = &self.remembered.pages[place];
         if page.holds(addr, size) && page.attrs().contains(Attrs::WRITE) {
             return Some(place);
         }
@@ -147,27 +156,27 @@ impl PageStore for Space<'_> {
 
     #[inline(always)]
     fn attrs(&self, place: usize) -> Attrs {
-        self.remembered[place].attrs()
+        self.remembered.pages[place].attrs()
     }
 
     #[inline(always)]
     fn bytes(&self, place: usize) -> &[u8] {
-        self.pool.bytes(self.remembered[place].frame)
+        self.pool.bytes(self.remembered.pages[place].frame)
     }
 
     #[inline(always)]
     fn granule_tag(&self, place: usize, granule: usize) -> u8 {
-        self.pool.tag(self.remembered[place].frame, granule)
+        self.pool.tag(self.remembered.pages[place].frame, granule)
     }
 
     #[inline(always)]
     fn replace_run(&mut self, place: usize, at: u64, bytes: &[u8]) {
-        write_frame(self.pool, self.remembered[place].frame, at, bytes);
+        write_frame(self.pool, self.remembered.pages[place].frame, at, bytes);
     }
 
     #[inline(always)]
     fn retag(&mut self, place: usize, first: usize, count: usize, tag: u8, zero: bool) {
-        let frame = self.remembered[place].frame;
+        let frame = self.remembered.pages[place].frame;
         retag_frame(self.pool, frame, first, count, tag, zero);
     }
 
@@ -192,7 +201,7 @@ impl Paged for Space<'_> {
     }
 
     fn unmap_pages(&mut self, page: u64, count: usize) {
-        self.remembered = no_pages();
+        *self.remembered = RememberedPages::new();
         let pages = PageRange { first: page, count };
         unmap_range(
             self.pool, self.table, self.quota, self.tlb, self.asid, self.limit, pages,

@@ -7,7 +7,7 @@ use crate::heap::answers_anew;
 use crate::tables::{CallTable, TABLES};
 use mte_arena::Arena;
 use mte_frames::FramePool;
-use mte_space::{Space, pages_of_a_space};
+use mte_space::{RememberedPages, Space, Tenancy, pages_of_a_space};
 use mte_tags::{TagMode, TagState};
 use mte_translate::{Table as PageTable, Tlb};
 use std::alloc::{AllocError, Global};
@@ -33,13 +33,21 @@ fn answers_over_pool(
     if pool.taken(&quota) + 2 * pages > pool.reserved(&quota) {
         return Ok(false);
     }
-    let mut tlb = Tlb::new();
+    let (mut tlb, mut remembered) = (Tlb::new(), RememberedPages::new());
     let mut state = TagState {
         mode,
         pending: false,
     };
     pages_of_a_space();
-    let mut memory = Space::new(pool, &mut table, &mut quota, &mut tlb, &mut state, 1, pages);
+    let mut memory = Space::new(
+        pool,
+        &mut table,
+        &mut quota,
+        &mut tlb,
+        &mut remembered,
+        &mut state,
+        Tenancy { asid: 1, pages },
+    );
     answers_anew(alloc, &mut memory, pages, mode, rows)
 }
 

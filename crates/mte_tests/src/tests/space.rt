@@ -9,7 +9,8 @@ ghost use Rattle.mte_tests.specs.Tenants.{IsReady};
 use crate::tests::calls::{MapCall, Value, reply};
 use mte_arena::Arena;
 use mte_frames::{FramePool, Quota};
-use mte_space::{Space, other_tenants_stay, pages_of_a_space, written_frames_are_pages};
+use mte_space::{RememberedPages, Space, Tenancy, other_tenants_stay, pages_of_a_space};
+use mte_space::written_frames_are_pages;
 use mte_tags::{Attrs, FaultKind, MemFault, PageStore, TagMode, TagState};
 use mte_translate::{Table, Tlb, tables_stay};
 use std::alloc::Global;
@@ -92,8 +93,9 @@ fn ask(
     if !has_room(pool, table, quota) {
         return Value::NoRoom;
     }
-    let mut state = SYNC;
-    let mut memory = Space::new(pool, table, quota, tlb, &mut state, asid, PAGES);
+    let (mut remembered, mut state) = (RememberedPages::new(), SYNC);
+    let tenant = Tenancy { asid, pages: PAGES };
+    let mut memory = Space::new(pool, table, quota, tlb, &mut remembered, &mut state, tenant);
     reply(&mut memory, call)
 }
 
@@ -287,8 +289,20 @@ fn place_is_written(pool: &mut FramePool) -> bool {
     if !has_room(pool, &table, &quota) {
         return false;
     }
-    let (mut tlb, mut state) = (Tlb::new(), SYNC);
-    let mut memory = Space::new(pool, &mut table, &mut quota, &mut tlb, &mut state, 1, PAGES);
+    let (mut tlb, mut remembered, mut state) = (Tlb::new(), RememberedPages::new(), SYNC);
+    let tenant = Tenancy {
+        asid: 1,
+        pages: PAGES,
+    };
+    let mut memory = Space::new(
+        pool,
+        &mut table,
+        &mut quota,
+        &mut tlb,
+        &mut remembered,
+        &mut state,
+        tenant,
+    );
     reply(&mut memory, MapCall::Turn(PAGE)) == Value::Number(1) && works_in_place(&mut memory)
 }
 

@@ -1,6 +1,8 @@
 use Rattle.std.proofs.Common.{◌∙◌, ap, sum, sym, subst, arith}
 use Rattle.mte_frames.specs.Pool.{KeepsOthers}
 use Rattle.mte_frames.proofs.Keeps.{keeps_on}
+use Rattle.mte_translate.specs.Tables.{pages_of}
+use Rattle.mte_space.specs.Remembered.{IsRemembered}
 use Rattle.mte_sched.proofs.MemoryLemmas.{first_placed, reserved_stays}
 use Rattle.mte_sched.proofs.memory.start_memory.Goals as goal
 
@@ -10,7 +12,7 @@ returns-clause-placed c =
     let fill = c.fill_memory.ensures in
     let room = c.requires.image.room in
     first_placed c.reserve_memory-memory.new.pool c.fill_memory.new.pool c.fill_memory.new.tlb c.args.asid c.args.admission.now.terms.pages c.reserve_memory-memory.result c.fill_memory.new.memory
-    made.taken made.charged made.len made.leaves fill.rest fill.same fill.space fill.cached (omega arith) c.requires.most
+    made.taken made.charged made.len made.leaves fill.rest fill.same fill.space fill.cached fill.remembered (omega arith) c.requires.most
 
 pub returns-clause-reserved : goal.returns-clause-reserved
 returns-clause-reserved c =
@@ -21,3 +23,9 @@ pub returns-clause-others : goal.returns-clause-others
 returns-clause-others c =
     subst (λ k. KeepsOthers k c.args.pool.now c.fill_memory.new.pool) (sym c.fill_memory.ensures.same)
     (keeps_on c.reserve_memory-memory.result.quota c.args.pool.now c.reserve_memory-memory.new.pool c.fill_memory.new.pool c.reserve_memory-memory.ensures.others c.fill_memory.ensures.rest.others)
+
+pub fill_memory-requires-clause-remembered : goal.fill_memory-requires-clause-remembered
+fill_memory-requires-clause-remembered c =
+    let p = c.recall.new.self in
+    let a = c.reserve_memory-memory.result in
+    subst (λ r. IsRemembered (pages_of p a.table.frame) r.value) (sym c.reserve_memory-memory.ensures.remembered) (c.requires.remembered (pages_of p a.table.frame))

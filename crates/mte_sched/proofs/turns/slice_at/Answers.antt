@@ -31,11 +31,11 @@ returns-in-Live c =
     let parts : Box TenantParts Global = c.slice.new.self.parts in
     record {
       sharing = sliced_sharing c.args.pool.now c.slice.new.pool c.args.caches.now.tlb c.slice.new.caches.tlb ts c.args.asid c.args.id t c.in-Live.live c.requires.sharing lies same within turn.rest.others turn.entries
-          c.args.steps c.slice.new.self.memory parts turn.rest turn.same turn.space turn.cached turn.ready turn.machine c.recall.ensures.sound c.recall-in-Live.ensures.sound;
+          c.args.steps c.slice.new.self.memory parts turn.rest turn.same turn.space turn.cached turn.remembered turn.ready turn.machine c.recall.ensures.sound c.recall-in-Live.ensures.sound;
       frames = turn.rest.others.count;
       capacities = turn.rest.capacities;
       tenants = sliced_tenants c.args.pool.now c.slice.new.pool c.args.caches.now.tlb c.slice.new.caches.tlb ts c.args.asid c.args.id t c.in-Live.live c.requires.sharing lies same within turn.rest.others turn.entries
-          c.args.steps c.slice.new.self.memory parts turn.rest turn.same turn.space turn.cached turn.ready turn.machine c.recall.ensures.sound c.recall-in-Live.ensures.sound;
+          c.args.steps c.slice.new.self.memory parts turn.rest turn.same turn.space turn.cached turn.remembered turn.ready turn.machine c.recall.ensures.sound c.recall-in-Live.ensures.sound;
     }
 
 pub returns-in_default-clause-tenants : goal.returns-in_default-clause-tenants

@@ -10,7 +10,7 @@ use crate::tests::space::{PAGES, SYNC, has_room, pool_of, two_quotas};
 use mte_elf::{ElfError, Plan, load, plan};
 use mte_flat::Flat;
 use mte_frames::FramePool;
-use mte_space::{Space, pages_of_a_space};
+use mte_space::{RememberedPages, Space, Tenancy, pages_of_a_space};
 use mte_tags::{Attrs, Paged, TagMode, Tagged};
 use mte_translate::{Table, Tlb};
 use obstacle::Obstacle;
@@ -105,9 +105,21 @@ fn is_loaded_alike<M: Paged>(plan: &Plan, file: &[u8], plain: &mut M, pool: &mut
     if !has_room(pool, &table, &quota) {
         return false;
     }
-    let (mut tlb, mut state) = (Tlb::new(), SYNC);
+    let (mut tlb, mut remembered, mut state) = (Tlb::new(), RememberedPages::new(), SYNC);
+    let tenant = Tenancy {
+        asid: 1,
+        pages: PAGES,
+    };
     pages_of_a_space();
-    let mut space = Space::new(pool, &mut table, &mut quota, &mut tlb, &mut state, 1, PAGES);
+    let mut space = Space::new(
+        pool,
+        &mut table,
+        &mut quota,
+        &mut tlb,
+        &mut remembered,
+        &mut state,
+        tenant,
+    );
     are_loaded_alike(plan, file, plain, &mut space)
 }
 

@@ -42,6 +42,11 @@ returns-in_err-first-clause-memory c =
     let fresh = rw c.ledger_facts-facts.ensures at c.accepted_means.ensures.fresh in
     rw (ledger_is c.args.self.now.pool c.args.self.now.tenants.items) (search (rules, fresh))
 
+pub returns-in_err-remembered-clause-memory : goal.returns-in_err-remembered-clause-memory
+returns-in_err-remembered-clause-memory c =
+    let fresh = rw c.ledger_facts-facts.ensures at c.accepted_means.ensures.fresh in
+    rw (ledger_is c.args.self.now.pool c.args.self.now.tenants.items) (search (rules, fresh))
+
 pub returns-in_err-make_room-clause-memory : goal.returns-in_err-make_room-clause-memory
 returns-in_err-make_room-clause-memory c =
     let fresh = rw c.ledger_facts-facts.ensures at c.accepted_means.ensures.fresh in

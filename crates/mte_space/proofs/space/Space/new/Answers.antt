@@ -1,4 +1,3 @@
-use Rattle.mte_translate.specs.Tables.{pages_of}
 use Rattle.mte_space.proofs.space.Space.new.Goals as goal
 
 pub invariant_of-result : goal.invariant_of-result
@@ -6,5 +5,5 @@ invariant_of-result c =
     record {
       space = record { table = c.requires.table; once = c.requires.once; below = c.requires.most; frames = c.requires.frames };
       cached = c.requires.cached;
-      up_to_date = c.no_pages.ensures (pages_of c.args.pool.now c.args.table.now.frame);
+      up_to_date = c.requires.remembered;
     }

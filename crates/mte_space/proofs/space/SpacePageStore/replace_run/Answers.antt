@@ -24,7 +24,7 @@ pub returns-clause-kept : goal.returns-clause-kept
 returns-clause-kept c =
     let s = c.args.self.now in
     record {
-      borrows = record { pool = refl; table = refl; quota = refl; tlb = refl; state = refl };
+      borrows = record { pool = refl; table = refl; quota = refl; tlb = refl; state = refl; remembered = refl };
       asid = refl;
       limit = refl;
       quota = refl;

@@ -29,5 +29,5 @@ invariant_of-self-2 c =
     record {
       space = c.map_range.ensures.space;
       cached = c.map_range.ensures.cached s.asid s.tlb.now s.cached;
-      up_to_date = pages_stay_up_to_date (pages_of s.pool.now s.table.now.frame) _ s.remembered c.map_range.ensures.cached s.up_to_date;
+      up_to_date = pages_stay_up_to_date (pages_of s.pool.now s.table.now.frame) _ s.remembered.now c.map_range.ensures.cached s.up_to_date;
     }

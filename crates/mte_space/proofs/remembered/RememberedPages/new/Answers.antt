@@ -2,7 +2,7 @@ use Rattle.std.proofs.Common.{arith}
 use Rattle.std.proofs.lemmas.List.Elements.{All-replicate}
 use Rattle.mte_space.specs.Remembered.{IsUpToDate}
 use Rattle.mte_space.specs.declared.remembered.RememberedPage.{RememberedPage}
-use Rattle.mte_space.proofs.remembered.no_pages.Goals as goal
+use Rattle.mte_space.proofs.remembered.RememberedPages.new.Goals as goal
 
 pub returns : goal.returns
 returns c = λ m.
