@@ -8,9 +8,9 @@ use Rattle.mte_translate.specs.Tables.{pages_of, IsCached}
 use Rattle.mte_translate.specs.declared.translation.Translation.{Translation}
 use Rattle.mte_space.specs.Spaces.{page_of, space_memory, IsSpace, KeepsRest}
 use Rattle.mte_space.specs.SpaceMemory.{memory_of}
-use Rattle.mte_space.specs.Remembered.{attrs_of, IsUpToDate, IsRemembered}
+use Rattle.mte_space.specs.Remembered.{attrs_of, IsUpToDate, IsRemembered, no_page}
 use Rattle.mte_space.specs.Writes.{with_frame}
-use Rattle.mte_space.specs.Places.{IsPlace, remembered_in, number_in, page_in, no_page}
+use Rattle.mte_space.specs.Places.{IsPlace, remembered_in, number_in, page_in}
 use Rattle.mte_space.specs.declared.remembered.RememberedPage.{RememberedPage}
 use Rattle.mte_space.specs.declared.space.Space.{Space}
 use Rattle.mte_space.proofs.Taken.{within_frames, frame_at-set}
@@ -19,7 +19,7 @@ use Rattle.mte_space.proofs.SpaceSteps.{found_taken, found_out, page_found, spac
 
 pub found_in : (s : Space) (i : ℕ) → IsPlace s i
     → finite.get (pages_of s.pool.now s.table.now.frame) (number_in s i) ≡ Some ((remembered_in s i).frame, (attrs_of (remembered_in s i)))
-found_in s i h = (s.up_to_date i no_page h.0 h.1).1
+found_in s i h = (s.up_to_date.pages i no_page h.0 h.1).1
 
 pub taken_in : (s : Space) (i : ℕ) → IsPlace s i → IsTaken s.pool.now (remembered_in s i).frame
 taken_in s i h = found_taken s.pool.now s.quota.now s.table.now s.limit (number_in s i) (Some ((remembered_in s i).frame, (attrs_of (remembered_in s i)))) s.space (sym (found_in s i h))

@@ -20,4 +20,7 @@ pub pages_stay_up_to_date :
     (m n : Pages) (r : RememberedPages)
     → ((asid : ℕ) (ts : List Translation) → IsCached m asid ts → IsCached n asid ts)
     → IsRemembered m r → IsRemembered n r
-pages_stay_up_to_date m n r on are = All-weaker (IsUpToDate m) (IsUpToDate n) (page_stays_up_to_date m n on) r.pages are
+pages_stay_up_to_date m n r on are = record {
+  places = are.places;
+  pages = All-weaker (IsUpToDate m) (IsUpToDate n) (page_stays_up_to_date m n on) r.pages are.pages;
+}

@@ -1,18 +1,14 @@
 -- The places of a space: the pages that it remembers, each in the frame that was found for it.
-use Rattle.std.specs.Prelude.{ℕ, ◌<◌, ◌/◌, ◌^◌, get_or, length}
+use Rattle.std.specs.Prelude.{ℕ, ◌<◌, ◌/◌, ◌^◌, length}
 use Rattle.mte_tags.specs.Memory.{Page}
 use Rattle.mte_space.specs.Spaces.{page_of}
-use Rattle.mte_space.specs.Remembered.{attrs_of}
+use Rattle.mte_space.specs.Remembered.{attrs_of, page_at_place}
 use Rattle.mte_space.specs.declared.remembered.RememberedPage.{RememberedPage}
 use Rattle.mte_space.specs.declared.space.Space.{Space}
 
--- for where no place is
-abbrev pub no_page : RememberedPage
-no_page = record { address = 0; frame = 0; attrs = 0 }
-
 -- The remembered page with an index.
 abbrev pub remembered_in : Space → ℕ → RememberedPage
-remembered_in s i = get_or s.remembered.now.pages i no_page
+remembered_in s i = page_at_place s.remembered.now i
 
 -- a place in which a page was found
 abbrev pub IsPlace : Space → ℕ → Type 0

@@ -2,10 +2,12 @@
 --     attrs_of p           the attributes of p
 --     IsUpToDate m p       the page of p, if it is one, is in the pages m as p says
 --     IsRemembered m r     each page that r remembers is such
-use Rattle.std.specs.Prelude.{◌≡◌, ◌<◌, ◌/◌, ◌%◌, ◌^◌, Some, All}
+--     page_at_place r i    the page that r remembers in the place i
+use Rattle.std.specs.Prelude.{◌≡◌, ◌<◌, ◌/◌, ◌%◌, ◌^◌, ℕ, Some, All, get_or, length}
 use Rattle.std.specs.FinMap.{get}
 use Rattle.mte_tags.specs.declared.attrs.Attrs.{Attrs}
 use Rattle.mte_translate.specs.Tables.{Pages}
+use Rattle.mte_space.specs.declared.remembered.TheConstants.{PLACES}
 use Rattle.mte_space.specs.declared.remembered.RememberedPage.{RememberedPage}
 use Rattle.mte_space.specs.declared.remembered.RememberedPages.{RememberedPages}
 
@@ -20,5 +22,14 @@ IsUpToDate m p =
     → (p.address % 4096 ≡ 0) × (get m (p.address / 4096) ≡ Some (p.frame, attrs_of p))
 
 -- All remembered pages are what the table maps.
-abbrev pub IsRemembered : Pages → RememberedPages → Type 0
-IsRemembered m r = All (IsUpToDate m) r.pages
+pub record IsRemembered (m : Pages) (r : RememberedPages) : Type 0 where
+  pub places : length r.pages ≡ PLACES
+  pub pages : All (IsUpToDate m) r.pages
+
+-- for where no place is
+abbrev pub no_page : RememberedPage
+no_page = record { address = 0; frame = 0; attrs = 0 }
+
+-- The remembered page with an index.
+abbrev pub page_at_place : RememberedPages → ℕ → RememberedPage
+page_at_place r i = get_or r.pages i no_page

@@ -86,6 +86,8 @@ pub struct RememberedPages {
 }
 
 impl RememberedPages {
+    ghost use Rattle.mte_space.specs.Remembered.{page_at_place};
+
     /// Nothing is remembered, so that it is right of whatever pages are mapped.
     pub fn new() -> RememberedPages
         ensures { (m : Pages) → IsRemembered m result }
@@ -98,5 +100,14 @@ impl RememberedPages {
         RememberedPages {
             pages: [none; PLACES],
         }
+    }
+
+    /// The page of a place.
+    #[inline(always)]
+    pub(crate) fn at(&self, place: usize) -> RememberedPage
+        requires { place < PLACES }
+        ensures { result ≡ page_at_place self.now place }
+    {
+        self.pages[place]
     }
 }

@@ -93,8 +93,9 @@ impl<'a> Space<'a> {
         ensures memory { memory_of self.new ≡ memory_of self.old }
         ensures kept { IsKept self.old self.new }
     {
+        let asid = self.asid;
         let remembered = &mut self.remembered.pages[place];
-        if remember(remembered, self.pool, self.table, self.tlb, self.asid, page) {
+        if remember(remembered, self.pool, self.table, self.tlb, asid, page) {
             return Some(place);
         }
         None
@@ -132,7 +133,7 @@ impl PageStore for Space<'_> {
     #[inline(always)]
     fn readable_place(&self, addr: u64, size: u64) -> Option<usize> {
         let place = data_place(addr / 4096);
-        let page = &self.remembered.pages[place];
+        let page = self.remembered.at(place);
         if page.holds(addr, size) && page.attrs().contains(Attrs::READ) {
             return Some(place);
         }
@@ -142,7 +143,7 @@ impl PageStore for Space<'_> {
     #[inline(always)]
     fn writable_place(&self, addr: u64, size: u64) -> Option<usize> {
         let place = data_place(addr / 4096);
-        let page = &self.remembered.pages[place];
+        let page = self.remembered.at(place);
         if page.holds(addr, size) && page.attrs().contains(Attrs::WRITE) {
             return Some(place);
         }
@@ -156,27 +157,27 @@ impl PageStore for Space<'_> {
 
     #[inline(always)]
     fn attrs(&self, place: usize) -> Attrs {
-        self.remembered.pages[place].attrs()
+        self.remembered.at(place).attrs()
     }
 
     #[inline(always)]
     fn bytes(&self, place: usize) -> &[u8] {
-        self.pool.bytes(self.remembered.pages[place].frame)
+        self.pool.bytes(self.remembered.at(place).frame)
     }
 
     #[inline(always)]
     fn granule_tag(&self, place: usize, granule: usize) -> u8 {
-        self.pool.tag(self.remembered.pages[place].frame, granule)
+        self.pool.tag(self.remembered.at(place).frame, granule)
     }
 
     #[inline(always)]
     fn replace_run(&mut self, place: usize, at: u64, bytes: &[u8]) {
-        write_frame(self.pool, self.remembered.pages[place].frame, at, bytes);
+        write_frame(self.pool, self.remembered.at(place).frame, at, bytes);
     }
 
     #[inline(always)]
     fn retag(&mut self, place: usize, first: usize, count: usize, tag: u8, zero: bool) {
-        let frame = self.remembered.pages[place].frame;
+        let frame = self.remembered.at(place).frame;
         retag_frame(self.pool, frame, first, count, tag, zero);
     }
 

@@ -7,4 +7,4 @@ use Rattle.mte_space.proofs.remembered.RememberedPages.new.Goals as goal
 pub returns : goal.returns
 returns c = λ m.
     let none : RememberedPage = record { address = 18446744073709551615; frame = 18446744073709551615; attrs = 18446744073709551615 } in
-    All-replicate (IsUpToDate m) 65 none (λ low. absurd (omega (arith, low)))
+    record { places = search arith; pages = All-replicate (IsUpToDate m) 65 none (λ low. absurd (omega (arith, low))) }

@@ -4,4 +4,6 @@ use Rattle.mte_space.proofs.space.SpacePageStore.readable_place.Goals as goal
 
 pub returns-then-contains-clause-page : goal.returns-then-contains-clause-page
 returns-then-contains-clause-page c =
-    page_of_place c.args.self.now _ c.data_place-place.result (search arith, c.if-holds.ensures.address refl) (c.if-holds.ensures.page refl)
+    let low = rw c.at-page.ensures at c.if-holds.ensures.address refl in
+    let page = rw c.at-page.ensures at c.if-holds.ensures.page refl in
+    page_of_place c.args.self.now _ c.data_place-place.result (search arith, low) page
