@@ -19,7 +19,7 @@ use Rattle.mte_space.proofs.SpaceSteps.{found_taken, found_out, page_found, spac
 
 pub found_in : (s : Space) (i : ℕ) → IsPlace s i
     → finite.get (pages_of s.pool.now s.table.now.frame) (number_in s i) ≡ Some ((remembered_in s i).frame, (attrs_of (remembered_in s i)))
-found_in s i h = (s.up_to_date.pages i no_page h.0 h.1).1
+found_in s i h = (s.up_to_date.pages i no_page h.0).page h.1
 
 pub taken_in : (s : Space) (i : ℕ) → IsPlace s i → IsTaken s.pool.now (remembered_in s i).frame
 taken_in s i h = found_taken s.pool.now s.quota.now s.table.now s.limit (number_in s i) (Some ((remembered_in s i).frame, (attrs_of (remembered_in s i)))) s.space (sym (found_in s i h))
@@ -38,7 +38,7 @@ pub page_in_place : (s : Space) (q i : ℕ) (r : RememberedPage) → i < length 
     → page_at (memory_of s) q ≡ Some (page_of s.pool.now ((get_or (slice_set s.remembered.now.pages i r) i no_page).frame, attrs_of (get_or (slice_set s.remembered.now.pages i r) i no_page)))
 page_in_place s q i r l is same low =
     let place : r.address / 4096 ≡ q = omega (arith, same) in
-    let found = ap (λ k. finite.get (pages_of s.pool.now s.table.now.frame) k) (sym place) ∙ (is (omega (arith, same, low))).1 in
+    let found = ap (λ k. finite.get (pages_of s.pool.now s.table.now.frame) k) (sym place) ∙ is.page (omega (arith, same, low)) in
     page_found s.pool.now s.table.now s.limit s.state.now q r.frame (attrs_of r) found
     ∙ ap (λ (x : RememberedPage). Some (page_of s.pool.now (x.frame, attrs_of x))) (sym (get_or-set_same s.remembered.now.pages i r no_page l))
 

@@ -10,10 +10,15 @@ use Rattle.mte_space.specs.declared.remembered.RememberedPages.{RememberedPages}
 pub page_stays_up_to_date :
     (m n : Pages) (on : (asid : ℕ) (ts : List Translation) → IsCached m asid ts → IsCached n asid ts)
     (p : RememberedPage) → IsUpToDate m p → IsUpToDate n p
-page_stays_up_to_date m n on p is = λ low.
-    let t : Translation = record { asid = 0; page = p.address / 4096; frame = p.frame; attrs = attrs_of p } in
-    let old : Agrees m 0 t = λ same. (is low).1 in
-    ((is low).0, All-head (Agrees n 0) t [] (on 0 (t ∷ []) (All-cons (Agrees m 0) t [] old (All-nil (Agrees m 0)))) refl)
+page_stays_up_to_date m n on p is = record {
+  aligned = is.aligned;
+  page = λ low.
+      let t : Translation = record { asid = 0; page = p.address / 4096; frame = p.frame; attrs = attrs_of p } in
+      let old : Agrees m 0 t = λ same. is.page low in
+      All-head (Agrees n 0) t [] (on 0 (t ∷ []) (All-cons (Agrees m 0) t [] old (All-nil (Agrees m 0)))) refl;
+  readable = is.readable;
+  writable = is.writable;
+}
 
 -- where every translation that was right stays so, every remembered page does
 pub pages_stay_up_to_date :

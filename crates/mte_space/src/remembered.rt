@@ -1,6 +1,7 @@
 //! Where a tenant's last accesses found their pages.
 
-ghost use Rattle.std.specs.Prelude.{◌≡◌, ◌<◌, ◌≤◌, ◌*◌, ◌/◌, ◌%◌, ◌^◌, IsTrue};
+ghost use Rattle.std.specs.Prelude.{◌≡◌, ◌<◌, ◌≤◌, ◌-◌, ◌*◌, ◌/◌, ◌%◌, ◌^◌, IsTrue, IsFalse, true};
+ghost use Rattle.mte_tags.specs.Memory.{has};
 ghost use Rattle.a64_bits.specs.Addresses.{plain};
 ghost use Rattle.mte_translate.specs.Tables.{Pages};
 ghost use Rattle.mte_space.specs.Remembered.{attrs_of, IsRemembered};
@@ -13,22 +14,43 @@ use mte_tags::Attrs;
 pub(crate) struct RememberedPage {
     /// The address of the page; 2^64 - 1, which no page has, where none was found yet.
     pub(crate) address: u64,
+    /// The address once more if the page may be read, else 2^64 - 1.
+    readable: u64,
+    /// The address once more if the page may be written, else 2^64 - 1.
+    writable: u64,
     /// The number of the frame that holds the page.
     pub(crate) frame: usize,
     /// The number of its attributes: what may be done with it.
     attrs: u64,
 }
 
+/// What is remembered where no page was found yet. All its bytes are alike, so that many are filled
+/// at once.
+const NO_PAGE: RememberedPage = RememberedPage {
+    address: u64::MAX,
+    readable: u64::MAX,
+    writable: u64::MAX,
+    frame: usize::MAX,
+    attrs: u64::MAX,
+};
+
 impl RememberedPage {
+    ghost use Rattle.mte_space.specs.Remembered.{IsKey};
+
     /// A page in a frame.
     pub(crate) fn new(page: u64, frame: usize, attrs: Attrs) -> RememberedPage
         requires { page < 2 ^ 44 }
         ensures address { result.address ≡ page * 4096 }
+        ensures readable { IsKey result 1 result.readable }
+        ensures writable { IsKey result 2 result.writable }
         ensures frame { result.frame ≡ frame }
         ensures attrs { attrs_of result ≡ attrs }
     {
+        let address = page * 4096;
         RememberedPage {
-            address: page * 4096,
+            address,
+            readable: key(address, attrs.contains(Attrs::READ)),
+            writable: key(address, attrs.contains(Attrs::WRITE)),
             frame,
             attrs: u64::from(attrs.0),
         }
@@ -42,19 +64,45 @@ impl RememberedPage {
         Attrs((self.attrs % 256) as u8)
     }
 
-    /// Whether it is the page of an access of `size` bytes whose address is a multiple of them. One
-    /// comparison says both.
+    /// Whether it is the page of a read of `size` bytes whose address is a multiple of them, and
+    /// may be read. One comparison says all three.
     #[inline(always)]
-    pub(crate) fn holds(&self, addr: u64, size: u64) -> bool
+    pub(crate) fn may_read(&self, addr: u64, size: u64) -> bool
+        requires key { IsKey self.now 1 self.now.readable }
         requires page { self.now.address < 2 ^ 56 → self.now.address % 4096 ≡ 0 }
         requires some { 0 < size }
         requires most { size ≤ 16 }
         ensures address { IsTrue result → self.now.address < 2 ^ 56 }
         ensures page { IsTrue result → self.now.address / 4096 ≡ plain addr / 4096 }
         ensures aligned { IsTrue result → addr % size ≡ 0 }
+        ensures permitted { IsTrue result → has (attrs_of self.now).0 1 ≡ true }
     {
-        self.address == plain(addr) / 4096 * 4096 + addr % size
+        self.readable == plain(addr) / 4096 * 4096 + addr % size
     }
+
+    /// Whether it is the page of a write of `size` bytes whose address is a multiple of them, and
+    /// may be written. One comparison says all three.
+    #[inline(always)]
+    pub(crate) fn may_write(&self, addr: u64, size: u64) -> bool
+        requires key { IsKey self.now 2 self.now.writable }
+        requires page { self.now.address < 2 ^ 56 → self.now.address % 4096 ≡ 0 }
+        requires some { 0 < size }
+        requires most { size ≤ 16 }
+        ensures address { IsTrue result → self.now.address < 2 ^ 56 }
+        ensures page { IsTrue result → self.now.address / 4096 ≡ plain addr / 4096 }
+        ensures aligned { IsTrue result → addr % size ≡ 0 }
+        ensures permitted { IsTrue result → has (attrs_of self.now).0 2 ≡ true }
+    {
+        self.writable == plain(addr) / 4096 * 4096 + addr % size
+    }
+}
+
+/// The address of a page with which something may be done, or 2^64 - 1.
+fn key(address: u64, is_permitted: bool) -> u64
+    ensures yes { IsTrue is_permitted → result ≡ address }
+    ensures no { IsFalse is_permitted → result ≡ 2 ^ 64 - 1 }
+{
+    if is_permitted { address } else { u64::MAX }
 }
 
 /// How many pages of data are remembered, one for each place.
@@ -92,13 +140,8 @@ impl RememberedPages {
     pub fn new() -> RememberedPages
         ensures { (m : Pages) → IsRemembered m result }
     {
-        let none = RememberedPage {
-            address: u64::MAX,
-            frame: usize::MAX,
-            attrs: u64::MAX,
-        };
         RememberedPages {
-            pages: [none; PLACES],
+            pages: [NO_PAGE; PLACES],
         }
     }
 

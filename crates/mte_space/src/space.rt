@@ -134,7 +134,7 @@ impl PageStore for Space<'_> {
     fn readable_place(&self, addr: u64, size: u64) -> Option<usize> {
         let place = data_place(addr / 4096);
         let page = self.remembered.at(place);
-        if page.holds(addr, size) && page.attrs().contains(Attrs::READ) {
+        if page.may_read(addr, size) {
             return Some(place);
         }
         None
@@ -144,7 +144,7 @@ impl PageStore for Space<'_> {
     fn writable_place(&self, addr: u64, size: u64) -> Option<usize> {
         let place = data_place(addr / 4096);
         let page = self.remembered.at(place);
-        if page.holds(addr, size) && page.attrs().contains(Attrs::WRITE) {
+        if page.may_write(addr, size) {
             return Some(place);
         }
         None

@@ -2,8 +2,8 @@ use Rattle.std.proofs.Common.{refl, arith}
 use Rattle.mte_space.proofs.PlaceSteps.{page_of_place}
 use Rattle.mte_space.proofs.space.SpacePageStore.writable_place.Goals as goal
 
-pub returns-then-contains-clause-page : goal.returns-then-contains-clause-page
-returns-then-contains-clause-page c =
-    let low = rw c.at-page.ensures at c.if-holds.ensures.address refl in
-    let page = rw c.at-page.ensures at c.if-holds.ensures.page refl in
+pub returns-then-may_write-clause-page : goal.returns-then-may_write-clause-page
+returns-then-may_write-clause-page c =
+    let low = rw c.at-page.ensures at c.if-may_write.ensures.address refl in
+    let page = rw c.at-page.ensures at c.if-may_write.ensures.page refl in
     page_of_place c.args.self.now _ c.data_place-place.result (search arith, low) page
