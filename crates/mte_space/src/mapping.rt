@@ -10,6 +10,7 @@ ghost use Rattle.mte_translate.specs.Translations.{without};
 ghost use Rattle.mte_translate.specs.declared.translation.Translation.{Translation};
 ghost use Rattle.mte_space.specs.Spaces.{space_memory, IsSpace, KeepsRest, NoneEnters};
 
+use crate::space::Tenancy;
 use mte_frames::{FramePool, Quota};
 use mte_tags::Attrs;
 use mte_translate::{Table, Tlb};
@@ -124,26 +125,25 @@ pub(crate) fn unmap_range(
     table: &mut Table,
     quota: &mut Quota,
     tlb: &mut Tlb,
-    asid: usize,
-    limit: usize,
+    tenant: Tenancy,
     pages: PageRange,
 )
-    requires space { IsSpace pool.old quota.old table.old limit }
-    requires cached { IsCached (pages_of pool.old table.old.frame) asid tlb.old }
+    requires space { IsSpace pool.old quota.old table.old tenant.pages }
+    requires cached { IsCached (pages_of pool.old table.old.frame) tenant.asid tlb.old }
     requires mapped { (s : TagState)
-        → ArePages (space_memory pool.old table.old limit s) pages.first pages.count }
-    ensures space { IsSpace pool.new quota.new table.new limit }
+        → ArePages (space_memory pool.old table.old tenant.pages s) pages.first pages.count }
+    ensures space { IsSpace pool.new quota.new table.new tenant.pages }
     ensures memory { (s : TagState)
-        → space_memory pool.new table.new limit s
-        ≡ without_pages (space_memory pool.old table.old limit s) pages.first pages.count }
-    ensures cached { IsCached (pages_of pool.new table.new.frame) asid tlb.new }
-    ensures entries { NoneEnters asid tlb.old tlb.new }
+        → space_memory pool.new table.new tenant.pages s
+        ≡ without_pages (space_memory pool.old table.old tenant.pages s) pages.first pages.count }
+    ensures cached { IsCached (pages_of pool.new table.new.frame) tenant.asid tlb.new }
+    ensures entries { NoneEnters tenant.asid tlb.old tlb.new }
     ensures rest { KeepsRest quota.old pool.old pool.new table.old table.new }
     ensures same { quota.new ≡ quota.old }
 {
     for i in 0..pages.count {
         let gone = pages.first + i as u64;
-        unmap_page(pool, table, quota, limit, gone);
-        tlb.forget(asid, gone);
+        unmap_page(pool, table, quota, tenant.pages, gone);
+        tlb.forget(tenant.asid, gone);
     }
 }

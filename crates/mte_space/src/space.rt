@@ -204,9 +204,11 @@ impl Paged for Space<'_> {
     fn unmap_pages(&mut self, page: u64, count: usize) {
         *self.remembered = RememberedPages::new();
         let pages = PageRange { first: page, count };
-        unmap_range(
-            self.pool, self.table, self.quota, self.tlb, self.asid, self.limit, pages,
-        );
+        let tenant = Tenancy {
+            asid: self.asid,
+            pages: self.limit,
+        };
+        unmap_range(self.pool, self.table, self.quota, self.tlb, tenant, pages);
     }
 
     fn load_bytes(&mut self, addr: u64, bytes: &[u8]) {

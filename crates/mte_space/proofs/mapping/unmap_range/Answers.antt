@@ -20,15 +20,15 @@ overflow_add-gone c =
 
 pub loop-i-init : goal.loop-i-init
 loop-i-init c =
-    let m = space_memory c.args.pool.now c.args.table.now c.args.limit in
+    let m = space_memory c.args.pool.now c.args.table.now c.args.tenant.pages in
     let zero : c.args.pages.first + 0 ≡ c.args.pages.first = omega arith in
     let all : c.args.pages.count - 0 ≡ c.args.pages.count = omega arith in
     record {
       space = c.requires.space;
-      mapped = λ k a b. mapped_there c.args.pool.now c.args.table.now c.args.limit some_state (c.args.pages.first + k) (c.requires.mapped some_state k b);
+      mapped = λ k a b. mapped_there c.args.pool.now c.args.table.now c.args.tenant.pages some_state (c.args.pages.first + k) (c.requires.mapped some_state k b);
       memory = λ s. ap (λ q. without_pages (m s) q (c.args.pages.count - 0)) zero ∙ ap (λ k. without_pages (m s) c.args.pages.first k) all;
       cached = c.requires.cached;
-      entries = none_enters_same c.args.asid c.args.tlb.now;
+      entries = none_enters_same c.args.tenant.asid c.args.tlb.now;
       rest = rest_same c.args.quota.now c.args.pool.now c.args.table.now;
       same = refl;
     }
@@ -38,7 +38,7 @@ loop-i-preserved c =
     let unmap = c.unmap_page.ensures in
     let was = c.loop-i.invariant in
     let q = c.args.pages.first + c.loop-i.i in
-    let old = λ (s : TagState). space_memory c.loop-i.pool c.loop-i.table c.args.limit s in
+    let old = λ (s : TagState). space_memory c.loop-i.pool c.loop-i.table c.args.tenant.pages s in
     let next : c.args.pages.first + (c.loop-i.i + 1) ≡ q + 1 = omega arith in
     let less : c.args.pages.count - (c.loop-i.i + 1) ≡ c.args.pages.count - c.loop-i.i - 1 = omega arith in
     record {
@@ -50,9 +50,9 @@ loop-i-preserved c =
           ∙ ap (λ k. without_pages (without_page (old s) q) (q + 1) k) less
           ∙ sym (without_pages-step (old s) q (c.args.pages.count - c.loop-i.i) (omega arith))
           ∙ was.memory s;
-      cached = subst (λ ts. IsCached (pages_of c.unmap_page.new.pool c.unmap_page.new.table.frame) c.args.asid ts) (sym c.forget.ensures) (unmap.cached c.args.asid c.loop-i.tlb was.cached);
-      entries = none_enters_on c.args.asid c.args.tlb.now c.loop-i.tlb c.forget.new.self was.entries
-          (subst (λ ts. NoneEnters c.args.asid c.loop-i.tlb ts) (sym c.forget.ensures) (forgotten_enters c.args.asid q c.loop-i.tlb));
+      cached = subst (λ ts. IsCached (pages_of c.unmap_page.new.pool c.unmap_page.new.table.frame) c.args.tenant.asid ts) (sym c.forget.ensures) (unmap.cached c.args.tenant.asid c.loop-i.tlb was.cached);
+      entries = none_enters_on c.args.tenant.asid c.args.tlb.now c.loop-i.tlb c.forget.new.self was.entries
+          (subst (λ ts. NoneEnters c.args.tenant.asid c.loop-i.tlb ts) (sym c.forget.ensures) (forgotten_enters c.args.tenant.asid q c.loop-i.tlb));
       rest = rest_on c.args.quota.now c.args.pool.now c.loop-i.pool _ c.args.table.now c.loop-i.table _ was.rest (subst (λ k. KeepsRest k c.loop-i.pool c.unmap_page.new.pool c.loop-i.table c.unmap_page.new.table) was.same unmap.rest);
       same = unmap.same ∙ was.same;
     }
@@ -61,4 +61,4 @@ pub returns-clause-memory : goal.returns-clause-memory
 unfolding without_pages
 returns-clause-memory c = λ s.
     let e : c.args.pages.count - c.loop-i.i ≡ 0 = omega arith in
-    ap (λ k. without_pages (space_memory c.loop-i.pool c.loop-i.table c.args.limit s) (c.args.pages.first + c.loop-i.i) k) (sym e) ∙ c.loop-i.invariant.memory s
+    ap (λ k. without_pages (space_memory c.loop-i.pool c.loop-i.table c.args.tenant.pages s) (c.args.pages.first + c.loop-i.i) k) (sym e) ∙ c.loop-i.invariant.memory s
