@@ -8,6 +8,7 @@ use address_map::GRANULE_SIZE;
 use check_kinds::Suppressions;
 use elf_core::CoreSubject;
 use heap_bounds::{Allocation, made_by};
+use heap_page::HeapPage;
 use mte_backtrace::Names;
 use mte_flat::Flat;
 use mte_report::Report;
@@ -149,7 +150,7 @@ fn report_of<'x, 'n, 'o>(
         parts,
         book: &observer.book,
         last: Some(observer.last()),
-        last_count: options.output.last,
+        last_count: options.output.last_lines,
         turns: observer.turns(),
         limit: options.limit(),
         names,
@@ -203,6 +204,7 @@ fn is_told(parts: &TenantParts, observer: &Observer<'_, Log>, options: &Options)
         || output.map.is_some()
         || output.json.is_some()
         || output.sarif.is_some()
+        || output.page.is_some()
 }
 
 /// Writes what the options request, on standard error.
@@ -233,6 +235,7 @@ fn write_files<'a>(
     let named = [
         (&options.output.json, DocumentForm::Json),
         (&options.output.sarif, DocumentForm::Sarif),
+        (&options.output.page, DocumentForm::Page),
     ];
     for (name, form) in named.iter() {
         if let Some(name) = name {
@@ -334,6 +337,8 @@ enum DocumentForm {
     Json,
     /// Editors and forges, which read SARIF.
     Sarif,
+    /// Browsers.
+    Page,
 }
 
 /// Writes a document into the file with a name.
@@ -348,6 +353,7 @@ fn write_document(
     match form {
         DocumentForm::Json => document.write_json(&mut out, memory),
         DocumentForm::Sarif => document.write_sarif(&mut out, memory),
+        DocumentForm::Page => HeapPage(document).write(&mut out, memory),
     }
 }
 
