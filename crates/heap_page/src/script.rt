@@ -126,7 +126,7 @@ function heapAt(step) {
 const firstStep = steps.length ? data.first : run.steps;
 const positions = [...new Set([0, ...calls.map(call => call.step).filter(at => at < firstStep),
   ...steps.map((_, index) => firstStep + index), run.steps])].sort((one, other) => one - other);
-let position = positions.length - 1, top = 0;
+let position = positions.length - 1, topRow = 0;
 
 function partsOf(step) {
   const text = steps[step - firstStep];
@@ -206,7 +206,7 @@ function showCell(line, cell, heap, marked) {
   if (marked.has(cell)) kinds.push('touch');
   made.className = kinds.join(' ').trim();
   put(made, 'b', tagText(tag));
-  put(made, 'i', marked.has(cell) ? '^' : MARKS[state]);
+  put(made, 'i', (marked.has(cell) ? '^' : '') + MARKS[state]);
   made.title = hex(rows[Math.floor(cell / ROW)] + cell % ROW * GRANULE);
 }
 function columns() {
@@ -271,14 +271,14 @@ function describe(step, parts, call) {
   return words.filter(word => word).join(' - ');
 }
 
-// Shows the rows from `top` on, or for print the first ones.
+// Shows the rows from `topRow` on, or for print the first ones.
 function showRows(isPrinted) {
   const step = positions[position], heap = heapAt(step);
-  const from = isPrinted ? 0 : Math.min(top, Math.max(0, rows.length - 1));
+  const from = isPrinted ? 0 : Math.min(topRow, Math.max(0, rows.length - 1));
   const to = Math.min(rows.length, from + (isPrinted ? MOST_PRINTED : WINDOW));
   showHeap(heap, touched(partsOf(step)), from, to);
-  find('note').textContent = heap.differ === 0 ? '' : heap.differ + ' granules have a tag at the ' +
-    'end that no heap call and no remembered instruction gave them.';
+  find('note').textContent = heap.differ === 0 ? '' : heap.differ + ' granules have a tag at ' +
+    'the end that no heap call and no remembered instruction gave them.';
   find('rows').textContent = rows.length === 0 ? 'No heap call made a chunk.'
     : 'Rows ' + (from + 1) + ' to ' + to + ' of ' + rows.length;
   find('up').disabled = from === 0;
@@ -298,7 +298,8 @@ function showControls(step, text) {
 function show(isPrinted) {
   const step = positions[position], parts = partsOf(step), index = callIndex(step);
   const row = Math.floor(focusCell(parts, calls[index]) / ROW);
-  if (row >= 0 && (row < top || row >= top + WINDOW)) top = Math.max(0, row - WINDOW / 2);
+  const isSeen = row < 0 || (topRow <= row && row < topRow + WINDOW);
+  if (!isSeen) topRow = Math.max(0, row - WINDOW / 2);
   showRows(isPrinted);
   showCalls(index, !isPrinted);
   showCode(step);
@@ -339,7 +340,8 @@ function onKey(event) {
 function statusText() {
   const status = run.status, words = [status.kind];
   for (const name of ['name', 'code', 'number', 'word', 'address', 'pointer', 'pc']) {
-    if (status[name] !== undefined) words.push((name === 'name' ? '' : name + ' ') + status[name]);
+    const label = name === 'name' ? '' : name + ' ';
+    if (status[name] !== undefined) words.push(label + status[name]);
   }
   if (status.name === 'TagCheck') {
     words.push('pointer tag ' + status.pointer_tag.toString(16) + ', memory tag ' +
@@ -358,6 +360,17 @@ function showHead() {
   find('told').textContent = shown(run.cause || statusText());
   if (run.cause) find('story').textContent = shown(statusText());
   for (const frame of run.stack) put(find('stack'), 'li', frameText(frame));
+  for (const chunk of run.chunks) {
+    showRelated('allocated', chunk.allocated);
+    if (chunk.freed) showRelated('freed', chunk.freed);
+  }
+  showCallList();
+}
+function showRelated(verb, call) {
+  put(find('chunks'), 'li', verb + ' by call ' + call.number + ', ' + call.call +
+    ' = ' + call.result + ', step ' + call.step + ', in ' + call.stack.map(frameText).join(', '));
+}
+function showCallList() {
   const made = find('calls').tBodies[0];
   for (const call of calls) {
     const line = put(made, 'tr'), head = put(line, 'th');
@@ -370,8 +383,8 @@ function showHead() {
     put(line, 'td', call.where || '');
   }
   if (data.made > calls.length) {
-    find('left-out').textContent = 'Of ' + data.made + ' heap calls the last are here, and those ' +
-      'before that made a chunk which was live then.';
+    find('left-out').textContent = 'Of ' + data.made + ' heap calls the last are here, and of ' +
+      'those before them some that made a chunk which was live then.';
   }
 }
 
@@ -387,11 +400,16 @@ find('before').onclick = () => goTo(position - 1);
 find('after').onclick = () => goTo(position + 1);
 find('call-before').onclick = () => goToCall(-1);
 find('call-after').onclick = () => goToCall(1);
-find('up').onclick = () => { top = Math.max(0, top - WINDOW); showRows(false); };
-find('down').onclick = () => { top = Math.min(rows.length - 1, top + WINDOW); showRows(false); };
+find('up').onclick = () => { topRow = Math.max(0, topRow - WINDOW); showRows(false); };
+find('down').onclick = () => { topRow += WINDOW; showRows(false); };
 document.addEventListener('keydown', onKey);
 window.addEventListener('resize', () => show(false));
-window.addEventListener('beforeprint', () => { position = positions.length - 1; show(true); });
-window.addEventListener('afterprint', () => show(false));
+let positionOnScreen = 0;
+window.addEventListener('beforeprint', () => {
+  positionOnScreen = position;
+  position = positions.length - 1;
+  show(true);
+});
+window.addEventListener('afterprint', () => goTo(positionOnScreen));
 show(false);
 ";

@@ -12,12 +12,12 @@ body{margin:0 auto;padding:12px 16px 40px;max-width:1180px;color:var(--ink);
 h1{font-size:1.35rem;margin:.2em 0;overflow-wrap:anywhere}
 h2{font-size:1rem;margin:1.2em 0 .3em}
 p{margin:.3em 0}
-code,td,th,#now,#stack{font-family:ui-monospace,monospace;font-size:13px}
+code,td,th,#now,#stack,#chunks{font-family:ui-monospace,monospace;font-size:13px}
 #why{margin:0}
 .cause{background:var(--cause);border-left:5px solid var(--red);padding:8px 12px;
  overflow-wrap:anywhere}
 #told{font-weight:600}
-#stack{margin:.3em 0;padding-left:1.6em}
+#stack,#chunks{margin:.3em 0;padding-left:1.6em}
 .steps{position:sticky;top:0;background:var(--paper);padding:8px 0;z-index:1;
  border-bottom:1px solid var(--line)}
 #slider{width:100%;height:28px;margin:2px 0;accent-color:var(--focus)}
@@ -56,6 +56,7 @@ tr.later{color:var(--soft)}
 .t8{background:#d8d684}.t9{background:#93dee6}.ta{background:#ffe86e}.tb{background:#74c7b0}
 .tc{background:#8fa6dc}.td{background:#ecc6a8}.te{background:#c3e85f}.tf{background:#d99ad8}
 .soft{color:var(--soft)}
+@media (max-height:640px){.steps{position:static}}
 @media (max-width:720px){body{padding:8px}#heap td{width:20px;min-width:20px}
  #calls td,#calls th,#code td,#code th{padding-right:6px}}
 @media print{:root{--ink:#000;--paper:#fff;--soft:#444;--line:#999;--cause:#fff;--red:#000;
