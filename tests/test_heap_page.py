@@ -129,7 +129,8 @@ def test_steps_are_those_of_the_trace(alone: pathlib.Path, long: pathlib.Path) -
                 in re.findall(r"; (x\d+|sp) 0x[0-9a-f]+ -> 0x([0-9a-f]+)", effect)]
         assert [it for it in changes if re.match("x|sp", it)] == told
         places = re.findall(r"[^ ]* ?\[0x([0-9a-f]+)\]", effect)
-        assert [re.sub(r"^.|[+].*", "", it) for it in changes if it[0] in "rw"] == places or not places
+        accesses = [re.sub(r"^.|[+].*", "", it) for it in changes if it[0] in "rw"]
+        assert accesses == places or not places
 
 
 def test_the_tags_of_a_page_are_those_of_the_memory(
@@ -154,7 +155,7 @@ def test_a_chunk_that_is_freed_before_what_is_remembered(
     alone: pathlib.Path, tmp_path: pathlib.Path
 ) -> None:
     """Its tag is not in the data, and no wrong one is."""
-    text = LONG.replace("i < 20; i++", "i < 2000; i++").replace("node->name[i]", "node->name[i % 20]")
+    text = LONG.replace("i < 20", "i < 2000").replace("node->name[i]", "node->name[i % 20]")
     page = tmp_path / "late.html"
     assert run([alone, "--html", page, image_of(tmp_path, "late", text)]).status == FAULT
     data = read_page(page).data
@@ -250,11 +251,12 @@ def test_a_page_of_other_ends(alone: pathlib.Path, tmp_path: pathlib.Path) -> No
     chunks = IMAGES / "chunks.gcc-O0.elf"
     (tmp_path / "script").write_text(
         "admit 7 image 1 input 0 seed 0000000000000001 frames 60 out 10\nslice 7 1000\n")
-    for words in ([chunks], [EXAMPLES / "hi.elf"], ["--steps", "0", chunks],
-                  ["--exact", "--input", tmp_path / "script", chunks],
-                  ["--script", tmp_path / "script", "7", "--frames", "200", chunks]):
-        listed: list[Word] = ["--html", tmp_path / "page.html", "--json", tmp_path / "told.json"]
-        run([alone, *listed, *words])
+    ends: list[list[Word]] = [
+        [chunks], [EXAMPLES / "hi.elf"], ["--steps", "0", chunks],
+        ["--exact", "--input", tmp_path / "script", chunks],
+        ["--script", tmp_path / "script", "7", "--frames", "200", chunks]]
+    for words in ends:
+        run([alone, "--html", tmp_path / "page.html", "--json", tmp_path / "told.json", *words])
         data = read_page(tmp_path / "page.html").data
         assert data["run"] == json.loads((tmp_path / "told.json").read_text(encoding="utf-8"))
         assert data["first"] + len(data["steps"]) in (data["run"]["steps"] + 1, 0)
@@ -265,10 +267,12 @@ def test_a_page_of_other_ends(alone: pathlib.Path, tmp_path: pathlib.Path) -> No
 def test_a_page_changes_nothing_else(alone: pathlib.Path, tmp_path: pathlib.Path) -> None:
     """What is said and the exit status are those without it, also of a tenant that exits."""
     (tmp_path / "f").write_text("f")
-    for words in ([EXAMPLES / "hi.elf"], ["--input", tmp_path / "f", IMAGES / "chunks.gcc-O0.elf"],
-                  ["--last", "3", "--input", tmp_path / "f", IMAGES / "chunks.clang-O0.elf"]):
-        listed: list[Word] = [alone, *words]
-        assert run(listed) == run([alone, "--html", tmp_path / "page.html", *words])
+    runs: list[list[Word]] = [
+        [EXAMPLES / "hi.elf"], ["--input", tmp_path / "f", IMAGES / "chunks.gcc-O0.elf"],
+        ["--last", "3", "--input", tmp_path / "f", IMAGES / "chunks.clang-O0.elf"]]
+    for words in runs:
+        told = run([alone, *words])
+        assert told == run([alone, "--html", tmp_path / "page.html", *words])
 
 
 def test_a_browser_moves_by_keys(long: pathlib.Path, tmp_path: pathlib.Path) -> None:

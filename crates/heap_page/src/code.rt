@@ -14,7 +14,7 @@ use std::{fmt, io};
 
 /// A word at an address.
 #[derive(Clone, Copy)]
-struct Word {
+struct CodeWord {
     pc: u64,
     /// None where it could not be fetched.
     word: Option<u32>,
@@ -23,7 +23,7 @@ struct Word {
 /// The words that were run, each once, and which of them each remembered step ran.
 #[derive(Drop)]
 pub(crate) struct Code {
-    words: Vec<Word>,
+    words: Vec<CodeWord>,
     /// The index of the last word that was met at each address.
     newest: BTreeMap<u64, usize>,
     /// The index of each step's word, the oldest first.
@@ -59,7 +59,7 @@ impl Code {
             }
         }
         let index = self.words.len();
-        self.words.push(Word { pc, word })?;
+        self.words.push(CodeWord { pc, word })?;
         self.newest.insert(pc, index)?;
         Ok(index)
     }
@@ -136,7 +136,7 @@ fn write_step<W: Write>(
 }
 
 /// Writes a word: its address, its text, and the place.
-fn write_word<W: Write>(out: &mut W, front: &str, word: Word, place: &str) -> io::Result<()> {
+fn write_word<W: Write>(out: &mut W, front: &str, word: CodeWord, place: &str) -> io::Result<()> {
     let (pc, text, place) = (word.pc, WordText(word), Quoted(place));
     write!(out, "{front}\n[\"{pc:#x}\",\"{text}\",{place}]")
 }
@@ -148,11 +148,11 @@ fn differing<'a>(text: &'a str, before: &str) -> &'a str {
 
 /// The text of a word.
 #[derive(Clone, Copy)]
-struct WordText(Word);
+struct WordText(CodeWord);
 
 impl fmt::Display for WordText {
     fn fmt<W: fmt::Write>(&self, f: &mut fmt::Formatter<W>) -> fmt::Result {
-        let Word { pc, word } = self.0;
+        let CodeWord { pc, word } = self.0;
         match word {
             Some(word) => Instruction { word, pc }.fmt(f),
             None => f.write_str("no instruction can be fetched"),
@@ -164,7 +164,7 @@ impl fmt::Display for WordText {
 fn place_of(context: &Context<'_>, pc: u64) -> Result<String, AllocError> {
     match context.names.instruction_frames(pc).next() {
         Some(frame) => {
-            let place = Place(frame);
+            let place = WordPlace(frame);
             format!(in context.alloc; "{place}")
         }
         None => Ok(String::new(context.alloc)),
@@ -173,9 +173,9 @@ fn place_of(context: &Context<'_>, pc: u64) -> Result<String, AllocError> {
 
 /// The function and the source line of a frame, where they are known: `NAME at FILE:LINE`.
 #[derive(Clone, Copy)]
-struct Place<'a>(StackFrame<'a>);
+struct WordPlace<'a>(StackFrame<'a>);
 
-impl<'a> fmt::Display for Place<'a> {
+impl<'a> fmt::Display for WordPlace<'a> {
     fn fmt<W: fmt::Write>(&self, f: &mut fmt::Formatter<W>) -> fmt::Result {
         if let Some(name) = name_of(&self.0) {
             write!(f, "{name}")?;

@@ -1,7 +1,7 @@
 //! What is around the style, the data and the script of a page.
 
-/// From the start to the style. A browser loads nothing for the page, and runs no script but the one
-/// with this sum, whatever the data are.
+/// From the start to the style. A browser loads nothing for the page, and runs no script but the
+/// one with this sum, whatever the data are.
 pub(crate) const BEFORE_STYLE: &str = "<!doctype html>
 <html lang='en'>
 <head>

@@ -23,16 +23,20 @@ const MOST_OF_CHUNK: u64 = 8;
 /// How many rows there are at most, beside that of the address which ended it.
 const MOST_ROWS: usize = 1_024;
 
-/// Rows by their addresses.
+/// ShownRows by their addresses.
 #[derive(Drop)]
-struct Rows {
+struct ShownRows {
     starts: BTreeMap<u64, ()>,
 }
 
-impl Rows {
+impl ShownRows {
     /// The rows of the address that ended it, and of the chunks of heap calls, the newest first.
-    fn of(alloc: Global, address: Option<u64>, entries: &[BookEntry]) -> Result<Rows, AllocError> {
-        let mut rows = Rows {
+    fn of(
+        alloc: Global,
+        address: Option<u64>,
+        entries: &[BookEntry],
+    ) -> Result<ShownRows, AllocError> {
+        let mut rows = ShownRows {
             starts: BTreeMap::new(alloc),
         };
         if let Some(address) = address {
@@ -86,7 +90,7 @@ pub(crate) fn write_rows<W: Write>(
     memory: &mut Flat,
 ) -> io::Result<()> {
     let address = document.report.address();
-    let rows = Rows::of(
+    let rows = ShownRows::of(
         document.alloc,
         address.map(|address| plain(address)),
         entries,
