@@ -114,13 +114,36 @@ fn tell_parts<'a>(
         reserved: reserved_pages(rt.alloc(), options, memory)?,
         seed: run.seed,
     };
-    let lost = lost_chunks(rt.alloc(), parts, observer, memory)?;
-    let is_named = !lost.is_empty() || is_told(parts, observer, options);
-    let named = named_bytes(&run.image, is_named);
-    let names = Names::of(rt.alloc(), named)?;
+    let chunks = lost_chunks(rt.alloc(), parts, observer, memory)?;
+    let is_named = !chunks.is_empty() || is_told(parts, observer, options);
+    let names = Names::of(rt.alloc(), named_bytes(&run.image, is_named))?;
     let report = report_of(parts, observer, options, &names, run.image.name, numbers);
-    let has_lost = tell_lost(rt, &report, lost.as_slice(), run.suppressions)?;
-    tell_run(rt, &report, options, has_lost, memory)
+    let lost = LostChunks {
+        chunks: chunks.as_slice(),
+        suppressions: run.suppressions,
+    };
+    tell_found(rt, &report, options, &lost, memory)
+}
+
+/// The chunks that a tenant has lost.
+#[derive(Clone, Copy)]
+struct LostChunks<'x> {
+    chunks: &'x [LostChunk],
+    /// What is not told of them.
+    suppressions: &'x Suppressions,
+}
+
+/// Writes which chunks are lost, and what the options request. It borrows what it writes, so that
+/// none of its ends has to drop that.
+fn tell_found<'a>(
+    rt: &HostRuntime,
+    report: &Report<'_>,
+    options: &'a Options,
+    lost: &LostChunks<'_>,
+    memory: &mut Flat,
+) -> Result<u8, Failure<'a>> {
+    let has_lost = tell_lost(rt, report, lost.chunks, lost.suppressions)?;
+    tell_run(rt, report, options, has_lost, memory)
 }
 
 /// The bytes of an image that has names, or none where none is written.
