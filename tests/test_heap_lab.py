@@ -5,6 +5,7 @@ import json
 import pathlib
 import re
 import sys
+import xml.etree.ElementTree as xml
 
 import pytest
 
@@ -365,3 +366,64 @@ def test_three_heaps_of_wrong_words(shared: pathlib.Path, tmp_path: pathlib.Path
                           ([tmp_path / "absent"], 1), ([], 2)):
         ran = beside(shared, *words)
         assert (ran.status, ran.output) == (status, "") and "beside_allocators.py: " in ran.errors
+
+
+def draw(*words: Word) -> Ran:
+    """What the script that draws says."""
+    return run([sys.executable, ALLOC / "pictures.py", *words])
+
+
+def points_of(path: pathlib.Path) -> list[list[tuple[float, float]]]:
+    """The points of each line that is no mark of an axis."""
+    svg = xml.fromstring(path.read_text(encoding="utf-8"))
+    lines = [it.get("d", "") for it in svg.iter("{http://www.w3.org/2000/svg}path")
+             if it.get("stroke-width") == "2"]
+    return [[(float(x), float(y)) for x, y in (part.split(",") for part in line[1:].split("L"))]
+            for line in lines]
+
+
+def test_pictures_of_a_replay(shared: pathlib.Path, tmp_path: pathlib.Path) -> None:
+    """A point a row, as high as its bytes, at most 400 a line; the last row is always drawn."""
+    trace, table, picture = tmp_path / "trace", tmp_path / "rows.csv", tmp_path / "rows.svg"
+    trace.write_text(SMALL)
+    table.write_bytes(replay(shared, trace, "--every", "1").out)
+    assert draw("replay", table, picture) == Ran(0, b"", b"")
+    rows = list(csv.DictReader(table.read_text().splitlines()))
+    native, mapped, live = (it for it in points_of(picture) if len(it) == len(rows))
+    foot = max(y for points in (native, mapped, live) for _, y in points) + 1
+    for points, name in ((native, "native_mapped_bytes"), (mapped, "mapped_bytes"),
+                         (live, "live_bytes")):
+        tall = [(float(row[name]), y) for row, (_, y) in zip(rows, points, strict=True)]
+        for (one, y), (other, below) in zip(tall, tall[1:]):
+            assert (one < other) <= (y >= below) and (one > other) <= (y <= below) and y <= foot
+    head, *rest = table.read_text().splitlines(keepends=True)
+    table.write_text(head + "".join(rest * 200))
+    assert draw("replay", table, picture).status == 0
+    assert all(len(points) <= 401 for points in points_of(picture))
+
+
+def test_the_pictures_of_the_page(tmp_path: pathlib.Path) -> None:
+    """That of the margins is what the script draws of the page's table; both are small."""
+    stored = ALLOC.parents[1] / "docs" / "pictures"
+    assert draw("margins", tmp_path / "margins.svg") == Ran(0, b"", b"")
+    assert (tmp_path / "margins.svg").read_bytes() == (stored / "margins.svg").read_bytes()
+    for name in ("margins.svg", "replay.svg"):
+        assert (stored / name).stat().st_size < 20_000
+        assert xml.fromstring((stored / name).read_text(encoding="utf-8")).tag.endswith("svg")
+
+
+def test_pictures_of_wrong_files(tmp_path: pathlib.Path) -> None:
+    """Status 2 and a line; nothing is written."""
+    for number, text in enumerate((
+            "", "calls\n1\n", "a,b\n1,2\n", "\0", "calls,native_mapped_bytes,mapped_bytes,"
+            "live_bytes\n", "calls,native_mapped_bytes,mapped_bytes,live_bytes\n1,2,x,4\n",
+            "calls,native_mapped_bytes,mapped_bytes,live_bytes\n1,2,nan,4\n")):
+        path = tmp_path / str(number)
+        path.write_text(text)
+        ran = draw("replay", path, tmp_path / "out.svg")
+        assert ran.status == 2 and ran.errors.startswith("pictures.py: "), ran.errors
+    lines: tuple[list[Word], ...] = (
+        [], ["replay"], ["margins"], ["other", "x"], ["margins", tmp_path / "no" / "a.svg"],
+        ["replay", tmp_path / "absent", tmp_path / "out.svg"])
+    assert all(draw(*words).status == 2 for words in lines)
+    assert not (tmp_path / "out.svg").exists()
