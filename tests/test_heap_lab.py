@@ -1,9 +1,11 @@
 """Recorded heap calls, their replay with statistics, and the margins of tags on the page."""
 
 import csv
+import json
 import pathlib
 import re
 import sys
+import xml.etree.ElementTree as xml
 
 import pytest
 
@@ -11,8 +13,9 @@ from tests.support.library import shared_object
 from tests.support.once import make_once
 from tests.support.pages import read_page
 from tests.support.places import EXAMPLES
-from tests.support.running import Ran, run, succeed
-from tests.support.tools import need
+from tests.support.running import Ran, Word, run, succeed
+from tests.support.samples import tenant
+from tests.support.tools import give_up, need
 
 ALLOC = EXAMPLES / "alloc"
 HEAD = "tombolopan heap calls 1\n"
@@ -247,3 +250,180 @@ def test_margins_of_wrong_words(shared: pathlib.Path) -> None:
     for words in (["--states", "0"], ["--states", "1048577"], ["--states", "5", "--write"]):
         ran = margins(shared, *words)
         assert ran.status == 2 and "--states is 1 to 1048576" in ran.errors
+
+
+TENANT = """#include "tenant.h"
+int main(void)
+{
+    char *kept[64] = {0};
+    for (int i = 0; i < 400; i++) {
+        char **at = &kept[i * 7 % 64];
+        tenant_free(*at);
+        *at = i % 5 == 0 ? tenant_calloc(3, 40 + i) : i % 7 == 0 ? tenant_memalign(64, 50 + i)
+                                                                 : tenant_malloc(1 + i * 13 % 900);
+        if (i % 3 == 0)
+            *at = tenant_realloc(*at, 24 + i * 5);
+        if (i % 4 == 0)
+            kept[0] = tenant_malloc(16 + tenant_usable_size(*at) % 9);
+    }
+    tenant_malloc(2000000);
+    tenant_realloc(kept[9], 0);
+    return tenant_malloc(200000) != 0;
+}
+"""
+
+
+def tenant_trace(alone: pathlib.Path, folder: pathlib.Path, *words: str) -> None:
+    """Makes a trace of a tenant's services, and its numbers as JSON."""
+    source, services = folder / "calls.c", folder / "services"
+    source.write_text(TENANT)
+    image = tenant(folder, source)
+    ran = run([alone, *words, "--trace-file", services, "--statistics", "--json",
+               folder / "told.json", image])
+    assert ran.status == 1, ran.errors
+    made = run([sys.executable, ALLOC / "tenant_calls.py", services])
+    assert run([sys.executable, ALLOC / "tenant_calls.py"], stdin=services.read_bytes()) == made
+    (folder / "trace").write_bytes(made.out)
+
+
+def test_a_tenant_is_replayed(
+    alone: pathlib.Path, shared: pathlib.Path, tmp_path: pathlib.Path
+) -> None:
+    """The heap calls that mte_run prints of a tenant give the same heap in the replay: as many
+    tags, and each chunk at its address. The lines of a trace of instructions give them too."""
+    need("clang", "ld.lld")
+    tenant_trace(alone, tmp_path, "--services")
+    text = (tmp_path / "trace").read_text(encoding="ascii")
+    told = json.loads((tmp_path / "told.json").read_text(encoding="utf-8"))["statistics"]
+    for name in ("malloc", "calloc", "realloc", "memalign", "free"):
+        assert len(re.findall(rf"^{name} ", text, re.M)) == told[name] > 0, name
+    assert told["usable_size"] > 0 and "usable_size" not in text
+    again = replay(shared, tmp_path / "trace", "--every", "100000")
+    (row,) = rows_of(again)
+    assert row["tags_drawn"] == str(told["tags_drawn"])
+    assert again.errors.startswith("calls ") and ", unknown 0, refused 0, " in again.errors
+    tenant_trace(alone, tmp_path, "--trace")
+    assert (tmp_path / "trace").read_text(encoding="ascii") == text
+
+
+@pytest.mark.parametrize("text, status, said", [
+    ("", 1, "there is no heap call"), ("  12  write(0x10, 3) = 3\n", 1, "there is no heap call"),
+    ("  12  malloc(24)\n", 1, "there is no heap call"),
+    ("1  malloc(24) = 0x10\n2  malloc(24, 3) = 0x10\n", 2, "line 2 has no heap call"),
+    ("  12  free(12.5) = 0\n", 2, "line 1 has no"), ("3  calloc(7) = 0x10\n", 2, "line 1 has no"),
+    ("3  realloc(0x10, 7) = 0x11111111111111111\n", 2, "line 1 has no"),
+])
+def test_services_that_are_none(
+    tmp_path: pathlib.Path, text: str, status: int, said: str
+) -> None:
+    """Nothing is written, and a line says why."""
+    path = tmp_path / "services"
+    path.write_text(text)
+    ran = run([sys.executable, ALLOC / "tenant_calls.py", path])
+    assert (ran.status, ran.output) == (status, "") and said in ran.errors
+    for words in ([tmp_path / "absent"], [tmp_path], ["--x"], [path, path]):
+        assert run([sys.executable, ALLOC / "tenant_calls.py", *words]).status == 2
+
+
+def beside(shared: pathlib.Path, *words: Word) -> Ran:
+    """What the script says of three heaps."""
+    need("clang")
+    ran = run([sys.executable, ALLOC / "beside_allocators.py", *words], seconds=120,
+              extra={"TOMBOLOPAN": str(shared_object(shared))})
+    if "has no Scudo" in ran.errors:
+        give_up("missing: libclang-rt-14-dev")
+    return ran
+
+
+def test_three_heaps_on_one_trace(shared: pathlib.Path, tmp_path: pathlib.Path) -> None:
+    """The profile uses the blocks again that Scudo uses again, row for row; what is mapped is what
+    each says. The page has a table of the same form, of which this holds too."""
+    trace = tmp_path / "trace"
+    record(shared, trace, "perl", "-e", "my %h; for my $i (1 .. 900) { push @{$h{$i % 70}}, "
+           "'x' x ($i * 7 % 300); delete $h{$i * 3 % 70} if $i % 5 == 0 } print scalar %h;")
+    ran = beside(shared, "--rows", "3", trace)
+    assert ran.status == 0, ran.errors
+    page = re.search(r"beside_allocators\.py: -->\n(.*?)<!-- to here",
+                     read_page("docs/ALLOCATORS.md"), re.S)
+    assert page and page[1].strip().splitlines()[:2] == ran.output.splitlines()[:2]
+    ours = rows_of(replay(shared, trace, "--every", "1000000"))[-1]
+    for table, count in ((ran.output, 3), (page[1].strip(), 4)):
+        lines = [[it.strip() for it in line.strip("|\n").split("|")]
+                 for line in table.splitlines()[2:]]
+        assert len(lines) == count
+        for line in lines:
+            assert line[5] == line[6] and all(int(it.replace(",", "")) > 0 for it in line[:5])
+    last = [it.strip().replace(",", "") for it in ran.output.splitlines()[-1].strip("|").split("|")]
+    assert [last[at] for at in (0, 1, 2, 4)] == [
+        ours[name] for name in ("calls", "live_bytes", "mapped_bytes", "native_mapped_bytes")]
+    assert last[5].split()[0] == ours["reused"] and last[7].split()[0] == ours["native_reused"]
+
+
+def test_three_heaps_of_wrong_words(shared: pathlib.Path, tmp_path: pathlib.Path) -> None:
+    """A status and a line."""
+    (tmp_path / "none").write_text("malloc\n")
+    for words, status in ((["--rows", "0", tmp_path / "none"], 2), ([tmp_path / "none"], 1),
+                          ([tmp_path / "absent"], 1), ([], 2)):
+        ran = beside(shared, *words)
+        assert (ran.status, ran.output) == (status, "") and "beside_allocators.py: " in ran.errors
+
+
+def draw(*words: Word) -> Ran:
+    """What the script that draws says."""
+    return run([sys.executable, ALLOC / "pictures.py", *words])
+
+
+def points_of(path: pathlib.Path) -> list[list[tuple[float, float]]]:
+    """The points of each line that is no mark of an axis."""
+    svg = xml.fromstring(path.read_text(encoding="utf-8"))
+    lines = [it.get("d", "") for it in svg.iter("{http://www.w3.org/2000/svg}path")
+             if it.get("stroke-width") == "2"]
+    return [[(float(x), float(y)) for x, y in (part.split(",") for part in line[1:].split("L"))]
+            for line in lines]
+
+
+def test_pictures_of_a_replay(shared: pathlib.Path, tmp_path: pathlib.Path) -> None:
+    """A point a row, as high as its bytes, at most 400 a line; the last row is always drawn."""
+    trace, table, picture = tmp_path / "trace", tmp_path / "rows.csv", tmp_path / "rows.svg"
+    trace.write_text(SMALL)
+    table.write_bytes(replay(shared, trace, "--every", "1").out)
+    assert draw("replay", table, picture) == Ran(0, b"", b"")
+    rows = list(csv.DictReader(table.read_text().splitlines()))
+    native, mapped, live = (it for it in points_of(picture) if len(it) == len(rows))
+    foot = max(y for points in (native, mapped, live) for _, y in points) + 1
+    for points, name in ((native, "native_mapped_bytes"), (mapped, "mapped_bytes"),
+                         (live, "live_bytes")):
+        tall = [(float(row[name]), y) for row, (_, y) in zip(rows, points, strict=True)]
+        for (one, y), (other, below) in zip(tall, tall[1:]):
+            assert (one < other) <= (y >= below) and (one > other) <= (y <= below) and y <= foot
+    head, *rest = table.read_text().splitlines(keepends=True)
+    table.write_text(head + "".join(rest * 200))
+    assert draw("replay", table, picture).status == 0
+    assert all(len(points) <= 401 for points in points_of(picture))
+
+
+def test_the_pictures_of_the_page(tmp_path: pathlib.Path) -> None:
+    """That of the margins is what the script draws of the page's table; both are small."""
+    stored = ALLOC.parents[1] / "docs" / "pictures"
+    assert draw("margins", tmp_path / "margins.svg") == Ran(0, b"", b"")
+    assert (tmp_path / "margins.svg").read_bytes() == (stored / "margins.svg").read_bytes()
+    for name in ("margins.svg", "replay.svg"):
+        assert (stored / name).stat().st_size < 20_000
+        assert xml.fromstring((stored / name).read_text(encoding="utf-8")).tag.endswith("svg")
+
+
+def test_pictures_of_wrong_files(tmp_path: pathlib.Path) -> None:
+    """Status 2 and a line; nothing is written."""
+    for number, text in enumerate((
+            "", "calls\n1\n", "a,b\n1,2\n", "\0", "calls,native_mapped_bytes,mapped_bytes,"
+            "live_bytes\n", "calls,native_mapped_bytes,mapped_bytes,live_bytes\n1,2,x,4\n",
+            "calls,native_mapped_bytes,mapped_bytes,live_bytes\n1,2,nan,4\n")):
+        path = tmp_path / str(number)
+        path.write_text(text)
+        ran = draw("replay", path, tmp_path / "out.svg")
+        assert ran.status == 2 and ran.errors.startswith("pictures.py: "), ran.errors
+    lines: tuple[list[Word], ...] = (
+        [], ["replay"], ["margins"], ["other", "x"], ["margins", tmp_path / "no" / "a.svg"],
+        ["replay", tmp_path / "absent", tmp_path / "out.svg"])
+    assert all(draw(*words).status == 2 for words in lines)
+    assert not (tmp_path / "out.svg").exists()

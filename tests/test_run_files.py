@@ -19,8 +19,8 @@ from tests.support.tools import need
 HELLO = EXAMPLES / "hi.elf"
 USAGE, MEMORY, READ, WRITE = 2, 4, 5, 6
 FAULT, CUT = 129, 138
-SHARED = (
-    "--json, --sarif, --map, --core and --trace-file want different files, and none that is read")
+SHARED = ("--json, --sarif, --html, --map, --core and --trace-file want different files, and none "
+          "that is read")
 
 
 def failing(alone: pathlib.Path, *words: Word) -> Ran:
@@ -44,7 +44,8 @@ def test_why_a_file_cannot_be_read(alone: pathlib.Path, tmp_path: pathlib.Path) 
             assert (ran.status, ran.errors) == (READ, f"mte_run: cannot read {name}{reason}\n")
 
 
-@pytest.mark.parametrize("option", ["--json", "--sarif", "--map", "--core", "--trace-file"])
+@pytest.mark.parametrize(
+    "option", ["--json", "--sarif", "--html", "--map", "--core", "--trace-file"])
 def test_why_a_file_cannot_be_written(
     alone: pathlib.Path, tmp_path: pathlib.Path, option: str
 ) -> None:
@@ -135,7 +136,7 @@ def test_a_file_is_not_both_read_and_written(alone: pathlib.Path, tmp_path: path
     image.write_bytes(HELLO.read_bytes())
     script.write_text("stop 1\n")
     session: list[Word] = ["--script", script, "1", "--frames", "9"]
-    for option in ("--json", "--sarif", "--map", "--core", "--trace-file"):
+    for option in ("--json", "--sarif", "--html", "--map", "--core", "--trace-file"):
         other = "--core" if option != "--core" else "--json"
         lines: list[list[Word]] = [
             [option, image, image], [option, script, "--input", script, image],

@@ -367,7 +367,8 @@ def test_a_file_has_at_most_16_mebibytes(alone: pathlib.Path, tmp_path: pathlib.
     ("absent/file", ": no such file or folder"), (".", ": it is a folder"),
     ("/dev/full", ": no space is left"),
 ])
-@pytest.mark.parametrize("option", ["--map", "--json", "--sarif", "--core", "--trace-file"])
+@pytest.mark.parametrize(
+    "option", ["--map", "--json", "--sarif", "--html", "--core", "--trace-file"])
 def test_a_file_that_cannot_be_written(
     alone: pathlib.Path, tmp_path: pathlib.Path, option: str, place: str, reason: str
 ) -> None:

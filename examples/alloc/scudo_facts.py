@@ -11,8 +11,8 @@ import tempfile
 HERE = pathlib.Path(__file__).resolve().parent
 sys.path.insert(0, str(HERE.parent / "embed"))
 import tombolopan as tb  # noqa: E402
+from scudo_library import NoScudo, archives, link_words, with_options  # noqa: E402
 
-ARCHIVES = ("libclang_rt.scudo_standalone-x86_64.a", "libclang_rt.scudo_standalone_cxx-x86_64.a")
 PLAIN = (1 << 56) - 1
 MISTAKES = ("misaligned", "unmapped", "corrupt", "freed", "within", "misaligned_freed",
             "freed_corrupt", "misaligned_corrupt", "realloc_freed", "realloc_misaligned",
@@ -25,33 +25,20 @@ REALLOCATIONS = ((24, 40), (24, 16), (24, 48), (24, 49), (100, 112), (100, 113),
 REUSES = ((24, 3), (72, 28), (136, 64), (600, 64))
 QUARANTINE = "thread_local_quarantine_size_kb=64:quarantine_size_kb=256:" \
              "quarantine_max_chunk_size=2048"
-# Without GWP-ASan, which puts one chunk in some 5,000, chosen at random, between guard pages.
-OPTIONS = "GWP_ASAN_Enabled=false"
 Facts = dict[str, str]
 
 
 # LLVM's Scudo.
 
 def build_probe(folder: pathlib.Path) -> pathlib.Path:
-    """The program over LLVM's Scudo, as Debian's libclang-rt-14-dev has it."""
+    """The program over LLVM's Scudo."""
+    program = folder / "scudo_probe"
     try:
-        told = subprocess.run(["clang", "--print-resource-dir"], stdout=subprocess.PIPE, text=True,
-                              check=True)
-        library = pathlib.Path(told.stdout.strip()) / "lib" / "linux"
-        if not all((library / name).exists() for name in ARCHIVES):
-            sys.exit(f"beside_scudo.py: {library} has no Scudo (Debian's libclang-rt-14-dev)")
-        program = folder / "scudo_probe"
         subprocess.run(["clang", "-O1", "-fno-builtin", "-o", program, HERE / "scudo_probe.c",
-                        "-Wl,--whole-archive", *(library / name for name in ARCHIVES),
-                        "-Wl,--no-whole-archive", "-lpthread", "-ldl"], check=True)
-    except (FileNotFoundError, subprocess.CalledProcessError) as error:
+                        *link_words(archives())], check=True)
+    except (NoScudo, OSError, subprocess.CalledProcessError) as error:
         sys.exit(f"beside_scudo.py: {error}")
     return program
-
-
-def with_options(more: str) -> dict[str, str]:
-    """The variables of a run with options of Scudo's."""
-    return {**os.environ, "SCUDO_OPTIONS": f"{OPTIONS}:{more}" if more else OPTIONS}
 
 
 def run_probe(

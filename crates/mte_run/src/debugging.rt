@@ -136,12 +136,25 @@ fn debug<'a, 'x>(
 ) -> Result<u8, Failure<'a>>
     requires { 0 < admission.now.terms.pages }
 {
-    let tenant = match Debuggee::new(rt.alloc(), admission, cuts) {
-        Ok(tenant) => tenant,
-        Err(Obstacle::OutOfMemory) => return Err(Failure::Memory),
-        Err(Obstacle::Refused(error)) => return Ok(refuse(rt, error)),
-    };
+    match Debuggee::new(rt.alloc(), admission, cuts) {
+        Ok(tenant) => debug_tenant(rt, tenant, subject),
+        Err(Obstacle::OutOfMemory) => Err(Failure::Memory),
+        Err(Obstacle::Refused(error)) => Ok(refuse(rt, error)),
+    }
+}
+
+/// Answers GDB of a tenant at its first instruction.
+fn debug_tenant<'a, 'x>(
+    rt: &HostRuntime,
+    tenant: Debuggee<'x>,
+    subject: DebugSubject<'x>,
+) -> Result<u8, Failure<'a>> {
     let mut front = Front::new(rt.alloc(), tenant, subject);
-    serve(rt.alloc(), &mut front, &mut rt.stdin(), &mut rt.stdout())?;
+    answer_all(rt, &mut front)
+}
+
+/// Answers GDB up to the end of its packets.
+fn answer_all<'a>(rt: &HostRuntime, front: &mut Front<'_>) -> Result<u8, Failure<'a>> {
+    serve(rt.alloc(), front, &mut rt.stdin(), &mut rt.stdout())?;
     Ok(0)
 }

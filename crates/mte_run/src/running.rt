@@ -87,15 +87,27 @@ fn run_bench<'a>(
     bench: TenantBench,
 ) -> Result<u8, Failure<'a>> {
     let mut observer = observer_of(rt, options, image.bytes, suppressions)?;
-    let mut bench = bench;
-    tenant.run(rt, options, &mut bench, &mut observer)?;
     let run = Run {
         image: *image,
         suppressions,
         seed: Some(tenant.seed),
         mode: options.run.terms.mode,
     };
-    tell_end(rt, bench, &mut observer, options, &run)
+    run_observed(rt, options, &run, tenant, bench, &mut observer)
+}
+
+/// The same with what remembers the run. It borrows that, so that none of its ends has to drop it.
+fn run_observed<'a>(
+    rt: &HostRuntime,
+    options: &'a Options,
+    run: &Run<'_>,
+    tenant: &LoneTenant<'_>,
+    bench: TenantBench,
+    observer: &mut Observer<'_, Log>,
+) -> Result<u8, Failure<'a>> {
+    let mut bench = bench;
+    tenant.run(rt, options, &mut bench, observer)?;
+    tell_end(rt, bench, observer, options, run)
 }
 
 /// Runs what a session does to one tenant, and writes its lines of the report.
@@ -124,8 +136,19 @@ fn run_session<'a>(
     suppressions: &Suppressions,
 ) -> Result<u8, Failure<'a>> {
     let mut observer = observer_of(rt, options, admitted_image(session), suppressions)?;
-    match session.run(rt, options, &mut observer)? {
-        Some(found) => tell_replay(rt, options, session, suppressions, found, &mut observer),
+    run_session_observed(rt, options, session, suppressions, &mut observer)
+}
+
+/// The same with what remembers the run. It borrows that, so that none of its ends has to drop it.
+fn run_session_observed<'a>(
+    rt: &HostRuntime,
+    options: &'a Options,
+    session: &SessionReplay<'a, '_>,
+    suppressions: &Suppressions,
+    observer: &mut Observer<'_, Log>,
+) -> Result<u8, Failure<'a>> {
+    match session.run(rt, options, observer)? {
+        Some(found) => tell_replay(rt, options, session, suppressions, found, observer),
         None => refuse_unadmitted(rt, session.replay, session.events, session.files),
     }
 }

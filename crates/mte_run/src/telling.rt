@@ -8,6 +8,7 @@ use address_map::GRANULE_SIZE;
 use check_kinds::Suppressions;
 use elf_core::CoreSubject;
 use heap_bounds::{Allocation, made_by};
+use heap_page::HeapPage;
 use mte_backtrace::Names;
 use mte_flat::Flat;
 use mte_report::Report;
@@ -113,13 +114,36 @@ fn tell_parts<'a>(
         reserved: reserved_pages(rt.alloc(), options, memory)?,
         seed: run.seed,
     };
-    let lost = lost_chunks(rt.alloc(), parts, observer, memory)?;
-    let is_named = !lost.is_empty() || is_told(parts, observer, options);
-    let named = named_bytes(&run.image, is_named);
-    let names = Names::of(rt.alloc(), named)?;
+    let chunks = lost_chunks(rt.alloc(), parts, observer, memory)?;
+    let is_named = !chunks.is_empty() || is_told(parts, observer, options);
+    let names = Names::of(rt.alloc(), named_bytes(&run.image, is_named))?;
     let report = report_of(parts, observer, options, &names, run.image.name, numbers);
-    let has_lost = tell_lost(rt, &report, lost.as_slice(), run.suppressions)?;
-    tell_run(rt, &report, options, has_lost, memory)
+    let lost = LostChunks {
+        chunks: chunks.as_slice(),
+        suppressions: run.suppressions,
+    };
+    tell_found(rt, &report, options, &lost, memory)
+}
+
+/// The chunks that a tenant has lost.
+#[derive(Clone, Copy)]
+struct LostChunks<'x> {
+    chunks: &'x [LostChunk],
+    /// What is not told of them.
+    suppressions: &'x Suppressions,
+}
+
+/// Writes which chunks are lost, and what the options request. It borrows what it writes, so that
+/// none of its ends has to drop that.
+fn tell_found<'a>(
+    rt: &HostRuntime,
+    report: &Report<'_>,
+    options: &'a Options,
+    lost: &LostChunks<'_>,
+    memory: &mut Flat,
+) -> Result<u8, Failure<'a>> {
+    let has_lost = tell_lost(rt, report, lost.chunks, lost.suppressions)?;
+    tell_run(rt, report, options, has_lost, memory)
 }
 
 /// The bytes of an image that has names, or none where none is written.
@@ -149,7 +173,7 @@ fn report_of<'x, 'n, 'o>(
         parts,
         book: &observer.book,
         last: Some(observer.last()),
-        last_count: options.output.last,
+        last_count: options.output.last_lines,
         turns: observer.turns(),
         limit: options.limit(),
         names,
@@ -203,6 +227,7 @@ fn is_told(parts: &TenantParts, observer: &Observer<'_, Log>, options: &Options)
         || output.map.is_some()
         || output.json.is_some()
         || output.sarif.is_some()
+        || output.page.is_some()
 }
 
 /// Writes what the options request, on standard error.
@@ -233,6 +258,7 @@ fn write_files<'a>(
     let named = [
         (&options.output.json, DocumentForm::Json),
         (&options.output.sarif, DocumentForm::Sarif),
+        (&options.output.page, DocumentForm::Page),
     ];
     for (name, form) in named.iter() {
         if let Some(name) = name {
@@ -334,6 +360,8 @@ enum DocumentForm {
     Json,
     /// Editors and forges, which read SARIF.
     Sarif,
+    /// Browsers.
+    Page,
 }
 
 /// Writes a document into the file with a name.
@@ -348,6 +376,7 @@ fn write_document(
     match form {
         DocumentForm::Json => document.write_json(&mut out, memory),
         DocumentForm::Sarif => document.write_sarif(&mut out, memory),
+        DocumentForm::Page => HeapPage(document).write(&mut out, memory),
     }
 }
 

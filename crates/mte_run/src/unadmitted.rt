@@ -88,15 +88,23 @@ fn first_refusal<'a>(
     events: &[Event],
     files: &[Vec<u8>],
 ) -> Result<Option<RefusedAdmission>, Failure<'a>> {
-    let Ok(mut host) = Host::new(alloc, replay.frames) else {
-        return Err(Failure::Memory);
-    };
+    match Host::new(alloc, replay.frames) {
+        Ok(mut host) => first_refusal_by(alloc, &mut host, replay.id, events, files),
+        Err(_) => Err(Failure::Memory),
+    }
+}
+
+/// The same by a host that has no tenant yet.
+fn first_refusal_by<'a>(
+    alloc: Global,
+    host: &mut Host,
+    own: u16,
+    events: &[Event],
+    files: &[Vec<u8>],
+) -> Result<Option<RefusedAdmission>, Failure<'a>> {
     for (before, event) in events.iter().enumerate() {
         let left = host.pool().unreserved();
-        match (
-            decide(alloc, &mut host, event, files),
-            terms_of(replay.id, event),
-        ) {
+        match (decide(alloc, host, event, files), terms_of(own, event)) {
             (Err(Obstacle::OutOfMemory), _) => return Err(Failure::Memory),
             (Err(Obstacle::Refused(Refusal::Admit(error))), Some(terms)) => {
                 return Ok(Some(RefusedAdmission {

@@ -213,6 +213,8 @@ fn told_options<'a>(alloc: Global, command: Command<'a>) -> Result<Command<'a>, 
     let command = command.arg(named(alloc, "json", "FILE", help))?;
     let help = "Writes what happened into a file, as a log in SARIF 2.1.0";
     let command = command.arg(named(alloc, "sarif", "FILE", help))?;
+    let help = "Writes a page into a file that shows the heap step by step, for a browser";
+    let command = command.arg(named(alloc, "html", "FILE", help))?;
     let help = "Ends with 138 where a tenant that exits wrote more than there was room for";
     let command = command.arg(flag(alloc, "whole-output", help))?;
     line_options(alloc, command)

@@ -13,11 +13,12 @@ pub(crate) fn has_shared_name(options: &Options) -> bool {
 }
 
 /// The names of the files that are written.
-fn written_names(options: &Options) -> [Option<&str>; 5] {
+fn written_names(options: &Options) -> [Option<&str>; 6] {
     let output = &options.output;
     [
         name_of(&output.json),
         name_of(&output.sarif),
+        name_of(&output.page),
         name_of(&output.map).filter(|name| *name != "-" && *name != "text"),
         name_of(&output.core),
         name_of(&output.trace_file),

@@ -54,11 +54,23 @@ pub struct Traced {
     pub services: bool,
 }
 
+/// Of a run that is watched from its first step on, and writes no line.
+const NO_LINES: Traced = Traced {
+    from: 1,
+    to: 0,
+    services: false,
+};
+
+/// How many of the last instructions are remembered at least for a page.
+const PAGE_STEPS: usize = 8_192;
+
 /// What is written of a run.
 #[derive(Drop)]
 pub struct OutputOptions {
-    /// How many of the last instructions are written.
+    /// How many of the last instructions are remembered.
     pub last: usize,
+    /// How many of them are written.
+    pub last_lines: usize,
     /// How many of the last calls and returns are written.
     pub turns: usize,
     /// The lines that are written while it runs.
@@ -75,6 +87,8 @@ pub struct OutputOptions {
     pub json: Option<String>,
     /// The name of the file that what happened is written into as a log in SARIF.
     pub sarif: Option<String>,
+    /// The name of the file that a page is written into which shows the heap step by step.
+    pub page: Option<String>,
     /// Whether accesses are to keep to the bytes of chunks.
     pub exact: Exactness,
     /// What is checked beside the tags.
@@ -161,8 +175,8 @@ impl Fault {
             Fault::Frames => "--frames is for a session: it wants --script",
             Fault::RawOutput => "--raw-output is for a session: it wants --script",
             Fault::Names => {
-                "--json, --sarif, --map, --core and --trace-file want different files, and none \
-                 that is read"
+                "--json, --sarif, --html, --map, --core and --trace-file want different files, \
+                 and none that is read"
             }
             Fault::Script => {
                 "--script has two values, a file and a tenant's number, and wants --frames"
@@ -321,20 +335,34 @@ impl RunLength {
 impl OutputOptions {
     /// What is written of a run.
     fn of(alloc: Global, matches: &ArgMatches<'_>) -> Result<OutputOptions, Obstacle<Fault>> {
+        let page = matches.get_str("html").is_some();
+        let last_lines = matches.get_one::<u32>("last").unwrap_or(16) as usize;
+        let check = checked_by(matches.get_str("check"))?;
+        let traced = traced_by(matches.get_str("trace"), matches.get_flag("services"))?;
         Ok(OutputOptions {
-            last: matches.get_one::<u32>("last").unwrap_or(16) as usize,
+            last: if page {
+                last_lines.max(PAGE_STEPS)
+            } else {
+                last_lines
+            },
+            last_lines,
             turns: matches.get_one::<u32>("calls").unwrap_or(0) as usize,
-            traced: traced_by(matches.get_str("trace"), matches.get_flag("services"))?,
+            traced: if page {
+                traced.or(Some(NO_LINES))
+            } else {
+                traced
+            },
             trace_file: name_of(alloc, matches, "trace-file")?,
             leaks: matches.get_flag("leaks"),
             statistics: matches.get_flag("statistics"),
             map: name_of(alloc, matches, "map")?,
             json: name_of(alloc, matches, "json")?,
             sarif: name_of(alloc, matches, "sarif")?,
+            page: name_of(alloc, matches, "html")?,
             core: name_of(alloc, matches, "core")?,
             is_whole: matches.get_flag("whole-output"),
             is_raw: matches.get_flag("raw-output"),
-            check: checked_by(matches.get_str("check"))?,
+            check,
             suppressions: name_of(alloc, matches, "suppressions")?,
             found_status: status_of(matches, "check-status"),
             lost_status: status_of(matches, "lost-status"),

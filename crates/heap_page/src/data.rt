@@ -1,0 +1,81 @@
+//! A page, and its data as JSON (RFC 8259).
+
+use crate::calls::{push_frames, shown_calls, write_calls};
+use crate::code::Code;
+use crate::frame::{BEFORE_DATA, BEFORE_SCRIPT, BEFORE_STYLE, END};
+use crate::rows::write_rows;
+use crate::script::SCRIPT;
+use crate::style::STYLE;
+use mte_backtrace::{FrameAddresses, FrameNames};
+use mte_flat::Flat;
+use mte_report::Context;
+use report_documents::Document;
+use run_book::BookEntry;
+use std::alloc::AllocError;
+use std::io;
+use std::io::Write;
+
+/// A page over what happened to a tenant.
+#[derive(Clone, Copy)]
+pub struct HeapPage<'a>(pub &'a Document<'a>);
+
+impl<'a> HeapPage<'a> {
+    /// Writes the page, in ASCII but for the letters of names.
+    pub fn write<W: Write>(&self, out: &mut W, memory: &mut Flat) -> io::Result<()> {
+        let mut data = Vec::new(self.0.alloc);
+        self.write_data(&mut data, memory)?;
+        write!(out, "{BEFORE_STYLE}{STYLE}{BEFORE_DATA}")?;
+        write_inside(out, data.as_slice())?;
+        write!(out, "{BEFORE_SCRIPT}{SCRIPT}{END}")?;
+        out.flush()
+    }
+
+    /// Writes the data: the document in JSON of the run, and what happened to the heap.
+    fn write_data<W: Write>(&self, out: &mut W, memory: &mut Flat) -> io::Result<()> {
+        write!(out, "{{\"run\":")?;
+        self.0.write_json(out, memory)?;
+        let entries = shown_calls(self.0.alloc, self.0.report.book)?;
+        let code = Code::of(self.0.alloc, self.0.report)?;
+        self.write_events(out, entries.as_slice(), &code)?;
+        write_rows(out, self.0, entries.as_slice(), memory)?;
+        write!(out, "}}")
+    }
+
+    /// Writes the heap calls and the instructions.
+    fn write_events<W: Write>(
+        &self,
+        out: &mut W,
+        entries: &[BookEntry],
+        code: &Code,
+    ) -> io::Result<()> {
+        let names = self.names(entries, code)?;
+        let context = Context {
+            alloc: self.0.alloc,
+            report: self.0.report,
+            names: &names,
+        };
+        write_calls(out, &context, entries)?;
+        code.write(out, &context)
+    }
+
+    /// What the addresses of calls and instructions are called.
+    fn names(&self, entries: &[BookEntry], code: &Code) -> Result<FrameNames<'a>, AllocError> {
+        let mut frames = FrameAddresses::new(self.0.alloc);
+        push_frames(self.0, entries, &mut frames)?;
+        code.push_frames(&mut frames)?;
+        self.0.report.names.of_frames(self.0.alloc, &frames)
+    }
+}
+
+/// Writes JSON as it may be inside an element of a page: each `<` by its number.
+fn write_inside<W: Write>(out: &mut W, data: &[u8]) -> io::Result<()> {
+    let mut is_first = true;
+    for part in data.split(|byte| *byte == b'<') {
+        if !is_first {
+            write!(out, "\\u003c")?;
+        }
+        out.write_all(part)?;
+        is_first = false;
+    }
+    Ok(())
+}

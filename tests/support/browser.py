@@ -1,0 +1,114 @@
+"""A page in headless Chromium, by the DevTools protocol over a pipe: keys, values, errors."""
+
+import json
+import os
+import pathlib
+import shutil
+import subprocess
+from types import TracebackType
+from typing import Any, Optional, Type
+
+import pytest
+
+NAME = "chromium"
+CODES = {"ArrowLeft": 37, "ArrowRight": 39, "Home": 36, "End": 35, "PageUp": 33, "PageDown": 34,
+         "Tab": 9}
+FAILURES = ("Runtime.exceptionThrown", "Log.entryAdded")
+
+
+class Browser:
+    """One page. Its profile is in a folder that the caller has."""
+
+    def __init__(self, page: pathlib.Path, folder: pathlib.Path) -> None:
+        if shutil.which(NAME) is None:
+            pytest.skip(f"{NAME} is not installed: the page was not opened in a browser")
+        commands, self.commands = os.pipe()
+        self.answers, answers = os.pipe()
+        words = f'exec "$0" "$@" 3<&{commands} 4>&{answers}'
+        self.process = subprocess.Popen(
+            ["bash", "-c", words, NAME, "--headless", "--no-sandbox", "--disable-gpu",
+             "--remote-debugging-pipe", f"--user-data-dir={folder}", "about:blank"],
+            pass_fds=(commands, answers), stderr=subprocess.DEVNULL)
+        os.close(commands)
+        os.close(answers)
+        self.rest, self.number = b"", 0
+        self.session: Optional[str] = None
+        self.events: list[Any] = []
+        self.open(page)
+
+    def __enter__(self) -> "Browser":
+        return self
+
+    def __exit__(self, kind: Optional[Type[BaseException]], error: Optional[BaseException],
+                 trace: Optional[TracebackType]) -> None:
+        self.process.terminate()
+        self.process.wait(60)
+        os.close(self.commands)
+        os.close(self.answers)
+
+    def open(self, page: pathlib.Path) -> None:
+        """Opens the page, and waits until it is loaded."""
+        targets = self.call("Target.getTargets")["targetInfos"]
+        target = next(it["targetId"] for it in targets if it["type"] == "page")
+        self.session = self.call("Target.attachToTarget", targetId=target, flatten=True)[
+            "sessionId"]
+        for domain in ("Page", "Runtime", "Log", "Network"):
+            self.call(f"{domain}.enable")
+        self.call("Page.navigate", url=page.as_uri())
+        while not any(event.get("method") == "Page.loadEventFired" for event in self.events):
+            self.events.append(self.read())
+
+    def read(self) -> Any:
+        """The next message."""
+        while b"\0" not in self.rest:
+            part = os.read(self.answers, 65536)
+            assert part, f"{NAME} ended"
+            self.rest += part
+        message, self.rest = self.rest.split(b"\0", 1)
+        return json.loads(message)
+
+    def call(self, method: str, **parameters: Any) -> Any:
+        """What a command answers."""
+        self.number += 1
+        words: dict[str, Any] = {"id": self.number, "method": method, "params": parameters}
+        if self.session is not None:
+            words["sessionId"] = self.session
+        os.write(self.commands, json.dumps(words).encode() + b"\0")
+        while True:
+            message = self.read()
+            if message.get("id") == self.number:
+                assert "error" not in message, message
+                return message["result"]
+            self.events.append(message)
+
+    def value(self, expression: str) -> Any:
+        """The value of an expression of JavaScript."""
+        answer = self.call("Runtime.evaluate", expression=expression, returnByValue=True)
+        assert "exceptionDetails" not in answer, answer
+        return answer["result"].get("value")
+
+    def text(self, name: str) -> str:
+        """The text of an element."""
+        return str(self.value(f"document.getElementById('{name}').textContent"))
+
+    def press(self, name: str) -> None:
+        """Presses a key."""
+        for kind in ("rawKeyDown", "keyUp"):
+            self.call("Input.dispatchKeyEvent", type=kind, key=name, code=name,
+                      windowsVirtualKeyCode=CODES[name])
+
+    def show_as(self, width: int, media: str = "", scheme: str = "light") -> None:
+        """Shows the page in another width, for print, or in dark."""
+        self.call("Emulation.setDeviceMetricsOverride", width=width, height=800,
+                  deviceScaleFactor=1, mobile=False)
+        self.call("Emulation.setEmulatedMedia", media=media,
+                  features=[{"name": "prefers-color-scheme", "value": scheme}])
+
+    def failures(self) -> list[Any]:
+        """What the page's script threw, and what the browser refused or could not load."""
+        return [event for event in self.events if event.get("method") in FAILURES]
+
+    def requests(self) -> list[str]:
+        """What was loaded."""
+        return [event["params"]["request"]["url"] for event in self.events
+                if event.get("method") == "Network.requestWillBeSent"]
