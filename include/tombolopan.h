@@ -4,10 +4,9 @@
  *
  * All memory is the caller's and is lent to each call: files, an array of places for pages, the tag
  * state, the registers. There is no handle. The library keeps nothing between calls, and only
- * tb_session, tb_alone, tb_machine_acts, tb_machine_pages, tb_heap_calls and tb_heap_replay allocate,
- * for their own time. So the
- * caller may read and write all of it between calls, copy it, or place it in a file. Every content
- * has a meaning:
+ * tb_session, tb_alone, tb_machine_acts, tb_machine_pages, tb_heap_calls and tb_heap_replay
+ * allocate, for their own time. So the caller may read and write all of it between calls, copy it,
+ * or place it in a file. Every content has a meaning:
  *
  * - A place with `mapped` 0 is free; zero bytes are free places and the synchronous mode.
  * - Of several places of one page the first counts.
@@ -305,6 +304,12 @@ typedef struct tb_machine_act {
     tb_fault fault;  /* the fault of TB_FAULT; else zero */
 } tb_machine_act;
 
+/* How a tenant's machine ended. */
+typedef struct tb_machine_end {
+    tb_alone_end alone; /* what is told of a tenant alone */
+    tb_regs regs;       /* its registers */
+} tb_machine_end;
+
 /* A page that is mapped. */
 typedef struct tb_page_entry {
     uint64_t number; /* the plain address of its first byte divided by 4096 */
@@ -392,6 +397,7 @@ TB_ASSERT(sizeof(tb_status) == 48 && offsetof(tb_status, fault) == 24);
 TB_ASSERT(sizeof(tb_kept_call) == 32 && offsetof(tb_kept_call, answer) == 24);
 TB_ASSERT(sizeof(tb_alone_end) == 88 && offsetof(tb_alone_end, status) == 32);
 TB_ASSERT(sizeof(tb_machine_act) == 64 && offsetof(tb_machine_act, fault) == 40);
+TB_ASSERT(sizeof(tb_machine_end) == 360 && offsetof(tb_machine_end, regs) == 88);
 TB_ASSERT(sizeof(tb_page_entry) == 16 && offsetof(tb_page_entry, attrs) == 8);
 
 /* The version of these layouts and calls, TB_VERSION. */
@@ -433,16 +439,16 @@ uint32_t tb_alone(const tb_terms *terms, uint8_t *output, size_t output_room, tb
 /*
  * Admits a tenant alone, with its heap and its services, and does acts to its machine in order:
  * slices, and between them reads and writes of registers and memory. Enters the code and the answer
- * of each, then copies the machine's registers to `regs`, and its output and heap calls as tb_alone
- * does. An act that faults or is none changes nothing, and those behind it are done; a slice of a
+ * of each, then copies the machine's registers to end->regs, and its output and heap calls as
+ * tb_alone does. An act that faults or is none changes nothing, and those behind it are done; a slice of a
  * tenant that has ended does nothing. The machine ends with this call; it is a function of `terms`
  * and of the acts, so the same array with more acts behind it goes on where this one ended. The
- * slices of `terms` are not looked at. TB_REFUSED and TB_OUT_OF_MEMORY change nothing but `end`.
- * It answers end->code.
+ * slices of `terms` are not looked at. TB_REFUSED and TB_OUT_OF_MEMORY change nothing but
+ * end->alone. It answers end->alone.code.
  */
-uint32_t tb_machine_acts(const tb_terms *terms, tb_machine_act *acts, size_t count, tb_regs *regs,
-                         uint8_t *output, size_t output_room, tb_kept_call *calls,
-                         size_t call_room, tb_alone_end *end);
+uint32_t tb_machine_acts(const tb_terms *terms, tb_machine_act *acts, size_t count, uint8_t *output,
+                         size_t output_room, tb_kept_call *calls, size_t call_room,
+                         tb_machine_end *end);
 
 /*
  * Does acts to a tenant's machine as tb_machine_acts does, and copies as many of its pages as
@@ -770,28 +776,26 @@ static inline bool tb_are_terms(const tb_terms *terms, const void *written, size
  * argument.
  */
 static inline uint32_t tb_checked_machine_acts(const tb_terms *terms, tb_machine_act *acts,
-                                               size_t count, tb_regs *regs, uint8_t *output,
-                                               size_t output_room, tb_kept_call *calls,
-                                               size_t call_room, tb_alone_end *end) {
-    const void *its[5];
-    size_t sizes[5];
-    if (!tb_is_array(acts, count, sizeof *acts, 8) || !tb_is_array(regs, 1, sizeof *regs, 8) ||
-        !tb_is_array(output, output_room, 1, 1) ||
+                                               size_t count, uint8_t *output, size_t output_room,
+                                               tb_kept_call *calls, size_t call_room,
+                                               tb_machine_end *end) {
+    const void *its[4];
+    size_t sizes[4];
+    if (!tb_is_array(acts, count, sizeof *acts, 8) || !tb_is_array(output, output_room, 1, 1) ||
         !tb_is_array(calls, call_room, sizeof *calls, 8) || !tb_is_array(end, 1, sizeof *end, 8))
         return TB_BAD_ARGUMENT;
     its[0] = acts, sizes[0] = count * sizeof *acts;
-    its[1] = regs, sizes[1] = sizeof *regs;
-    its[2] = output, sizes[2] = output_room;
-    its[3] = calls, sizes[3] = call_room * sizeof *calls;
-    its[4] = end, sizes[4] = sizeof *end;
-    for (int i = 0; i < 5; i++) {
+    its[1] = output, sizes[1] = output_room;
+    its[2] = calls, sizes[2] = call_room * sizeof *calls;
+    its[3] = end, sizes[3] = sizeof *end;
+    for (int i = 0; i < 4; i++) {
         if (!tb_are_terms(terms, its[i], sizes[i]))
             return TB_BAD_ARGUMENT;
-        for (int k = i + 1; k < 5; k++)
+        for (int k = i + 1; k < 4; k++)
             if (!tb_are_apart(its[i], sizes[i], its[k], sizes[k]))
                 return TB_BAD_ARGUMENT;
     }
-    return tb_machine_acts(terms, acts, count, regs, output, output_room, calls, call_room, end);
+    return tb_machine_acts(terms, acts, count, output, output_room, calls, call_room, end);
 }
 
 /* tb_machine_pages that answers TB_BAD_ARGUMENT in the same cases. */

@@ -409,6 +409,14 @@ pub struct MachineAct {
     pub fault: Fault,
 }
 
+/// How a tenant's machine ended.
+#[repr(C)]
+#[derive(Clone, Copy, Debug, Default)]
+pub struct MachineEnd {
+    pub alone: AloneEnd,
+    pub regs: Regs,
+}
+
 /// A page that is mapped.
 #[repr(C)]
 #[derive(Clone, Copy, Debug, Default)]
@@ -460,6 +468,7 @@ const _: () = assert!(size_of::<Stop>() == 40 && size_of::<HeapCall>() == 56);
 const _: () = assert!(size_of::<Bytes>() == 16 && size_of::<SessionEnd>() == 24);
 const _: () = assert!(size_of::<RawTerms>() == 72 && size_of::<AloneEnd>() == 88);
 const _: () = assert!(size_of::<MachineAct>() == 64 && size_of::<PageEntry>() == 16);
+const _: () = assert!(size_of::<MachineEnd>() == 360);
 
 unsafe extern "C" {
     safe fn tb_version() -> u32;
@@ -486,12 +495,11 @@ unsafe extern "C" {
         terms: *const RawTerms,
         acts: *mut MachineAct,
         count: usize,
-        regs: *mut Regs,
         output: *mut u8,
         output_room: usize,
         calls: *mut KeptCall,
         call_room: usize,
-        end: *mut AloneEnd,
+        end: *mut MachineEnd,
     ) -> u32;
     fn tb_machine_pages(
         terms: *const RawTerms,
@@ -680,16 +688,15 @@ impl Terms<'_> {
 pub fn machine_acts(
     terms: &Terms<'_>,
     acts: &mut [MachineAct],
-    regs: &mut Regs,
     output: &mut [u8],
     calls: &mut [KeptCall],
-) -> AloneEnd {
+) -> MachineEnd {
     let raw = terms.raw(&[]);
-    let mut end = AloneEnd::default();
+    let mut end = MachineEnd::default();
     let (done, count) = (acts.as_mut_ptr(), acts.len());
     let (bytes, room) = (output.as_mut_ptr(), output.len());
     let (kept, most) = (calls.as_mut_ptr(), calls.len());
-    unsafe { tb_machine_acts(&raw, done, count, regs, bytes, room, kept, most, &mut end) };
+    unsafe { tb_machine_acts(&raw, done, count, bytes, room, kept, most, &mut end) };
     end
 }
 

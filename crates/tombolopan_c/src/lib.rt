@@ -42,7 +42,7 @@ pub use lent_page::LentPage;
 pub use lent_regs::LentRegs;
 pub use lent_step::HeapStep;
 pub use lent_terms::LentTerms;
-pub use machine_calls::{tb_machine_acts, tb_machine_pages};
+pub use machine_calls::{MachineEnd, tb_machine_acts, tb_machine_pages};
 pub use memory_calls::{tb_load, tb_load_tag, tb_read, tb_store_tags, tb_write};
 pub use page_calls::{tb_map, tb_memory_init, tb_unmap, tb_version};
 pub use replay_calls::tb_heap_replay;

@@ -19,37 +19,47 @@ use machine_acts::{ActedMachine, MachineAct, PageEntry, page_map};
 use obstacle::Obstacle;
 use std::alloc::Global;
 
+/// How a tenant's machine ended.
+#[repr(C)]
+#[derive(Clone, Copy)]
+pub struct MachineEnd {
+    /// What is told of a tenant alone.
+    pub alone: AloneEnd,
+    /// Its registers.
+    pub regs: LentRegs,
+}
+
 /// Admits a tenant alone and does acts to its machine in order: slices, and between them reads and
 /// writes of registers and memory. Enters the answer of each, and then copies its registers, and of
 /// its output and its last 64 heap calls as much as the buffers hold, as `tb_alone` does. The
 /// slices of `terms` are not looked at. It is a function of `terms` and of the acts, so the same
 /// acts with more behind them go on where these came to. OK where the buffers hold all; NO_ROOM
-/// where they do not. REFUSED and OUT_OF_MEMORY change nothing but `end`.
+/// where they do not. REFUSED and OUT_OF_MEMORY change nothing but `end.alone`.
 #[unsafe(no_mangle)]
 pub extern "C" fn tb_machine_acts(
     alloc: Global,
     terms: &LentTerms<'_>,
     acts: &mut [MachineAct],
-    regs: &mut LentRegs,
     output: &mut [u8],
     calls: &mut [KeptCall],
-    end: &mut AloneEnd,
+    end: &mut MachineEnd,
 ) -> u32
-    ensures code { result ≡ end.new.code }
+    ensures code { result ≡ end.new.alone.code }
     ensures count { length acts.new ≡ length acts.old }
-    ensures acted { HasActed terms.now acts.old acts.new (regs_of regs.old) (regs_of regs.new)
+    ensures acted { HasActed terms.now acts.old acts.new
+        (regs_of end.old.regs) (regs_of end.new.regs)
         (record { output = output.old; calls = calls.old })
-        (record { output = output.new; calls = calls.new }) end.new }
+        (record { output = output.new; calls = calls.new }) end.new.alone }
 {
-    *end = match ActedMachine::new(alloc, &terms.admission()) {
+    end.alone = match ActedMachine::new(alloc, &terms.admission()) {
         Ok(mut machine) => {
             machine.make_all(acts);
-            regs.set(&machine.parts.regs);
+            end.regs.set(&machine.parts.regs);
             told(&machine.parts.history, output, calls)
         }
         Err(obstacle) => AloneEnd::of_obstacle(obstacle),
     };
-    end.code
+    end.alone.code
 }
 
 /// Admits a tenant alone, does acts to its machine as `tb_machine_acts` does, and copies as many of

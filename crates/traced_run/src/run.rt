@@ -228,8 +228,9 @@ fn advance<M: Tagged>(
 /// each access that is completed, those that are asked for, from the start of the arrays on. It
 /// stops after the first outcome that is not `Next`, where PC is one of the stops after one, and
 /// before an instruction where an array has no room left. An array without room is not wanted, and
-/// never full. Where `full` is set, nothing else has ended it and one of the arrays has no room left.
-/// No clause says what accesses are entered, but that they are no more than there is room for.
+/// never full. Where `full` is set, nothing else has ended it and one of the arrays has no room
+/// left. No clause says what accesses are entered, but that they are no more than there is room
+/// for.
 pub fn run_traced<M: Tagged>(
     regs: &mut Regs,
     memory: &mut M,

@@ -223,6 +223,10 @@ class _MachineAct(ctypes.Structure):
     ]
 
 
+class _MachineEnd(ctypes.Structure):
+    _fields_ = [("alone", _AloneEnd), ("regs", _Regs)]
+
+
 class _PageEntry(ctypes.Structure):
     _fields_ = [("number", c_uint64), ("attrs", c_uint32), ("unused", c_uint32)]
 
@@ -267,8 +271,8 @@ _CALLS = {
         POINTER(_Terms), c_void_p, c_size_t, POINTER(_KeptCall), c_size_t, POINTER(_AloneEnd),
     ],
     "tb_machine_acts": [
-        POINTER(_Terms), POINTER(_MachineAct), c_size_t, POINTER(_Regs), c_void_p, c_size_t,
-        POINTER(_KeptCall), c_size_t, POINTER(_AloneEnd),
+        POINTER(_Terms), POINTER(_MachineAct), c_size_t, c_void_p, c_size_t, POINTER(_KeptCall),
+        c_size_t, POINTER(_MachineEnd),
     ],
     "tb_machine_pages": [
         POINTER(_Terms), POINTER(_MachineAct), c_size_t, POINTER(_PageEntry), c_size_t,

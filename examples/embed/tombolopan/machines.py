@@ -7,7 +7,8 @@ from ctypes import byref, c_uint64
 
 from .abi import ACT_LOAD, ACT_LOAD_TAG, ACT_SET, ACT_SLICE, ACT_STORE
 from .abi import FAULT, NO_ROOM, OUT_OF_MEMORY, REFUSED
-from .abi import _AloneEnd, _KeptCall, _MachineAct, _PageEntry, _Terms, _lend, _library
+from .abi import _KeptCall, _MachineAct, _MachineEnd, _PageEntry, _Regs, _Terms, _lend
+from .abi import _library
 from .enums import Attrs, Refusal, TenantStatus
 from .faults import Fault, Refused
 from .memory import Region
@@ -159,22 +160,20 @@ class Machine:
 
     def _call(self, made: ctypes.Array[_MachineAct], regs: Regs) -> Tenant:
         """What a tenant alone is after acts."""
-        output, calls, end = ctypes.create_string_buffer(65536), (_KeptCall * 64)(), _AloneEnd()
-        left = regs.copy()
+        output, calls, end = ctypes.create_string_buffer(65536), (_KeptCall * 64)(), _MachineEnd()
         code = _library.tb_machine_acts(
-            byref(self._terms), made, len(made) - 1, byref(left._held), output, 65536, calls, 64,
-            byref(end),
+            byref(self._terms), made, len(made) - 1, output, 65536, calls, 64, byref(end)
         )
         if code == OUT_OF_MEMORY:
             raise MemoryError
         if code == REFUSED:
-            raise Refused(Refusal.of(end.refusal))
+            raise Refused(Refusal.of(end.alone.refusal))
         assert code != NO_ROOM
         for it in made[: len(made) - 1]:
             if it.code == FAULT:
                 raise Fault.of(it.fault)
-        regs.restore(left)
-        return tenant_of(end, output.raw, calls)
+        ctypes.memmove(byref(regs._held), byref(end.regs), ctypes.sizeof(_Regs))
+        return tenant_of(end.alone, output.raw, calls)
 
     def __repr__(self) -> str:
         return (f"Machine({self.tenant.status}, {self.tenant.steps} steps, "
