@@ -411,7 +411,7 @@ pub struct MachineAct {
 
 /// How a tenant's machine ended.
 #[repr(C)]
-#[derive(Clone, Copy, Debug, Default)]
+#[derive(Clone, Copy, Default)]
 pub struct MachineEnd {
     pub alone: AloneEnd,
     pub regs: Regs,

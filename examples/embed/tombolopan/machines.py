@@ -32,12 +32,13 @@ class Machine:
     all of it anew, in one call of the library, so it takes the time of all steps so far: choose
     slices as long as can be. Refused tells why the tenant is not admitted.
 
+    >>> from tombolopan import example
     >>> machine = Machine(example("hi.elf"), pages=5, room=16)
     >>> tenant = machine.slice(4)
     >>> tenant.status, tenant.steps, tenant.output
     (TenantStatus.RUNNING, 4, b'')
-    >>> hex(machine.regs.pc), [it.attrs for it in machine.regions()]
-    ('0x10010', [<Attrs.READ|EXEC: 5>, <Attrs.READ|WRITE|TAGGED: 11>])
+    >>> hex(machine.regs.pc), machine.regions()[0]
+    ('0x10010', Region(0x10000, 0x1000, READ|EXEC))
     >>> machine.read(machine.regs.x0, 2)
     b'Hi'
     >>> machine.regs.x1 = 1  # how many bytes it writes
