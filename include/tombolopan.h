@@ -4,9 +4,9 @@
  *
  * All memory is the caller's and is lent to each call: files, an array of places for pages, the tag
  * state, the registers. There is no handle. The library keeps nothing between calls, and only
- * tb_session, tb_alone, tb_heap_calls and tb_heap_replay allocate, for their own time. So the
- * caller may read and write all of it between calls, copy it, or place it in a file. Every content
- * has a meaning:
+ * tb_session, tb_alone, tb_machine_acts, tb_machine_pages, tb_heap_calls and tb_heap_replay
+ * allocate, for their own time. So the caller may read and write all of it between calls, copy it,
+ * or place it in a file. Every content has a meaning:
  *
  * - A place with `mapped` 0 is free; zero bytes are free places and the synchronous mode.
  * - Of several places of one page the first counts.
@@ -145,6 +145,16 @@ enum tb_access_kind {
     TB_ACCESS_WRITE_TAG = 8 /* allocation tags are written (STG; STGP writes bytes too) */
 };
 
+/* What is done to a machine between its slices, or a slice (tb_machine_act). */
+enum tb_act {
+    TB_ACT_SLICE = 1,   /* a slice of at most `number` steps; it answers the steps so far */
+    TB_ACT_GET = 2,     /* reads the register `number`: x0 to x30 0 to 30, SP 31, PC 32 */
+    TB_ACT_SET = 3,     /* makes `value` the register `number` */
+    TB_ACT_LOAD = 4,    /* reads the 8 bytes at `addr`, the lowest first, and compares no tags */
+    TB_ACT_STORE = 5,   /* writes `value` as the 8 bytes at `addr`, and compares no tags */
+    TB_ACT_LOAD_TAG = 6 /* reads the allocation tag of the granule that holds `addr` */
+};
+
 // End of what tools/border.py writes.
 
 /* A place for a page. */
@@ -279,6 +289,34 @@ typedef struct tb_heap_step {
     uint32_t second_of;
 } tb_heap_step;
 
+/*
+ * Something that is done to a machine between its slices, or a slice. act, number, addr and value
+ * are read, the rest is written.
+ */
+typedef struct tb_machine_act {
+    uint32_t act;    /* tb_act */
+    uint32_t number; /* the most steps of TB_ACT_SLICE; of TB_ACT_GET and TB_ACT_SET the register */
+    uint64_t addr;   /* of TB_ACT_LOAD, TB_ACT_STORE and TB_ACT_LOAD_TAG */
+    uint64_t value;  /* what TB_ACT_SET and TB_ACT_STORE write */
+    uint64_t answer; /* what was read; of TB_ACT_SLICE the steps so far */
+    uint32_t code;   /* TB_OK or TB_FAULT; TB_BAD_ARGUMENT where act is none, or the register */
+    uint32_t unused;
+    tb_fault fault;  /* the fault of TB_FAULT; else zero */
+} tb_machine_act;
+
+/* How a tenant's machine ended. */
+typedef struct tb_machine_end {
+    tb_alone_end alone; /* what is told of a tenant alone */
+    tb_regs regs;       /* its registers */
+} tb_machine_end;
+
+/* A page that is mapped. */
+typedef struct tb_page_entry {
+    uint64_t number; /* the plain address of its first byte divided by 4096 */
+    uint32_t attrs;  /* a sum of tb_attrs */
+    uint32_t unused; /* 0 */
+} tb_page_entry;
+
 /* What is asked of tb_run_traced. Each range has its last address in it; none may be empty. */
 typedef struct tb_trace_request {
     const uint64_t *stops; /* addresses at which it stops after an instruction */
@@ -358,6 +396,9 @@ TB_ASSERT(sizeof(tb_terms) == 72 && offsetof(tb_terms, seed) == 48 &&
 TB_ASSERT(sizeof(tb_status) == 48 && offsetof(tb_status, fault) == 24);
 TB_ASSERT(sizeof(tb_kept_call) == 32 && offsetof(tb_kept_call, answer) == 24);
 TB_ASSERT(sizeof(tb_alone_end) == 88 && offsetof(tb_alone_end, status) == 32);
+TB_ASSERT(sizeof(tb_machine_act) == 64 && offsetof(tb_machine_act, fault) == 40);
+TB_ASSERT(sizeof(tb_machine_end) == 360 && offsetof(tb_machine_end, regs) == 88);
+TB_ASSERT(sizeof(tb_page_entry) == 16 && offsetof(tb_page_entry, attrs) == 8);
 
 /* The version of these layouts and calls, TB_VERSION. */
 uint32_t tb_version(void);
@@ -394,6 +435,29 @@ uint32_t tb_session(uint32_t frames, const uint8_t *script, size_t script_length
  */
 uint32_t tb_alone(const tb_terms *terms, uint8_t *output, size_t output_room, tb_kept_call *calls,
                   size_t call_room, tb_alone_end *end);
+
+/*
+ * Admits a tenant alone, with its heap and its services, and does acts to its machine in order:
+ * slices, and between them reads and writes of registers and memory. Enters the code and the answer
+ * of each, then copies the machine's registers to end->regs, and its output and heap calls as
+ * tb_alone does. An act that faults or is none changes nothing, and those behind it are done; a slice of a
+ * tenant that has ended does nothing. The machine ends with this call; it is a function of `terms`
+ * and of the acts, so the same array with more acts behind it goes on where this one ended. The
+ * slices of `terms` are not looked at. TB_REFUSED and TB_OUT_OF_MEMORY change nothing but
+ * end->alone. It answers end->alone.code.
+ */
+uint32_t tb_machine_acts(const tb_terms *terms, tb_machine_act *acts, size_t count, uint8_t *output,
+                         size_t output_room, tb_kept_call *calls, size_t call_room,
+                         tb_machine_end *end);
+
+/*
+ * Does acts to a tenant's machine as tb_machine_acts does, and copies as many of its pages as
+ * `pages` holds, each once, in no order. TB_OK where it holds all, TB_NO_ROOM where it does not:
+ * *mapped is how many there are. TB_REFUSED and TB_OUT_OF_MEMORY, with *mapped 0, leave `pages` as
+ * it was.
+ */
+uint32_t tb_machine_pages(const tb_terms *terms, tb_machine_act *acts, size_t count,
+                          tb_page_entry *pages, size_t room, uint64_t *mapped);
 
 /* Makes each place free, sets the tag mode and clears the flag: a memory without pages. */
 void tb_memory_init(tb_page *pages, size_t count, tb_tag_state *state, bool asynchronous);
@@ -689,6 +753,64 @@ static inline uint32_t tb_checked_heap_replay(const tb_heap_setup *setup, tb_hea
         !tb_are_apart(setup, sizeof *setup, bad, sizeof *bad))
         return TB_BAD_ARGUMENT;
     return tb_heap_replay(setup, steps, count, bad);
+}
+
+/*
+ * Whether what a tenant begins with may be lent, its arrays too, and has no byte in common with an
+ * array that is written.
+ */
+static inline bool tb_are_terms(const tb_terms *terms, const void *written, size_t size) {
+    return tb_is_array(terms, 1, sizeof *terms, 8) &&
+           tb_is_array(terms->image, terms->image_length, 1, 1) &&
+           tb_is_array(terms->input, terms->input_length, 1, 1) &&
+           tb_is_array(terms->slices, terms->slice_count, 4, 4) &&
+           tb_are_apart(terms, sizeof *terms, written, size) &&
+           tb_are_apart(terms->image, terms->image_length, written, size) &&
+           tb_are_apart(terms->input, terms->input_length, written, size) &&
+           tb_are_apart(terms->slices, terms->slice_count * 4, written, size);
+}
+
+/*
+ * tb_machine_acts that answers TB_BAD_ARGUMENT, and changes nothing, where a pointer is null or
+ * misaligned, an array is larger than the address space, or what is written overlaps another
+ * argument.
+ */
+static inline uint32_t tb_checked_machine_acts(const tb_terms *terms, tb_machine_act *acts,
+                                               size_t count, uint8_t *output, size_t output_room,
+                                               tb_kept_call *calls, size_t call_room,
+                                               tb_machine_end *end) {
+    const void *its[4];
+    size_t sizes[4];
+    if (!tb_is_array(acts, count, sizeof *acts, 8) || !tb_is_array(output, output_room, 1, 1) ||
+        !tb_is_array(calls, call_room, sizeof *calls, 8) || !tb_is_array(end, 1, sizeof *end, 8))
+        return TB_BAD_ARGUMENT;
+    its[0] = acts, sizes[0] = count * sizeof *acts;
+    its[1] = output, sizes[1] = output_room;
+    its[2] = calls, sizes[2] = call_room * sizeof *calls;
+    its[3] = end, sizes[3] = sizeof *end;
+    for (int i = 0; i < 4; i++) {
+        if (!tb_are_terms(terms, its[i], sizes[i]))
+            return TB_BAD_ARGUMENT;
+        for (int k = i + 1; k < 4; k++)
+            if (!tb_are_apart(its[i], sizes[i], its[k], sizes[k]))
+                return TB_BAD_ARGUMENT;
+    }
+    return tb_machine_acts(terms, acts, count, output, output_room, calls, call_room, end);
+}
+
+/* tb_machine_pages that answers TB_BAD_ARGUMENT in the same cases. */
+static inline uint32_t tb_checked_machine_pages(const tb_terms *terms, tb_machine_act *acts,
+                                                size_t count, tb_page_entry *pages, size_t room,
+                                                uint64_t *mapped) {
+    if (!tb_is_array(acts, count, sizeof *acts, 8) ||
+        !tb_is_array(pages, room, sizeof *pages, 8) || !tb_is_array(mapped, 1, 8, 8) ||
+        !tb_are_terms(terms, acts, count * sizeof *acts) ||
+        !tb_are_terms(terms, pages, room * sizeof *pages) || !tb_are_terms(terms, mapped, 8) ||
+        !tb_are_apart(acts, count * sizeof *acts, pages, room * sizeof *pages) ||
+        !tb_are_apart(acts, count * sizeof *acts, mapped, 8) ||
+        !tb_are_apart(pages, room * sizeof *pages, mapped, 8))
+        return TB_BAD_ARGUMENT;
+    return tb_machine_pages(terms, acts, count, pages, room, mapped);
 }
 
 /*

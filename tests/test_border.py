@@ -22,6 +22,9 @@ STRUCTS = {
     "HeapSetup": ("tb_heap_setup", "HeapSetup", "_HeapSetup"),
     "LentHeapCall": ("tb_heap_call", "HeapCall", "_HeapCall"),
     "HeapStep": ("tb_heap_step", "HeapStep", "_HeapStep"),
+    "MachineAct": ("tb_machine_act", "MachineAct", "_MachineAct"),
+    "MachineEnd": ("tb_machine_end", "MachineEnd", "_MachineEnd"),
+    "PageEntry": ("tb_page_entry", "PageEntry", "_PageEntry"),
     "TraceRequest": ("tb_trace_request", "RawTraceRequest", "_TraceRequest"),
     "TracedInstruction": ("tb_traced_instruction", "TracedInstruction", "_TracedInstruction"),
     "TracedAccess": ("tb_traced_access", "TracedAccess", "_TracedAccess"),
@@ -37,6 +40,7 @@ CALLS = [
     "tb_version", "tb_build_info", "tb_session", "tb_alone", "tb_memory_init", "tb_map", "tb_unmap",
     "tb_read", "tb_write", "tb_load", "tb_load_tag", "tb_store_tags", "tb_step", "tb_run",
     "tb_run_until", "tb_heap_calls", "tb_heap_replay", "tb_run_traced", "tb_disassemble",
+    "tb_machine_acts", "tb_machine_pages",
 ]
 FOLDERS = ("crates", "docs", "include", "examples", "tools")
 FIELD = r"(?<=^    pub )\w+: [^,\n]+(?=,)|(?<=^    )(?!pub )\w+: [^,\n]+(?=,)"

@@ -8,7 +8,8 @@ from collections.abc import Callable, Iterator
 
 import pytest
 
-from tests.support.embedding import heaps, memory, runs, sessions, tenants, watching
+from tests.support.embedding import heaps, machines, memory, runs, sessions, tenants
+from tests.support.embedding import watching
 from tests.support.embedding.built import COMPILERS, DRIVERS, EMBED, Program, in_c, in_python
 from tests.support.embedding.built import program
 from tests.support.embedding.folders import make, words_of
@@ -36,6 +37,8 @@ GROUPS: dict[str, Callable[[], Iterator[Line]]] = {
     "sessions": lambda: itertools.chain(sessions.ended(), sessions.faults()),
     "tenants": lambda: itertools.chain(tenants.ends(), tenants.outputs(), tenants.refusals()),
     "heap calls": tenants.heap_calls,
+    "machines": lambda: itertools.chain(machines.acts(), machines.edges(), machines.pages(),
+                                        machines.hostile()),
     "replays": heaps.replays,
     "traced runs": lambda: itertools.chain(watching.mixed(), watching.ends(), watching.tags()),
     "disassembly": watching.texts,
@@ -260,7 +263,7 @@ def test_each_call_is_made() -> None:
     """The lines of this file make every call of the library and of the header."""
     text = (ROOT / "include" / "tombolopan.h").read_text(encoding="utf-8")
     declared = set(re.findall(r"^(?:static inline )?[\w *]*?\b(tb_\w+)\(", text, re.M))
-    assert len(declared) == 19 + 19
+    assert len(declared) == 21 + 22
     source = (DRIVERS / "calls.c").read_text(encoding="utf-8")
     assert declared <= set(re.findall(r"\b(tb_\w+)\(", source))
     known = {"heap", *(it.text.split()[0] for lines in GROUPS.values() for it in lines())}
@@ -275,5 +278,5 @@ def test_each_call_is_made_from(language: str, file: str) -> None:
              if language in it.languages}
     assert names >= {"version", "session", "alone", "places", "map", "unmap", "read", "write",
                      "load", "load_tag", "store_tags", "step", "run", "until", "heap", "replay",
-                     "traced"}
+                     "traced", "machine", "mapped"}
     assert (DRIVERS / file).exists()

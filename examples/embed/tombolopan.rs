@@ -80,6 +80,13 @@ pub const TB_ACCESS_WRITE: u32 = 2;
 pub const TB_ACCESS_READ_TAG: u32 = 4;
 pub const TB_ACCESS_WRITE_TAG: u32 = 8;
 
+pub const TB_ACT_SLICE: u32 = 1;
+pub const TB_ACT_GET: u32 = 2;
+pub const TB_ACT_SET: u32 = 3;
+pub const TB_ACT_LOAD: u32 = 4;
+pub const TB_ACT_STORE: u32 = 5;
+pub const TB_ACT_LOAD_TAG: u32 = 6;
+
 // End of what tools/border.py writes.
 
 // Written by tools/border.py: the texts
@@ -388,6 +395,37 @@ pub struct AloneEnd {
     pub refusal: u32,
 }
 
+/// Something that is done to a machine between its slices, or a slice.
+#[repr(C)]
+#[derive(Clone, Copy, Debug, Default)]
+pub struct MachineAct {
+    pub act: u32,
+    pub number: u32,
+    pub addr: u64,
+    pub value: u64,
+    pub answer: u64,
+    pub code: u32,
+    pub unused: u32,
+    pub fault: Fault,
+}
+
+/// How a tenant's machine ended.
+#[repr(C)]
+#[derive(Clone, Copy, Default)]
+pub struct MachineEnd {
+    pub alone: AloneEnd,
+    pub regs: Regs,
+}
+
+/// A page that is mapped.
+#[repr(C)]
+#[derive(Clone, Copy, Debug, Default)]
+pub struct PageEntry {
+    pub number: u64,
+    pub attrs: u32,
+    pub unused: u32,
+}
+
 #[repr(C)]
 struct Bytes {
     bytes: *const u8,
@@ -429,6 +467,8 @@ const _: () = assert!(size_of::<Page>() == 4368 && size_of::<Regs>() == 272);
 const _: () = assert!(size_of::<Stop>() == 40 && size_of::<HeapCall>() == 56);
 const _: () = assert!(size_of::<Bytes>() == 16 && size_of::<SessionEnd>() == 24);
 const _: () = assert!(size_of::<RawTerms>() == 72 && size_of::<AloneEnd>() == 88);
+const _: () = assert!(size_of::<MachineAct>() == 64 && size_of::<PageEntry>() == 16);
+const _: () = assert!(size_of::<MachineEnd>() == 360);
 
 unsafe extern "C" {
     safe fn tb_version() -> u32;
@@ -450,6 +490,24 @@ unsafe extern "C" {
         calls: *mut KeptCall,
         call_room: usize,
         end: *mut AloneEnd,
+    ) -> u32;
+    fn tb_machine_acts(
+        terms: *const RawTerms,
+        acts: *mut MachineAct,
+        count: usize,
+        output: *mut u8,
+        output_room: usize,
+        calls: *mut KeptCall,
+        call_room: usize,
+        end: *mut MachineEnd,
+    ) -> u32;
+    fn tb_machine_pages(
+        terms: *const RawTerms,
+        acts: *mut MachineAct,
+        count: usize,
+        pages: *mut PageEntry,
+        room: usize,
+        mapped: *mut u64,
     ) -> u32;
     fn tb_memory_init(pages: *mut Page, count: usize, state: *mut TagState, asynchronous: bool);
     fn tb_map(pages: *mut Page, count: usize, number: u64, attrs: u32) -> u32;
@@ -607,6 +665,56 @@ pub struct Terms<'a> {
     pub asynchronous: bool,
 }
 
+impl Terms<'_> {
+    fn raw(&self, slices: &[u32]) -> RawTerms {
+        RawTerms {
+            image: self.image.as_ptr(),
+            image_length: self.image.len(),
+            input: self.input.as_ptr(),
+            input_length: self.input.len(),
+            slices: slices.as_ptr(),
+            slice_count: slices.len(),
+            seed: self.seed,
+            pages: self.pages,
+            room: self.room,
+            asynchronous: self.asynchronous.into(),
+            unused: 0,
+        }
+    }
+}
+
+/// Admits a tenant alone, does acts to its machine in order, and copies its registers, and as much
+/// of its output and of its last 64 heap calls as there is room for.
+pub fn machine_acts(
+    terms: &Terms<'_>,
+    acts: &mut [MachineAct],
+    output: &mut [u8],
+    calls: &mut [KeptCall],
+) -> MachineEnd {
+    let raw = terms.raw(&[]);
+    let mut end = MachineEnd::default();
+    let (done, count) = (acts.as_mut_ptr(), acts.len());
+    let (bytes, room) = (output.as_mut_ptr(), output.len());
+    let (kept, most) = (calls.as_mut_ptr(), calls.len());
+    unsafe { tb_machine_acts(&raw, done, count, bytes, room, kept, most, &mut end) };
+    end
+}
+
+/// Does acts to a tenant's machine as `machine_acts` does, and copies as many of its pages as there
+/// is room for: the answer, and how many there are.
+pub fn machine_pages(
+    terms: &Terms<'_>,
+    acts: &mut [MachineAct],
+    pages: &mut [PageEntry],
+) -> (u32, u64) {
+    let raw = terms.raw(&[]);
+    let mut mapped = 0;
+    let (done, count) = (acts.as_mut_ptr(), acts.len());
+    let (entries, room) = (pages.as_mut_ptr(), pages.len());
+    let code = unsafe { tb_machine_pages(&raw, done, count, entries, room, &mut mapped) };
+    (code, mapped)
+}
+
 /// Runs a tenant alone for its slices, and copies as much of its output and of its last 64 heap
 /// calls as there is room for.
 pub fn alone(
@@ -615,19 +723,7 @@ pub fn alone(
     output: &mut [u8],
     calls: &mut [KeptCall],
 ) -> AloneEnd {
-    let raw = RawTerms {
-        image: terms.image.as_ptr(),
-        image_length: terms.image.len(),
-        input: terms.input.as_ptr(),
-        input_length: terms.input.len(),
-        slices: slices.as_ptr(),
-        slice_count: slices.len(),
-        seed: terms.seed,
-        pages: terms.pages,
-        room: terms.room,
-        asynchronous: terms.asynchronous.into(),
-        unused: 0,
-    };
+    let raw = terms.raw(slices);
     let mut end = AloneEnd::default();
     let (bytes, room) = (output.as_mut_ptr(), output.len());
     unsafe { tb_alone(&raw, bytes, room, calls.as_mut_ptr(), calls.len(), &mut end) };

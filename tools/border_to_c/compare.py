@@ -11,7 +11,9 @@ from .tables import SOURCE, Tables, read
 
 CRATE = "crates/tombolopan_c/src"
 # All sources that declare what crosses the border.
-FOLDERS = (CRATE, "crates/traced_run/src")
+FOLDERS = (
+    CRATE, "crates/call_reports/src", "crates/machine_acts/src", "crates/traced_run/src",
+)
 Read = Callable[[str], str]
 Names = tuple[tuple[str, str], ...]  # of a language, each with the name of C
 
@@ -136,12 +138,12 @@ def padding(crate: Border) -> Iterator[str]:
 
 def code_numbers(read_file: Read, tables: Tables) -> Iterator[str]:
     """What differs between the tables and the constants of the crates."""
-    listed = {"crates/tombolopan_c/src/codes.rt": {**tables.unnamed}}
+    listed = {"crates/call_reports/src/codes.rt": {**tables.unnamed}}
     for it in tables.enums:
         listed.setdefault(it.code, {}).update({at.name: at.number for at in it.entries})
     for path, wanted in listed.items():
         found = rusty.constants(read_file(path))
-        if not path.startswith(CRATE):
+        if not path.startswith((CRATE, "crates/call_reports/src")):
             found = {name: found.get(name, -1) for name in wanted}
         yield from same_numbers(path, wanted, found)
     if tables.unnamed["VERSION"] != tables.version:

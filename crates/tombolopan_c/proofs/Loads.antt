@@ -3,7 +3,7 @@ use Rattle.std.proofs.Common.{◌≡◌, ℕ, zero, suc, ◌+◌, ◌-◌, ◌<�
 use Rattle.mte_tags.specs.Memory.{Memory, page_at}
 use Rattle.mte_script.proofs.ScriptLemmas.{both_true}
 use Rattle.mte_tags.specs.Accesses.{addresses, AreMapped}
-use Rattle.tombolopan_c.specs.Faults.{all_mapped}
+use Rattle.tombolopan_c.specs.MemoryCodes.{all_mapped}
 
 pub mapped_next :
     (m : Memory) (a n : ℕ) → 0 < n → is_some (page_at m (a / 4096)) ≡ true

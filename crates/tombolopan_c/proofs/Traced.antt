@@ -1,19 +1,20 @@
 -- What is told of a traced run.
-use Rattle.std.proofs.Common.{◌≡◌, ◌≤◌, ◌∙◌, List, None, false, sym, ap, subst}
+use Rattle.std.proofs.Common.{◌≡◌, ◌≤◌, ◌∙◌, ℕ, List, length, None, true, false, sym, ap, subst}
 use Rattle.mte_tags.specs.Memory.{Memory}
 use Rattle.a64_registers.specs.declared.registers.Regs.{Regs}
-use Rattle.traced_run.specs.Traces.{Trace, trace_of, Holds, IsTraced}
+use Rattle.traced_run.specs.Traces.{Trace, trace_of, Holds, IsTraced, IsFull}
 use Rattle.traced_run.specs.declared.lists.TracedInstruction.{TracedInstruction}
 use Rattle.traced_run.specs.declared.request.TraceRequest.{TraceRequest}
 use Rattle.traced_run.specs.declared.run.TraceEnd.{TraceEnd}
 use Rattle.tombolopan_c.specs.LentTraces.{end_report, HasTraced}
 use Rattle.tombolopan_c.specs.declared.traces.TraceReport.{TraceReport}
 
-pub has_traced : (q : TraceRequest) (r0 r1 : Regs) (m0 m1 : Memory) (old now : List TracedInstruction) (e : TraceEnd) (r r' : Regs) (m : Memory) (t : TraceReport)
+pub has_traced : (q : TraceRequest) (r0 r1 : Regs) (m0 m1 : Memory) (old now : List TracedInstruction) (room : ℕ) (e : TraceEnd) (r r' : Regs) (m : Memory) (t : TraceReport)
     → r0 ≡ r1 → m0 ≡ m1 → r' ≡ r → t ≡ end_report e → IsTraced q r0 m0 old e r m now → e.steps ≤ q.steps
     → (e.outcome ≡ None → e.reached ≡ false → e.full ≡ false → e.steps ≡ q.steps)
-    → HasTraced q r1 m1 old t r' now
-has_traced q r0 r1 m0 m1 old now e r r' m t f g h told i within whole =
+    → (e.full ≡ true → IsFull e (length old) room) → e.accesses ≤ room
+    → HasTraced q r1 m1 old room t r' now
+has_traced q r0 r1 m0 m1 old now room e r r' m t f g h told i within whole full entered =
     let n = e.steps in
     let steps : t.steps ≡ n = ap (λ (x : TraceReport). x.steps) told in
     let same : trace_of n q r0 m0 ≡ trace_of t.steps q r1 m1 =
@@ -29,4 +30,6 @@ has_traced q r0 r1 m0 m1 old now e r r' m t f g h told i within whole =
       instructions = subst (λ (x : Trace). Holds x.instructions old now t.instructions) same counted;
       within = subst (λ k. k ≤ q.steps) (sym steps) within;
       whole = λ a b c. steps ∙ whole a b c;
+      full = full;
+      entered = subst (λ k. k ≤ room) (sym (ap (λ (x : TraceReport). x.accesses) told)) entered;
     }

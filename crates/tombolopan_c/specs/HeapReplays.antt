@@ -4,7 +4,7 @@ use Rattle.std.specs.Prelude.{List, [], ◌∷◌, Option, Some, None, is_some, 
 use Rattle.std.specs.Prelude.{if◌then◌else◌}
 use Rattle.scudo_heap.specs.Placing.{World}
 use Rattle.tombolopan_c.specs.HeapCalls.{op_of, after_heap_call, with_bad_argument}
-use Rattle.tombolopan_c.specs.declared.codes.TheConstants.{OK, FREE, STORE}
+use Rattle.call_reports.specs.declared.codes.TheConstants.{OK, FREE, STORE}
 use Rattle.tombolopan_c.specs.declared.lent_heap.LentHeapCall.{LentHeapCall}
 use Rattle.tombolopan_c.specs.declared.lent_step.HeapStep.{HeapStep}
 

@@ -1,15 +1,15 @@
 -- A traced run over lent memory, and what is told of its end.
-use Rattle.std.specs.Prelude.{◌≡◌, ℕ, ◌&&◌, ◌≤◌, Bool, nat_le, nat_lt, List, false, None}
+use Rattle.std.specs.Prelude.{◌≡◌, ℕ, ◌&&◌, ◌≤◌, Bool, nat_le, nat_lt, List, length, true, false, None}
 use Rattle.std.specs.Prelude.{if◌then◌else◌}
 use Rattle.mte_tags.specs.Memory.{Memory}
 use Rattle.a64_registers.specs.declared.registers.Regs.{Regs}
-use Rattle.traced_run.specs.Traces.{trace_of, Holds}
+use Rattle.traced_run.specs.Traces.{trace_of, Holds, IsFull}
 use Rattle.traced_run.specs.declared.lists.TracedInstruction.{TracedInstruction}
 use Rattle.traced_run.specs.declared.request.TraceRequest.{TraceRequest}
 use Rattle.traced_run.specs.declared.run.TraceEnd.{TraceEnd}
-use Rattle.tombolopan_c.specs.Faults.{no_fault}
+use Rattle.call_reports.specs.Faults.{no_fault}
 use Rattle.tombolopan_c.specs.Stops.{stop_code, stop_number, stop_fault}
-use Rattle.tombolopan_c.specs.declared.codes.TheConstants.{BAD_ARGUMENT, NO_ROOM, STOPPED}
+use Rattle.call_reports.specs.declared.codes.TheConstants.{BAD_ARGUMENT, NO_ROOM, STOPPED}
 use Rattle.tombolopan_c.specs.declared.traces.TraceReport.{TraceReport}
 
 -- Ranges begin before they end, and kinds are kinds.
@@ -43,9 +43,9 @@ end_report e = record {
 }
 
 -- What a traced run of C has left of the registers and in its array is what its first steps leave,
--- and its end is told.
+-- and its end is told. Its array of accesses has room for `room` of them.
 pub record HasTraced (q : TraceRequest) (r0 : Regs) (m0 : Memory) (old : List TracedInstruction)
-    (t : TraceReport) (r : Regs) (now : List TracedInstruction) : Type 0 where
+    (room : ℕ) (t : TraceReport) (r : Regs) (now : List TracedInstruction) : Type 0 where
   pub end : TraceEnd
   pub told : t ≡ end_report end
   pub regs : r ≡ (trace_of t.steps q r0 m0).regs
@@ -54,3 +54,5 @@ pub record HasTraced (q : TraceRequest) (r0 : Regs) (m0 : Memory) (old : List Tr
   pub instructions : Holds (trace_of t.steps q r0 m0).instructions old now t.instructions
   pub within : t.steps ≤ q.steps
   pub whole : end.outcome ≡ None → end.reached ≡ false → end.full ≡ false → t.steps ≡ q.steps
+  pub full : end.full ≡ true → IsFull end (length old) room
+  pub entered : t.accesses ≤ room

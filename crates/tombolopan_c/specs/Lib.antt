@@ -4,10 +4,11 @@ pub mod HeapReplays
 pub mod LentMemory
 pub mod LentPlaces
 pub mod LentRegisters
-pub mod Faults
+pub mod MemoryCodes
 pub mod Stops
 pub mod RunsUntil
 pub mod LentTraces
 pub mod LentBuffers
 pub mod LentSessions
 pub mod LoneTenants
+pub mod LentMachines

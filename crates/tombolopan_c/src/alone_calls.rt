@@ -4,7 +4,7 @@ ghost use Rattle.std.specs.Prelude.{◌≡◌, length};
 ghost use Rattle.tombolopan_c.specs.LoneTenants.{HasLived, record_end, buffers_after};
 
 use crate::alone_end::AloneEnd;
-use crate::codes::{NO_ROOM, OK};
+use call_reports::{NO_ROOM, OK};
 use crate::kept_calls::{KeptCall, told_calls};
 use crate::lent_bytes::copy_to;
 use crate::lent_terms::LentTerms;
@@ -37,7 +37,7 @@ pub extern "C" fn tb_alone(
 }
 
 /// Copies the output and the heap calls of a record, and returns what is reported of it.
-fn told(log: &Record, output: &mut [u8], calls: &mut [KeptCall]) -> AloneEnd
+pub(crate) fn told(log: &Record, output: &mut [u8], calls: &mut [KeptCall]) -> AloneEnd
     ensures end { result ≡ record_end log.now (length output.old) (length calls.old) }
     ensures buffers { (record { output = output.new; calls = calls.new })
         ≡ buffers_after log.now (record { output = output.old; calls = calls.old }) }

@@ -4,7 +4,7 @@ ghost use Rattle.std.specs.Prelude.{◌≡◌, ◌<◌, ◌^◌, IfSome, IsNone,
 ghost use Rattle.mte_tags.specs.Accesses.{addresses};
 ghost use Rattle.mte_tags.specs.Memory.{page_at};
 ghost use Rattle.mte_tags.specs.declared.state.TagState.{TagState};
-ghost use Rattle.tombolopan_c.specs.Faults.{all_mapped};
+ghost use Rattle.tombolopan_c.specs.MemoryCodes.{all_mapped};
 ghost use Rattle.tombolopan_c.specs.LentPages.{IsFirst, HasNone, IsFree, has_room, lent_memory};
 
 use crate::lent_page::LentPage;

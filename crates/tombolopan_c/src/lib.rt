@@ -1,13 +1,12 @@
 //! Sessions, a tenant alone, a tagged memory, a step, a run and a heap for programs in C: exports
 //! over memory that the caller lends to each call. Nothing is kept between calls, and only
-//! `tb_session`, `tb_alone`, `tb_heap_calls` and `tb_heap_replay` allocate.
+//! `tb_session`, `tb_alone`, `tb_machine_acts`, `tb_machine_pages`, `tb_heap_calls` and
+//! `tb_heap_replay` allocate.
 #![tactic(auto)]
 
 mod alone_calls;
 mod alone_end;
 mod build_calls;
-mod codes;
-mod faults;
 mod find;
 mod heap_lists;
 mod kept_calls;
@@ -18,6 +17,7 @@ mod lent_page;
 mod lent_regs;
 mod lent_step;
 mod lent_terms;
+mod machine_calls;
 mod memory_calls;
 mod page_calls;
 mod replay_calls;
@@ -33,11 +33,6 @@ mod traces;
 pub use alone_calls::tb_alone;
 pub use alone_end::AloneEnd;
 pub use build_calls::tb_build_info;
-pub use codes::{
-    aborts_in_digits, answers_in_digits, faults_in_digits, heap_calls_in_digits, pages_in_digits,
-    refusals_in_digits, script_faults_in_digits, statuses_in_digits,
-};
-pub use faults::FaultReport;
 pub use heap_lists::tb_heap_calls;
 pub use kept_calls::KeptCall;
 pub use lent::LentTagState;
@@ -47,6 +42,7 @@ pub use lent_page::LentPage;
 pub use lent_regs::LentRegs;
 pub use lent_step::HeapStep;
 pub use lent_terms::LentTerms;
+pub use machine_calls::{MachineEnd, tb_machine_acts, tb_machine_pages};
 pub use memory_calls::{tb_load, tb_load_tag, tb_read, tb_store_tags, tb_write};
 pub use page_calls::{tb_map, tb_memory_init, tb_unmap, tb_version};
 pub use replay_calls::tb_heap_replay;

@@ -6,12 +6,13 @@ ghost use Rattle.mte_tags.specs.Memory.{tag_at, with_granules};
 ghost use Rattle.mte_tags.specs.Accesses.{read_fault, read_bytes, after_read, write_fault};
 ghost use Rattle.mte_tags.specs.Accesses.{after_write, tags_fault, tag_load_fault, with_bytes_at};
 ghost use Rattle.tombolopan_c.specs.LentPages.{lent_memory, state_of};
-ghost use Rattle.tombolopan_c.specs.Faults.{fault_code, fault_report, no_fault, tags_code};
-ghost use Rattle.tombolopan_c.specs.Faults.{tags_report, load_code};
-ghost use Rattle.tombolopan_c.specs.declared.codes.TheConstants.{OK};
+ghost use Rattle.call_reports.specs.Faults.{fault_code, fault_report, no_fault};
+ghost use Rattle.tombolopan_c.specs.MemoryCodes.{tags_code};
+ghost use Rattle.tombolopan_c.specs.MemoryCodes.{tags_report, load_code};
+ghost use Rattle.call_reports.specs.declared.codes.TheConstants.{OK};
 
-use crate::codes::{BAD_ARGUMENT, NOT_MAPPED, OK};
-use crate::faults::{FaultReport, report};
+use call_reports::{BAD_ARGUMENT, NOT_MAPPED, OK};
+use call_reports::{FaultReport, report};
 use crate::find::are_mapped;
 use crate::lent::{Lent, LentTagState};
 use crate::lent_page::LentPage;

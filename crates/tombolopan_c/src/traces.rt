@@ -1,14 +1,14 @@
 //! The export of a run whose instructions and accesses are entered in arrays of the caller.
 
-ghost use Rattle.std.specs.Prelude.{◌≡◌, false, true};
+ghost use Rattle.std.specs.Prelude.{◌≡◌, length, false, true};
 ghost use Rattle.traced_run.specs.Traces.{trace_of};
 ghost use Rattle.tombolopan_c.specs.LentPages.{lent_memory, state_of};
 ghost use Rattle.tombolopan_c.specs.LentRegisters.{regs_of};
 ghost use Rattle.tombolopan_c.specs.LentTraces.{is_request, end_report, no_steps, HasTraced};
-ghost use Rattle.tombolopan_c.specs.declared.codes.TheConstants.{BAD_ARGUMENT};
+ghost use Rattle.call_reports.specs.declared.codes.TheConstants.{BAD_ARGUMENT};
 
-use crate::codes::{BAD_ARGUMENT, NO_ROOM, STOPPED};
-use crate::faults::FaultReport;
+use call_reports::{BAD_ARGUMENT, NO_ROOM, STOPPED};
+use call_reports::FaultReport;
 use crate::lent::{Lent, LentTagState};
 use crate::lent_page::LentPage;
 use crate::lent_regs::LentRegs;
@@ -104,13 +104,14 @@ pub extern "C" fn tb_run_traced(
     ensures kept_memory { is_request request.now ≡ false
         → lent_memory (state_of state.new) pages.new ≡ lent_memory (state_of state.old) pages.old }
     ensures kept_lists { is_request request.now ≡ false → instructions.new ≡ instructions.old }
+    ensures kept_accesses { is_request request.now ≡ false → accesses.new ≡ accesses.old }
     ensures memory { is_request request.now ≡ true
         → lent_memory (state_of state.new) pages.new
         ≡ (trace_of end.new.steps request.now (regs_of regs.old)
         (lent_memory (state_of state.old) pages.old)).memory }
     ensures traced { is_request request.now ≡ true
         → HasTraced request.now (regs_of regs.old) (lent_memory (state_of state.old) pages.old)
-        instructions.old end.new (regs_of regs.new) instructions.new }
+        instructions.old (length accesses.old) end.new (regs_of regs.new) instructions.new }
 {
     if !is_in_range(request) {
         *end = TraceReport::refused();

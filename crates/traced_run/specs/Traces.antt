@@ -1,7 +1,7 @@
 -- A run that stops at some addresses, step by step, and the instructions that it fetches.
 use Rattle.std.specs.Prelude.{ℕ, zero, suc, ◌+◌, ◌^◌, ◌==◌, ◌&&◌, Bool, false, not, nat_le}
 use Rattle.std.specs.Prelude.{List, [], ◌∷◌, ◌++◌, take, drop, length, is_none}
-use Rattle.std.specs.Prelude.{Option, Some, None, if◌then◌else◌, ◌≡◌, ◌<◌, ◌≤◌}
+use Rattle.std.specs.Prelude.{Option, Some, None, if◌then◌else◌, ◌≡◌, ◌<◌, ◌≤◌, ◌⊎◌}
 use Rattle.std.specs.List.{list_any}
 use Rattle.std.specs.Result.{result_ok}
 use Rattle.mte_tags.specs.Memory.{Memory}
@@ -108,3 +108,14 @@ pub record IsTraced (q : TraceRequest) (r0 : Regs) (m0 : Memory) (old : List Tra
   pub outcome : e.outcome ≡ (trace_of e.steps q r0 m0).outcome
   pub reached : e.reached ≡ (trace_of e.steps q r0 m0).reached
   pub instructions : Holds (trace_of e.steps q r0 m0).instructions old now e.instructions
+
+-- An array in which something is entered has no room left.
+abbrev pub HasNoRoom : ℕ → ℕ → Type 0
+HasNoRoom count room = (0 < room) × (room ≤ count)
+
+-- A run that stopped since an array is full has done nothing else that ends it, and one of the
+-- arrays, which have room for these numbers of entries, is full.
+pub record IsFull (e : TraceEnd) (instructions accesses : ℕ) : Type 0 where
+  pub outcome : e.outcome ≡ None
+  pub reached : e.reached ≡ false
+  pub room : HasNoRoom e.instructions instructions ⊎ HasNoRoom e.accesses accesses

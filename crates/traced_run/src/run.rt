@@ -1,7 +1,7 @@
 //! The run.
 
 ghost use Rattle.std.specs.Prelude.{◌≡◌, ◌≤◌, ◌<◌, ◌+◌, ◌++◌, List, length, false};
-ghost use Rattle.std.specs.Prelude.{IsFalse, is_none, ◌&&◌};
+ghost use Rattle.std.specs.Prelude.{IsFalse, IsTrue, is_none, ◌&&◌, true};
 ghost use Rattle.std.specs.Result.{result_ok};
 ghost use Rattle.a64_registers.specs.declared.registers.Regs.{Regs};
 ghost use Rattle.mte_tags.specs.Memory.{Memory};
@@ -9,6 +9,7 @@ ghost use Rattle.mte_tags.specs.Accesses.{fetch_result};
 ghost use Rattle.a64_step.specs.Results.{Leaves};
 ghost use Rattle.a64_step.specs.Steps.{step_of};
 ghost use Rattle.traced_run.specs.Traces.{stopping, is_stop, fetched, MayGoOn, Holds, IsTraced};
+ghost use Rattle.traced_run.specs.Traces.{HasNoRoom, IsFull};
 ghost use Rattle.traced_run.specs.declared.lists.TracedInstruction.{TracedInstruction};
 
 use crate::lists::{TracedAccess, TracedInstruction};
@@ -91,7 +92,8 @@ fn attempt_noting<M: Tagged>(
 /// Whether an array in which something is entered has no room left.
 #[inline(always)]
 fn is_full(count: usize, room: usize) -> bool
-    ensures { IsFalse result → 0 < room → count < room }
+    ensures free { IsFalse result → 0 < room → count < room }
+    ensures full { IsTrue result → HasNoRoom count room }
 {
     room != 0 && count >= room
 }
@@ -134,7 +136,10 @@ fn enter_access(
     step: u64,
     pc: u64,
     noted: NotedAccess,
-) -> usize {
+) -> usize
+    ensures within { count ≤ length accesses.old → result ≤ length accesses.old }
+    ensures len { length accesses.new ≡ length accesses.old }
+{
     let NotedAccess {
         kind,
         size,
@@ -201,6 +206,9 @@ fn advance<M: Tagged>(
         (M.memory memory.old) instructions.old
         → IsTraced progress.old.request.now r0 m0 old progress.new.end regs.new
         (M.memory memory.new) instructions.new }
+    ensures within { progress.old.end.accesses ≤ length accesses.old
+        → progress.new.end.accesses ≤ length accesses.old }
+    ensures len { length accesses.new ≡ length accesses.old }
     ensures kept { M.kept memory.old memory.new }
     ensures tag { regs.old.rgsr.tag < 16 → regs.new.rgsr.tag < 16 }
 {
@@ -220,7 +228,9 @@ fn advance<M: Tagged>(
 /// each access that is completed, those that are asked for, from the start of the arrays on. It
 /// stops after the first outcome that is not `Next`, where PC is one of the stops after one, and
 /// before an instruction where an array has no room left. An array without room is not wanted, and
-/// never full. No clause says what accesses are entered.
+/// never full. Where `full` is set, nothing else has ended it and one of the arrays has no room
+/// left. No clause says what accesses are entered, but that they are no more than there is room
+/// for.
 pub fn run_traced<M: Tagged>(
     regs: &mut Regs,
     memory: &mut M,
@@ -233,6 +243,9 @@ pub fn run_traced<M: Tagged>(
     ensures within { result.steps ≤ request.now.steps }
     ensures whole { result.outcome ≡ None → result.reached ≡ false → result.full ≡ false
         → result.steps ≡ request.now.steps }
+    ensures full { result.full ≡ true
+        → IsFull result (length instructions.old) (length accesses.old) }
+    ensures entered { result.accesses ≤ length accesses.old }
     ensures kept { M.kept memory.old memory.new }
     ensures tag { regs.old.rgsr.tag < 16 → regs.new.rgsr.tag < 16 }
 {

@@ -135,6 +135,7 @@ from .enums import (
 from .faults import Fault, MappingError, Refused, ScriptError
 from .heaps import HeapAnswer, heap_calls
 from .hooks import Block, Hooked, Instruction, TracedAccess, hook_block, hook_code, hook_mem
+from .machines import Machine
 from .memory import Memory, Region
 from .registers import Regs
 from .replays import Answer, Heap, Replay
@@ -150,7 +151,8 @@ __all__ = [
     "Code", "EXEC", "FAULT", "FAULT_KINDS", "FREE", "Fault", "FaultKind", "HEADER_CORRUPT",
     "HEAP_ABORTS", "Heap", "HeapAbort", "HeapAnswer", "HeapCall", "HeapOp", "Hooked", "ILLEGAL",
     "INTERPRETER", "INVALID_STATE", "Instruction", "LOAD", "LOAD_TAG", "MALLOC", "MEMALIGN",
-    "MISALIGNED", "MappingError", "Memory", "NOT_AARCH64", "NOT_A_BLOCK", "NOT_ELF64", "NOT_EXEC",
+    "MISALIGNED", "Machine",
+    "MappingError", "Memory", "NOT_AARCH64", "NOT_A_BLOCK", "NOT_ELF64", "NOT_EXEC",
     "NOT_MAPPED", "NO_ENTRY", "NO_ROOM", "NO_SUCH_FILE", "OK", "OUT_OF_MEMORY", "OVERLAP",
     "PC_ALIGNMENT", "PERMISSION", "READ", "REALLOC", "REFUSALS", "REFUSED", "RESERVATION_TOO_SMALL",
     "Refusal", "Refused", "Region", "Regs", "Replay", "SCRIPT", "SCRIPT_FAULTS", "SEGMENT_RANGE",

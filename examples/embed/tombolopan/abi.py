@@ -121,6 +121,14 @@ ACCESS_WRITE = 2
 ACCESS_READ_TAG = 4
 ACCESS_WRITE_TAG = 8
 
+# tb_act
+ACT_SLICE = 1
+ACT_GET = 2
+ACT_SET = 3
+ACT_LOAD = 4
+ACT_STORE = 5
+ACT_LOAD_TAG = 6
+
 # End of what tools/border.py writes.
 
 
@@ -208,6 +216,21 @@ class _HeapStep(ctypes.Structure):
     _fields_ = [("call", _HeapCall), ("first_of", c_uint32), ("second_of", c_uint32)]
 
 
+class _MachineAct(ctypes.Structure):
+    _fields_ = [
+        ("act", c_uint32), ("number", c_uint32), ("addr", c_uint64), ("value", c_uint64),
+        ("answer", c_uint64), ("code", c_uint32), ("unused", c_uint32), ("fault", _Fault),
+    ]
+
+
+class _MachineEnd(ctypes.Structure):
+    _fields_ = [("alone", _AloneEnd), ("regs", _Regs)]
+
+
+class _PageEntry(ctypes.Structure):
+    _fields_ = [("number", c_uint64), ("attrs", c_uint32), ("unused", c_uint32)]
+
+
 class _TraceRequest(ctypes.Structure):
     _fields_ = [
         ("stops", POINTER(c_uint64)), ("stop_count", c_size_t), ("steps", c_uint64),
@@ -246,6 +269,14 @@ _CALLS = {
     ],
     "tb_alone": [
         POINTER(_Terms), c_void_p, c_size_t, POINTER(_KeptCall), c_size_t, POINTER(_AloneEnd),
+    ],
+    "tb_machine_acts": [
+        POINTER(_Terms), POINTER(_MachineAct), c_size_t, c_void_p, c_size_t, POINTER(_KeptCall),
+        c_size_t, POINTER(_MachineEnd),
+    ],
+    "tb_machine_pages": [
+        POINTER(_Terms), POINTER(_MachineAct), c_size_t, POINTER(_PageEntry), c_size_t,
+        POINTER(c_uint64),
     ],
     "tb_memory_init": [*_MEMORY, c_bool],
     "tb_map": [*_PLACES, c_uint64, c_uint32],

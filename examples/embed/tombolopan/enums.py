@@ -125,6 +125,17 @@ class AccessKind(IntFlag):
     READ_TAG = 4
     WRITE_TAG = 8
 
+
+class Act(IntEnum):
+    """What is done to a machine between its slices, or a slice (tb_machine_act)."""
+
+    ACT_SLICE = 1
+    ACT_GET = 2
+    ACT_SET = 3
+    ACT_LOAD = 4
+    ACT_STORE = 5
+    ACT_LOAD_TAG = 6
+
 # End of what tools/border.py writes.
 
 

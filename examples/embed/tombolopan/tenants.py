@@ -77,11 +77,16 @@ def alone(
         raise MemoryError
     if code == REFUSED:
         raise Refused(Refusal.of(end.refusal))
+    return tenant_of(end, output.raw, calls)
+
+
+def tenant_of(end: _AloneEnd, output: bytes, calls: ctypes.Array[_KeptCall]) -> Tenant:
+    """A tenant by what the library says of it."""
     status = end.status
     return Tenant(
         TenantStatus.of(status.status), status.number, status.pc, status.pointer,
-        Fault.of(status.fault) if status.fault.kind else None, end.steps,
-        output.raw[: end.output], end.calls,
+        Fault.of(status.fault) if status.fault.kind else None, end.steps, output[: end.output],
+        end.calls,
         tuple(
             HeapCall(SERVICES[it.service], it.first, it.second, it.answer)
             for it in calls[: end.kept]

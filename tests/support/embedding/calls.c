@@ -451,6 +451,147 @@ static void alone(void) {
     drop(input);
 }
 
+/* What a tenant begins with, its image and its input, without slices. */
+static tb_terms read_terms(const tb_bytes *image, const tb_bytes *input, const uint32_t *none) {
+    tb_terms terms;
+    terms.image = image->bytes;
+    terms.image_length = image->length;
+    terms.input = input->bytes;
+    terms.input_length = input->length;
+    terms.seed = number();
+    terms.pages = (uint32_t)number();
+    terms.room = (uint32_t)number();
+    terms.asynchronous = (uint32_t)number();
+    terms.unused = 0;
+    terms.slice_count = 0;
+    terms.slices = none;
+    return terms;
+}
+
+static tb_machine_act *read_acts(size_t count) {
+    tb_machine_act *acts = (tb_machine_act *)take(count, sizeof(tb_machine_act));
+    for (size_t i = 0; i < count; i++) {
+        acts[i].act = (uint32_t)number();
+        acts[i].number = (uint32_t)number();
+        acts[i].addr = number();
+        acts[i].value = number();
+        acts[i].unused = 0;
+    }
+    return acts;
+}
+
+static void tell_acts(const tb_machine_act *acts, size_t count) {
+    for (size_t i = 0; i < count; i++) {
+        printf(" |");
+        tell(2, (uint64_t)acts[i].code, acts[i].answer);
+        tell_fault(&acts[i].fault);
+    }
+}
+
+/* A tenant's machine: by the calls, or by those that test pointers. */
+static void machine(bool is_checked) {
+    static const uint32_t none = 0;
+    tb_machine_end end;
+    memset(&end, 0, sizeof end);
+    const tb_bytes image = bytes(), input = bytes();
+    const tb_terms terms = read_terms(&image, &input, &none);
+    const size_t count = (size_t)number();
+    tb_machine_act *acts = read_acts(count);
+    uint8_t *output = (uint8_t *)take(16, 1);
+    tb_kept_call *calls = (tb_kept_call *)take(4, sizeof(tb_kept_call));
+    tell(1, (uint64_t)(is_checked ? tb_checked_machine_acts(&terms, acts, count, output, 16, calls,
+                                                            4, &end)
+                                  : tb_machine_acts(&terms, acts, count, output, 16, calls, 4,
+                                                    &end)));
+    tell_alone(&end.alone);
+    tell(4, end.regs.x[0], end.regs.x[30], end.regs.sp, end.regs.pc);
+    tell_bytes(output, 16);
+    tell_acts(acts, count);
+    free(acts);
+    free(output);
+    free(calls);
+    drop(image);
+    drop(input);
+}
+
+static void machine_pages(bool is_checked) {
+    static const uint32_t none = 0;
+    uint64_t mapped = 0xee;
+    const tb_bytes image = bytes(), input = bytes();
+    const tb_terms terms = read_terms(&image, &input, &none);
+    const size_t room = (size_t)number(), count = (size_t)number();
+    tb_machine_act *acts = read_acts(count);
+    tb_page_entry *pages = (tb_page_entry *)take(room, sizeof(tb_page_entry));
+    uint64_t sum = 0;
+    tell(1, (uint64_t)(is_checked
+                           ? tb_checked_machine_pages(&terms, acts, count, pages, room, &mapped)
+                           : tb_machine_pages(&terms, acts, count, pages, room, &mapped)));
+    for (size_t i = 0; i < room && i < mapped; i++)
+        sum += pages[i].number * 16 + pages[i].attrs;
+    tell(2, mapped, sum);
+    free(acts);
+    free(pages);
+    drop(image);
+    drop(input);
+}
+
+/* Null, misaligned, huge and overlapping arguments of a machine's calls, one by one. */
+static void hostile_machine(void) {
+    static const uint32_t none = 0;
+    static const uint8_t image[64] = {0};
+    const size_t huge = (size_t)-1;
+    uint64_t mapped = 0xee, sum = 0;
+    tb_terms terms = {image, 64, image, 64, &none, 0, 1, 64, 16, 0, 0};
+    tb_machine_act acts[2];
+    tb_kept_call calls[2];
+    tb_page_entry pages[2];
+    uint8_t output[16];
+    tb_machine_end end;
+    memset(acts, 0, sizeof acts);
+    memset(&end, 0xee, sizeof end);
+#define ACTS(t, a, n, o, r, c, m, e)                                                              \
+    tell(1, (uint64_t)tb_checked_machine_acts(t, a, n, o, r, c, m, e))
+    ACTS(NULL, acts, 2, output, 16, calls, 2, &end);
+    ACTS(&terms, NULL, 2, output, 16, calls, 2, &end);
+    ACTS(&terms, acts, huge, output, 16, calls, 2, &end);
+    ACTS(&terms, acts, huge / 64, output, 16, calls, 2, &end);
+    ACTS(&terms, acts, 2, NULL, 16, calls, 2, &end);
+    ACTS(&terms, acts, 2, output, huge, calls, 2, &end);
+    ACTS(&terms, acts, 2, output, 16, NULL, 0, &end);
+    ACTS(&terms, acts, 2, output, 16, calls, huge / 32, &end);
+    ACTS(&terms, acts, 2, output, 16, calls, 2, NULL);
+    ACTS(&terms, acts, 2, (uint8_t *)acts, 16, calls, 2, &end);
+    ACTS(&terms, acts, 2, output, 16, (tb_kept_call *)(void *)acts, 2, &end);
+    ACTS(&terms, acts, 2, output, 16, calls, 2, (tb_machine_end *)(void *)&terms);
+    ACTS(&terms, (tb_machine_act *)(void *)((uint8_t *)acts + 4), 1, output, 16, calls, 2, &end);
+#undef ACTS
+    printf(" |");
+#define PAGES(t, a, n, p, r, m) tell(1, (uint64_t)tb_checked_machine_pages(t, a, n, p, r, m))
+    PAGES(NULL, acts, 2, pages, 2, &mapped);
+    PAGES(&terms, NULL, 2, pages, 2, &mapped);
+    PAGES(&terms, acts, huge / 2, pages, 2, &mapped);
+    PAGES(&terms, acts, 2, NULL, 0, &mapped);
+    PAGES(&terms, acts, 2, pages, huge / 16, &mapped);
+    PAGES(&terms, acts, 2, pages, 2, NULL);
+    PAGES(&terms, acts, 2, (tb_page_entry *)(void *)acts, 2, &mapped);
+    PAGES(&terms, acts, 2, pages, 2, (uint64_t *)(void *)pages);
+    PAGES(&terms, acts, 2, pages, 2, &terms.seed);
+#undef PAGES
+    printf(" |");
+    terms.input = NULL;
+    tell(1, (uint64_t)tb_are_terms(&terms, output, 16));
+    terms.input = output;
+    terms.input_length = 1;
+    tell(1, (uint64_t)tb_are_terms(&terms, output, 16));
+    terms.input_length = 0;
+    tell(1, (uint64_t)tb_are_terms(&terms, output, 16));
+    terms.slice_count = huge / 4;
+    tell(1, (uint64_t)tb_are_terms(&terms, output, 16));
+    for (size_t i = 0; i < sizeof end; i++)
+        sum += ((const uint8_t *)&end)[i] != 0xee;
+    tell(2, mapped, sum);
+}
+
 static void tell_texts(void) {
     const uint32_t it = (uint32_t)number();
     printf(" %s; %s; %s; %s; %s; %s", tb_text(it), tb_fault_kind_name(it), tb_heap_abort_name(it),
@@ -528,6 +669,16 @@ static void answer(const char *what) {
         session();
     else if (strcmp(what, "alone") == 0)
         alone();
+    else if (strcmp(what, "machine") == 0)
+        machine(false);
+    else if (strcmp(what, "machine_checked") == 0)
+        machine(true);
+    else if (strcmp(what, "machine_hostile") == 0)
+        hostile_machine();
+    else if (strcmp(what, "mapped") == 0)
+        machine_pages(false);
+    else if (strcmp(what, "mapped_checked") == 0)
+        machine_pages(true);
     else if (strcmp(what, "texts") == 0)
         tell_texts();
     else if (strcmp(what, "replay") == 0)

@@ -256,12 +256,61 @@ class Calls:
             " |" + told(it.service, it.first, it.second, it.answer) for it in calls[:call_room]
         )
 
+    def machine(self, words: Words) -> str:
+        """A tenant's machine."""
+        terms, kept = terms_of(words)
+        acts, count = acts_of(words)
+        end, calls = abi._MachineEnd(), (abi._KeptCall * 4)()
+        output = ctypes.create_string_buffer(16)
+        code = LIBRARY.tb_machine_acts(byref(terms), acts, count, output, 16, calls, 4, byref(end))
+        it, regs = end.alone, end.regs
+        text = told(code, it.steps, it.output, it.calls, it.kept, it.code, it.refusal)
+        text += told(it.status.status, it.status.number, it.status.pc, it.status.pointer)
+        text += fault_of(it.status.fault) + told(regs.x[0], regs.x[30], regs.sp, regs.pc)
+        del kept
+        return text + hexed(output.raw) + "".join(
+            " |" + told(act.code, act.answer) + fault_of(act.fault) for act in acts[:count]
+        )
+
+    def mapped(self, words: Words) -> str:
+        """The pages of a tenant's machine."""
+        terms, kept = terms_of(words)
+        room = number(words)
+        acts, count = acts_of(words)
+        pages, found = (abi._PageEntry * max(room, 1))(), ctypes.c_uint64(0xEE)
+        code = LIBRARY.tb_machine_pages(byref(terms), acts, count, pages, room, byref(found))
+        del kept
+        some = pages[: min(room, found.value)]
+        return told(code, found.value, sum(it.number * 16 + it.attrs for it in some))
+
     def texts(self, words: Words) -> str:
         """The texts of a number."""
         it = number(words)
         names = (tb.text, tb.fault_kind_name, tb.heap_abort_name, tb.script_fault_name,
                  tb.refusal_name, tb.tenant_status_name)
         return " " + "; ".join(name(it) for name in names)
+
+
+def terms_of(words: Words) -> tuple[Any, object]:
+    """What a tenant begins with, without slices, and what has to be kept for it."""
+    held = raw(words), raw(words)
+    image, given = map(abi._lend, held)
+    none = (ctypes.c_uint32 * 1)()
+    seed, pages, out, asynchronous = (number(words) for _ in range(4))
+    terms = abi._Terms(
+        image.bytes, image.length, given.bytes, given.length, ctypes.addressof(none), 0, seed,
+        pages, out, asynchronous, 0,
+    )
+    return terms, (held, none)
+
+
+def acts_of(words: Words) -> tuple[Any, int]:
+    """Acts, and how many they are."""
+    count = number(words)
+    acts = (abi._MachineAct * max(count, 1))()
+    for it in acts[:count]:
+        it.act, it.number, it.addr, it.value = (number(words) for _ in range(4))
+    return acts, count
 
 
 def number(words: Words) -> int:

@@ -191,6 +191,8 @@ impl Calls {
             "heap" => heap(words),
             "session" => session_of(words),
             "alone" => alone_of(words),
+            "machine" => machine_of(words),
+            "mapped" => mapped_of(words),
             "texts" => texts(number(words) as u32),
             _ => panic!("{what}"),
         }
@@ -286,6 +288,60 @@ fn alone_of(words: &mut SplitWhitespace<'_>) -> String {
         text += &told(&[it.service, it.first, it.second, it.answer]);
     }
     text
+}
+
+fn terms_of<'a>(image: &'a [u8], input: &'a [u8], words: &mut SplitWhitespace<'_>) -> Terms<'a> {
+    Terms {
+        image,
+        input,
+        seed: number(words),
+        pages: number(words) as u32,
+        room: number(words) as u32,
+        asynchronous: number(words) != 0,
+    }
+}
+
+fn acts_of(words: &mut SplitWhitespace<'_>) -> Vec<MachineAct> {
+    let count = number(words);
+    let act = |words: &mut SplitWhitespace<'_>| MachineAct {
+        act: number(words) as u32,
+        number: number(words) as u32,
+        addr: number(words),
+        value: number(words),
+        ..MachineAct::default()
+    };
+    (0..count).map(|_| act(words)).collect()
+}
+
+fn machine_of(words: &mut SplitWhitespace<'_>) -> String {
+    let (image, input) = (bytes(words), bytes(words));
+    let terms = terms_of(&image, &input, words);
+    let mut acts = acts_of(words);
+    let (mut output, mut calls) = (vec![0; 16], vec![KeptCall::default(); 4]);
+    let MachineEnd { alone: end, regs } = machine_acts(&terms, &mut acts, &mut output, &mut calls);
+    let Status { status, number, pc, pointer, fault } = end.status;
+    let code = u64::from(end.code);
+    let mut text = told(&[code, end.steps, end.output, end.calls, end.kept, code]);
+    text += &told(&[end.refusal.into(), status.into(), number.into(), pc, pointer]);
+    text += &fault_of(&fault);
+    text += &told(&[regs.x[0], regs.x[30], regs.sp, regs.pc]);
+    text += &hexed(&output);
+    for it in &acts {
+        text += " |";
+        text += &told(&[it.code.into(), it.answer]);
+        text += &fault_of(&it.fault);
+    }
+    text
+}
+
+fn mapped_of(words: &mut SplitWhitespace<'_>) -> String {
+    let (image, input) = (bytes(words), bytes(words));
+    let terms = terms_of(&image, &input, words);
+    let mut pages = vec![PageEntry::default(); number(words) as usize];
+    let (code, mapped) = machine_pages(&terms, &mut acts_of(words), &mut pages);
+    let told_pages = &pages[..pages.len().min(mapped as usize)];
+    let sum = told_pages.iter().map(|it| it.number * 16 + u64::from(it.attrs)).sum();
+    told(&[code.into(), mapped, sum])
 }
 
 fn texts(it: u32) -> String {

@@ -2,7 +2,7 @@ use Rattle.std.proofs.Common.{◌≡◌, ◌<◌, ◌∙◌, ◌+◌, ◌-◌, �
 use Rattle.mte_tags.specs.Accesses.{addresses}
 use Rattle.mte_tags.specs.Memory.{page_at}
 use Rattle.mte_tags.specs.declared.state.TagState.{TagState}
-use Rattle.tombolopan_c.specs.Faults.{all_mapped}
+use Rattle.tombolopan_c.specs.MemoryCodes.{all_mapped}
 use Rattle.tombolopan_c.specs.LentPages.{lent_memory}
 use Rattle.tombolopan_c.proofs.Loads.{mapped_next, mapped_not, mapped_none}
 use Rattle.tombolopan_c.proofs.find.are_mapped.Goals.{then-page-known+else-not-is_mapped, else-page-known}

@@ -2,7 +2,7 @@ use Rattle.std.proofs.Common.{◌≡◌, ◌<◌, ◌^◌, ◌-◌, ◌⊎◌, i
 use Rattle.mte_tags.specs.Accesses.{addresses}
 use Rattle.mte_tags.specs.Memory.{page_at}
 use Rattle.mte_tags.specs.declared.state.TagState.{TagState}
-use Rattle.tombolopan_c.specs.Faults.{all_mapped}
+use Rattle.tombolopan_c.specs.MemoryCodes.{all_mapped}
 use Rattle.tombolopan_c.specs.LentPages.{lent_memory}
 use Rattle.tombolopan_c.proofs.find.are_mapped.Given as goal
 

@@ -1,7 +1,7 @@
 use Rattle.std.proofs.Common.{◌≡◌, ◌∙◌, sym, subst, length, true}
 use Rattle.mte_tags.specs.Memory.{Memory}
 use Rattle.mte_tags.specs.Accesses.{addresses, AreMapped}
-use Rattle.tombolopan_c.specs.Faults.{all_mapped}
+use Rattle.tombolopan_c.specs.MemoryCodes.{all_mapped}
 use Rattle.tombolopan_c.specs.LentPages.{lent_memory, state_of}
 use Rattle.tombolopan_c.proofs.Loads.{are_all}
 use Rattle.tombolopan_c.proofs.memory_calls.tb_load.Goals as goal

@@ -1,4 +1,4 @@
-use Rattle.std.proofs.Common.{refl, sym, ap}
+use Rattle.std.proofs.Common.{refl, sym, ap, arith}
 use Rattle.traced_run.specs.Traces.{Trace}
 use Rattle.traced_run.proofs.Entering.{trace_none, holds_start}
 use Rattle.traced_run.proofs.run.run_traced.Goals as goal
@@ -22,6 +22,8 @@ loop-init g c =
       running = refl;
       passing = refl;
       empty = refl;
+      len = refl;
+      within = search arith;
       tag = λ t. t;
       kept = g.met.M.Tagged.kept_same c.args.memory.now;
     }

@@ -1,4 +1,4 @@
-use Rattle.std.proofs.Common.{◌≡◌, ◌<◌, None, false}
+use Rattle.std.proofs.Common.{◌≡◌, ◌≤◌, ◌<◌, length, None, false}
 use Rattle.traced_run.specs.Traces.{IsTraced}
 use Rattle.traced_run.proofs.run.run_traced.Given as goal
 
@@ -13,6 +13,8 @@ invariant-loop g l = record {
   running : l.progress.end.outcome ≡ None;
   passing : l.progress.end.reached ≡ false;
   empty : l.progress.end.full ≡ false;
+  len : length l.accesses ≡ length l.fn.accesses;
+  within : l.progress.end.accesses ≤ length l.fn.accesses;
   tag : l.fn.regs.rgsr.tag < 16 → l.regs.rgsr.tag < 16;
   kept : g.M.Tagged.kept l.fn.memory l.memory;
 }

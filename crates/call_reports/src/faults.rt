@@ -2,7 +2,7 @@
 
 ghost use Rattle.std.specs.Prelude.{◌≡◌, Option};
 ghost use Rattle.mte_tags.specs.Accesses.{result_of};
-ghost use Rattle.tombolopan_c.specs.Faults.{kind_code, report_of, fault_report, fault_code};
+ghost use Rattle.call_reports.specs.Faults.{kind_code, report_of, fault_report, fault_code};
 
 use crate::codes::{
     ALIGNMENT, FAULT, OK, PC_ALIGNMENT, PERMISSION, SP_ALIGNMENT, TAG_CHECK, TRANSLATION,
@@ -39,10 +39,10 @@ fn code_of_kind(kind: FaultKind) -> u32
 }
 
 impl FaultReport {
-    ghost use Rattle.tombolopan_c.specs.Faults.{no_fault};
+    ghost use Rattle.call_reports.specs.Faults.{no_fault};
 
     /// The report of no fault.
-    pub(crate) fn none() -> FaultReport
+    pub fn none() -> FaultReport
         ensures { result ≡ no_fault }
     {
         FaultReport {
@@ -54,7 +54,8 @@ impl FaultReport {
         }
     }
 
-    pub(crate) fn of(fault: &MemFault) -> FaultReport
+    /// The report of a fault.
+    pub fn of(fault: &MemFault) -> FaultReport
         ensures { result ≡ report_of fault.now }
     {
         FaultReport {
@@ -68,7 +69,7 @@ impl FaultReport {
 }
 
 /// Reports how an access ended, and returns its code.
-pub(crate) fn report(answer: Result<(), MemFault>, fault: &mut FaultReport) -> u32
+pub fn report(answer: Result<(), MemFault>, fault: &mut FaultReport) -> u32
     ensures code { (o : Option MemFault) → answer ≡ result_of o → result ≡ fault_code o }
     ensures fault { (o : Option MemFault)
         → answer ≡ result_of o → fault.new ≡ fault_report o }

@@ -1,0 +1,2 @@
+mod ActLists
+mod PageMaps
