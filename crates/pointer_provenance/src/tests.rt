@@ -3,11 +3,11 @@
 
 use crate::heap_calls::ChunkChange;
 use crate::judgement::MisuseKind;
-use crate::shadow::Shadow;
+use crate::shadow::{Pointed, Shadow};
 use a64_instr::Instr;
 use a64_registers::Regs;
 use heap_functions::{HeapFunction, ReturnedChunk};
-use shadow_memory::{AccessedBytes, RegisterAccess, Step};
+use shadow_memory::{AccessedBytes, PointerOrigin, RegisterAccess, Step};
 use std::test::Fail;
 
 /// A chunk of 24 bytes, with its tag.
@@ -67,5 +67,9 @@ fn a_chunk_is_followed(rt: HostRuntime) -> Result<(), Fail> {
     })?;
     shadow.note_service(Some(BEHIND), &regs);
     assert!(rt; shadow.judge_free(CHUNK, None).is_none());
+    shadow.point(2, PointerOrigin::of_place(1));
+    let mut marks = [false; 2];
+    shadow.mark(Pointed::Places, &mut marks);
+    assert!(rt; marks == [false, true]);
     Ok(())
 }
