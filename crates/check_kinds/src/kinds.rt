@@ -11,6 +11,10 @@ pub enum CheckKind {
     Leaks,
     /// What depends on bits that were never given a value.
     Undefined,
+    /// Accesses by pointers to variables, and to frames of functions that have returned.
+    Places,
+    /// Divisions by 0 and shifts past the width.
+    Arithmetic,
 }
 
 impl CheckKind {
@@ -21,6 +25,8 @@ impl CheckKind {
             "frees" => Some(CheckKind::Frees),
             "leaks" => Some(CheckKind::Leaks),
             "undefined" => Some(CheckKind::Undefined),
+            "places" => Some(CheckKind::Places),
+            "arithmetic" => Some(CheckKind::Arithmetic),
             _ => None,
         }
     }
@@ -32,6 +38,8 @@ impl CheckKind {
             CheckKind::Frees => "frees",
             CheckKind::Leaks => "leaks",
             CheckKind::Undefined => "undefined",
+            CheckKind::Places => "places",
+            CheckKind::Arithmetic => "arithmetic",
         }
     }
 }
@@ -47,6 +55,10 @@ pub struct CheckKinds {
     pub leaks: bool,
     /// What depends on bits that were never given a value.
     pub undefined: bool,
+    /// Accesses by pointers to variables, and to frames of functions that have returned.
+    pub places: bool,
+    /// Divisions by 0 and shifts past the width.
+    pub arithmetic: bool,
 }
 
 impl CheckKinds {
@@ -56,23 +68,30 @@ impl CheckKinds {
         frees: false,
         leaks: false,
         undefined: false,
+        places: false,
+        arithmetic: false,
     };
 
-    /// All.
+    /// All but `arithmetic`, which compilers bring about in correct programs too.
     pub const ALL: CheckKinds = CheckKinds {
         provenance: true,
         frees: true,
         leaks: true,
         undefined: true,
+        places: true,
+        arithmetic: false,
     };
 
-    /// Those that a text names, with commas between them; all of them by `all`. `None` where a word
-    /// is no kind.
+    /// Those that a text names, with commas between them; all but `arithmetic` by `all`. `None`
+    /// where a word is no kind.
     pub fn parse(text: &str) -> Option<CheckKinds> {
         let mut kinds = CheckKinds::NONE;
         for word in text.split(',') {
             if word == "all" {
-                kinds = CheckKinds::ALL;
+                kinds = CheckKinds {
+                    arithmetic: kinds.arithmetic,
+                    ..CheckKinds::ALL
+                };
             } else {
                 kinds = kinds.with(CheckKind::of(word)?);
             }
@@ -87,6 +106,8 @@ impl CheckKinds {
             frees: self.frees || kind == CheckKind::Frees,
             leaks: self.leaks || kind == CheckKind::Leaks,
             undefined: self.undefined || kind == CheckKind::Undefined,
+            places: self.places || kind == CheckKind::Places,
+            arithmetic: self.arithmetic || kind == CheckKind::Arithmetic,
         }
     }
 
@@ -97,6 +118,8 @@ impl CheckKinds {
             CheckKind::Frees => self.frees,
             CheckKind::Leaks => self.leaks,
             CheckKind::Undefined => self.undefined,
+            CheckKind::Places => self.places,
+            CheckKind::Arithmetic => self.arithmetic,
         }
     }
 

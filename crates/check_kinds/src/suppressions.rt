@@ -33,7 +33,8 @@ impl fmt::Display for SuppressionFault {
         f.write_str(match self.fault {
             LineFault::Short => "there should be a kind, a function and a file",
             LineFault::Kind => {
-                "the first word should be provenance, frees, leaks, undefined or *"
+                "the first word should be provenance, frees, leaks, undefined, places, \
+                 arithmetic or *"
             }
         })
     }

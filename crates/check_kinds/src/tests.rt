@@ -9,7 +9,14 @@ use std::test::Fail;
 #[test]
 fn kinds_are_read(rt: HostRuntime) -> Result<(), Fail> {
     assert!(rt; CheckKinds::parse("all") == Some(CheckKinds::ALL));
-    for name in ["provenance", "frees", "leaks", "undefined"] {
+    for name in [
+        "provenance",
+        "frees",
+        "leaks",
+        "undefined",
+        "places",
+        "arithmetic",
+    ] {
         let kind = CheckKind::of(name);
         assert!(rt; kind.is_some_and(|kind| kind.name() == name));
         let kinds = CheckKinds::parse(name).unwrap_or(CheckKinds::NONE);

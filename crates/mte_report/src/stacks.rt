@@ -3,6 +3,8 @@
 use crate::context::Context;
 use crate::explanation::Explanation;
 use crate::report::Report;
+use debug_variables::Declaration;
+use named_places::PlaceKind;
 use run_book::{Book, BookChunk, BookEntry, EntryText};
 use run_cause::{Cause, FoundCause};
 use std::alloc::Global;
@@ -107,6 +109,7 @@ impl<'a> Context<'a> {
         writeln!(out, "Cause: {found}")?;
         self.tell_chunks(out, cause)?;
         self.tell_frame(out, cause)?;
+        self.tell_place(out, cause)?;
         self.tell_hint(out, cause)?;
         tell_short(out, self.report.book)
     }
@@ -133,6 +136,39 @@ impl<'a> Context<'a> {
                 writeln!(out, "  SP was moved there by {frame}")
             }
             None => Ok(()),
+        }
+    }
+
+    /// Writes which function the variable is of that a cause names, and where it is declared.
+    fn tell_place<W: Write>(&self, out: &mut W, cause: &Cause) -> io::Result<()> {
+        let Some(place) = cause.place() else {
+            return Ok(());
+        };
+        let names = self.report.names;
+        let line = match place.declaration {
+            Some(Declaration { unit, file, line }) => names
+                .lines
+                .files_of(unit)
+                .and_then(|files| files.line_in(file, line))
+                .and_then(|line| line.source_line()),
+            None => None,
+        };
+        if place.function.is_none() && line.is_none() {
+            return Ok(());
+        }
+        let of = if place.kind == PlaceKind::Frame {
+            "  a frame"
+        } else {
+            "  a variable"
+        };
+        write!(out, "{of}")?;
+        match place.function.and_then(|pc| names.symbols.place(pc).name()) {
+            Some(name) => write!(out, " of {name}")?,
+            None => {}
+        }
+        match line {
+            Some(line) => writeln!(out, ", declared at {line}"),
+            None => writeln!(out),
         }
     }
 

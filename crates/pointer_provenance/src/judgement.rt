@@ -67,7 +67,7 @@ impl Shadow {
     }
 
     /// Where the pointer points by which an instruction loads or stores.
-    fn address_origin(&mut self, instr: &Instr) -> Result<PointerOrigin, AllocError> {
+    pub fn address_origin(&mut self, instr: &Instr) -> Result<PointerOrigin, AllocError> {
         match *instr {
             Instr::LdStReg {
                 size,
@@ -138,7 +138,7 @@ impl Shadow {
     /// What is wrong with an access by a pointer.
     fn judge_bytes(&self, origin: PointerOrigin, access: AccessedBytes) -> Option<Misuse> {
         match origin.kind() {
-            OriginKind::Stack => None,
+            OriginKind::Stack | OriginKind::Place(_) => None,
             OriginKind::Chunk(index) => {
                 let chunk = *self.chunks.get(index)?;
                 if self.stack == Some(index) && chunk.is_live {

@@ -17,4 +17,4 @@ pub use chunk_table::TracedChunk;
 pub use heap_calls::ChunkChange;
 pub use judgement::{Misuse, MisuseKind};
 pub use reach::{LostChunk, Reach, ReachTable, RootRange};
-pub use shadow::Shadow;
+pub use shadow::{Pointed, Shadow};

@@ -213,7 +213,7 @@ impl ReachTable {
         match origin.kind() {
             OriginKind::Chunk(index) => self.enter_chunk(shadow, index, reach),
             OriginKind::Sum(index) => self.enter_sum(shadow, index, reach),
-            OriginKind::Unknown | OriginKind::Stack => {
+            OriginKind::Unknown | OriginKind::Stack | OriginKind::Place(_) => {
                 match shadow.by_value(number).chunk() {
                     Some(index) => self.enter_chunk(shadow, index, reach),
                     None => Ok(()),

@@ -5,13 +5,30 @@ use a64_bits::plain;
 use a64_registers::Regs;
 use address_map::{PAGE_SIZE, REGIONS_START, SECONDARY_END};
 use mte_tags::tag_of;
-use shadow_memory::{
-    Full, MemoryShadow, OriginKind, PointerOrigin, PointerSums, Provenance, Sign, Step,
-};
+use shadow_memory::{Full, MemoryShadow, PointerOrigin, PointerSums, Provenance, Sign, Step};
 use std::alloc::{AllocError, Global};
 
 /// How many numbered registers there are.
 const REGISTERS: usize = 31;
+
+/// Which of the origins of pointers are meant.
+#[derive(Clone, Copy, Debug, PartialEq, Eq)]
+pub enum Pointed {
+    /// Chunks.
+    Chunks,
+    /// Places that have names.
+    Places,
+}
+
+impl Pointed {
+    /// The index of an origin that is meant.
+    fn index_of(self, origin: PointerOrigin) -> Option<usize> {
+        match self {
+            Pointed::Chunks => origin.chunk(),
+            Pointed::Places => origin.place(),
+        }
+    }
+}
 
 /// What is known of a tenant's registers and memory beside their values: where each pointer points.
 #[derive(Drop)]
@@ -73,14 +90,23 @@ impl Shadow {
         }
     }
 
+    /// Enters where the pointer in a numbered register points; nothing for 31.
+    pub fn point(&mut self, n: u8, origin: PointerOrigin) {
+        if let Some(place) = self.registers.get_mut(usize::from(n)) {
+            *place = Provenance::whole(origin);
+        }
+    }
+
     /// Enters what is known of a numbered register after an instruction; nothing for 31. A number
-    /// below the first page's end is no pointer into a chunk.
+    /// below the first page's end is no pointer into a chunk, nor to a place that has a name.
     pub(crate) fn set(&mut self, n: u8, value: Provenance, after: &Regs) {
         let Some(place) = self.registers.get_mut(usize::from(n)) else {
             return;
         };
         let number = after.x.get(usize::from(n)).copied().unwrap_or(0);
-        let is_small = value.pointer().chunk().is_some() && plain(number) < PAGE_SIZE;
+        let origin = value.pointer();
+        let is_one = origin.chunk().is_some() || origin.place().is_some();
+        let is_small = is_one && plain(number) < PAGE_SIZE;
         *place = if is_small { Provenance::NONE } else { value };
     }
 
@@ -128,28 +154,34 @@ impl Shadow {
     /// Gives up the freed chunks that nothing points into. Whether another can be entered.
     pub(crate) fn give_up_chunks(&mut self) -> Result<bool, AllocError> {
         let mut marks = vec![in self.alloc; false; self.chunks.len()]?;
-        for value in self.registers.iter() {
-            mark(marks.as_mut_slice(), value.origin);
-        }
-        self.mark_sums(marks.as_mut_slice());
-        self.mark_pages(marks.as_mut_slice());
+        self.mark(Pointed::Chunks, marks.as_mut_slice());
         self.chunks.give_up(marks.as_slice())
     }
 
-    /// Marks the chunks of sums.
-    fn mark_sums(&self, marks: &mut [bool]) {
+    /// Marks the indices of what registers, memory and sums point into, and of the newest chunk of
+    /// each granule.
+    pub fn mark(&self, pointed: Pointed, marks: &mut [bool]) {
+        for value in self.registers.iter() {
+            mark(marks, pointed, value.origin);
+        }
+        self.mark_sums(pointed, marks);
+        self.mark_pages(pointed, marks);
+    }
+
+    /// Marks what the terms of sums point into.
+    fn mark_sums(&self, pointed: Pointed, marks: &mut [bool]) {
         for sum in self.sums.all() {
             for term in sum.terms().iter() {
-                mark(marks, term.origin);
+                mark(marks, pointed, term.origin);
             }
         }
     }
 
-    /// Marks the chunks that words of memory point into, and the newest of each granule.
-    fn mark_pages(&self, marks: &mut [bool]) {
+    /// Marks what words of memory point into, and the newest chunk of each granule.
+    fn mark_pages(&self, pointed: Pointed, marks: &mut [bool]) {
         for page in self.memory.pages() {
-            mark_all(marks, page.origins());
-            mark_all(marks, page.owners());
+            mark_all(marks, pointed, page.origins());
+            mark_all(marks, pointed, page.owners());
         }
     }
 }
@@ -157,16 +189,16 @@ impl Shadow {
 /// The least bytes of a chunk that is a stack.
 const STACK_SIZE: u32 = 8_192;
 
-/// Marks chunks.
-fn mark_all(marks: &mut [bool], origins: &[PointerOrigin]) {
+/// Marks the indices of origins.
+fn mark_all(marks: &mut [bool], pointed: Pointed, origins: &[PointerOrigin]) {
     for origin in origins {
-        mark(marks, *origin);
+        mark(marks, pointed, *origin);
     }
 }
 
-/// Marks a chunk.
-fn mark(marks: &mut [bool], origin: PointerOrigin) {
-    if let OriginKind::Chunk(index) = origin.kind() {
+/// Marks the index of an origin, if it is meant.
+fn mark(marks: &mut [bool], pointed: Pointed, origin: PointerOrigin) {
+    if let Some(index) = pointed.index_of(origin) {
         if let Some(place) = marks.get_mut(index) {
             *place = true;
         }

@@ -5,11 +5,13 @@ use crate::exact::ForbiddenAccess;
 use crate::violation::Violation;
 use a64_bits::plain;
 use address_map::{IMAGE_START, PAGE_SIZE, STACK_END, STACK_START};
+use arithmetic_faults::{ArithmeticFault, ArithmeticKind};
 use heap_bounds::{Block, Trespass};
 use heap_functions::HeapFunction;
 use mte_svc::FREE;
 use mte_tags::{FaultKind, MemFault, tag_of};
 use mte_tenant::{Record, Status};
+use named_places::{PlaceKind, PlaceMisuse, PlaceMisuseKind, PlaceText};
 use pointer_provenance::{Misuse, MisuseKind};
 use run_book::{Book, BookChunk, BookEntry, Bytes, ChunkQuery};
 use scudo_heap::HeapCall;
@@ -71,6 +73,16 @@ pub enum Cause {
     ReadOnly,
     /// A jump to an address that is no code.
     WildJump,
+    /// An access after a variable, and how many bytes after it.
+    PlaceOverflow(PlaceText, u64),
+    /// An access before a variable, and how many bytes before it.
+    PlaceUnderflow(PlaceText, u64),
+    /// An access to a variable of a function that has returned.
+    AfterReturn(PlaceText),
+    /// A pointer to a variable is handed to the heap.
+    PlaceFreed(PlaceText),
+    /// An operation whose operands give it no result.
+    Arithmetic(ArithmeticFault),
     /// Nothing that the heap calls show.
     Unknown,
 }
@@ -124,6 +136,34 @@ impl Cause {
             Violation::Bounds(trespass) => Cause::of_trespass(book, wrong.addr, *trespass),
             Violation::Provenance(misuse) => Cause::of_misuse(book, misuse),
             Violation::Undefined(used) => Cause::of_undefined(book, used.origin),
+            Violation::Place(misuse) => Cause::of_place(misuse),
+            Violation::Arithmetic(fault) => Cause::Arithmetic(*fault),
+        }
+    }
+
+    /// The cause of a use of a pointer to a variable that the variable does not allow.
+    fn of_place(misuse: &PlaceMisuse) -> Cause {
+        let PlaceMisuse { addr, place, .. } = *misuse;
+        match misuse.kind {
+            PlaceMisuseKind::Overflow => {
+                Cause::PlaceOverflow(place, addr.saturating_sub(place.end))
+            }
+            PlaceMisuseKind::Underflow => {
+                Cause::PlaceUnderflow(place, place.start.saturating_sub(addr))
+            }
+            PlaceMisuseKind::AfterReturn => Cause::AfterReturn(place),
+            PlaceMisuseKind::Free => Cause::PlaceFreed(place),
+        }
+    }
+
+    /// The variable that it names.
+    pub fn place(&self) -> Option<&PlaceText> {
+        match self {
+            Cause::PlaceOverflow(place, _)
+            | Cause::PlaceUnderflow(place, _)
+            | Cause::AfterReturn(place)
+            | Cause::PlaceFreed(place) => Some(place),
+            _ => None,
         }
     }
 
@@ -319,6 +359,11 @@ impl Cause {
             Cause::AboveStack => "arguments-of-linux",
             Cause::ReadOnly => "read-only-memory",
             Cause::WildJump => "wild-jump",
+            Cause::PlaceOverflow(place, _) => place_rule(place.kind, true),
+            Cause::PlaceUnderflow(place, _) => place_rule(place.kind, false),
+            Cause::AfterReturn(_) => "use-after-return",
+            Cause::PlaceFreed(_) => "invalid-pointer",
+            Cause::Arithmetic(fault) => arithmetic_rule(fault.kind),
             Cause::Unknown => "fault",
         }
     }
@@ -352,6 +397,11 @@ impl Cause {
             Cause::PastStack(_) => "Buffer Overflow of an object on the stack",
             Cause::ReadOnly => "Read-only Memory: code or constants of the image are written",
             Cause::WildJump => "Wild Jump: the address is no code",
+            Cause::PlaceOverflow(_, _) => "Buffer Overflow",
+            Cause::PlaceUnderflow(_, _) => "Buffer Underflow",
+            Cause::AfterReturn(_) => "Use After Return",
+            Cause::PlaceFreed(_) => "Invalid Pointer, which no heap call returned",
+            Cause::Arithmetic(_) => "Undefined Arithmetic",
             Cause::Unknown => "unknown",
         }
     }
@@ -380,6 +430,8 @@ impl Cause {
             | Cause::Underflow(_, distance)
             | Cause::StackOverflow(distance)
             | Cause::PastStack(distance)
+            | Cause::PlaceOverflow(_, distance)
+            | Cause::PlaceUnderflow(_, distance)
             | Cause::InsideChunk(_, distance) => Some(*distance),
             _ => None,
         }
@@ -395,6 +447,11 @@ impl Cause {
             | Cause::InsideChunk(_, _) => " into a ",
             Cause::Overflow(_, _) => " right of a ",
             Cause::Underflow(_, _) => " left of a ",
+            Cause::PlaceOverflow(_, _) => " right of ",
+            Cause::PlaceUnderflow(_, _) => " left of ",
+            Cause::AfterReturn(_) => " of ",
+            Cause::PlaceFreed(_) => ": it is one to ",
+            Cause::Arithmetic(_) => ": ",
             Cause::StackOverflow(_) => " below the stack",
             Cause::PastStack(_) => " above the stack",
             Cause::TagsChanged(_)
@@ -405,6 +462,24 @@ impl Cause {
             | Cause::HeaderOverwritten(_) => " of a ",
             _ => "",
         }
+    }
+}
+
+/// The name of the kind of an access beside a variable, for other programs.
+fn place_rule(kind: PlaceKind, is_behind: bool) -> &'static str {
+    match (kind, is_behind) {
+        (PlaceKind::Object, true) => "global-buffer-overflow",
+        (PlaceKind::Object, false) => "global-buffer-underflow",
+        (_, true) => "stack-buffer-overflow",
+        (_, false) => "stack-buffer-underflow",
+    }
+}
+
+/// The name of the kind of an operation that has no result, for other programs.
+fn arithmetic_rule(kind: ArithmeticKind) -> &'static str {
+    match kind {
+        ArithmeticKind::Division => "division-by-zero",
+        ArithmeticKind::Shift => "shift-past-width",
     }
 }
 
@@ -460,7 +535,11 @@ impl fmt::Display for Cause {
         if let Some(chunk) = self.chunk() {
             chunk.fmt(f)?;
         }
+        if let Some(place) = self.place() {
+            place.fmt(f)?;
+        }
         match self {
+            Cause::Arithmetic(fault) => fault.fmt(f),
             Cause::StaleFree(_, _, pointer) => write!(f, ", freed by {pointer:#018x}"),
             Cause::MismatchedFree(_, maker, freer) => {
                 let (maker, freer) = (maker.name(), freer.name());

@@ -1,5 +1,5 @@
-//! Whether a tenant uses each pointer as the pointer's own chunk allows, frees each chunk by a
-//! function that is for it, and lets nothing depend on what was never given a value.
+//! Whether a tenant uses each pointer as the pointer's own chunk or variable allows, frees each
+//! chunk by a function that is for it, and lets nothing depend on what was never given a value.
 
 ghost use Rattle.std.specs.Prelude.{◌≡◌};
 
@@ -10,6 +10,7 @@ use a64_bits::plain;
 use a64_decode::decode;
 use a64_instr::Instr;
 use a64_registers::Regs;
+use arithmetic_faults::ArithmeticFault;
 use check_kinds::CheckKinds;
 use heap_bounds::{MemoryAccess, access_of, freed_by, made_by};
 use heap_functions::HeapFunctionWatch;
@@ -20,11 +21,12 @@ use mte_svc::{
 };
 use mte_tags::Tagged;
 use mte_tenant::TenantParts;
+use named_places::{NamedPlaces, PlaceMisuse};
 use pointer_provenance::{ChunkChange, Misuse, Shadow, TracedChunk};
 use scudo_heap::HeapCall;
 use shadow_memory::{AccessedBytes, Full, RegisterAccess, Step};
 use std::alloc::{AllocError, Global};
-use undefined_bits::{ServiceArguments, UndefinedBits};
+use undefined_bits::{ServiceArguments, UndefinedBits, UndefinedUse};
 
 /// Watches a tenant up to the first thing that it may not do, of the kinds that are checked.
 #[derive(Drop)]
@@ -33,6 +35,8 @@ pub struct Checker<'a> {
     kinds: CheckKinds,
     shadow: Shadow,
     functions: HeapFunctionWatch,
+    /// The variables, where their bounds are checked.
+    places: Option<NamedPlaces>,
     /// What is undefined, where that is checked.
     bits: Option<UndefinedBits>,
     /// What is not told, where something is not.
@@ -101,9 +105,15 @@ impl<'a> Checker<'a> {
         } else {
             None
         };
+        let places = if kinds.places {
+            Some(NamedPlaces::new(alloc, image)?)
+        } else {
+            None
+        };
         Ok(Checker {
             alloc,
             kinds,
+            places,
             silence: Silence::of(alloc, terms)?,
             shadow: Shadow::new(alloc)?,
             functions: HeapFunctionWatch::new(alloc, image)?,
@@ -219,17 +229,52 @@ impl<'a> Checker<'a> {
         if let Some(misuse) = self.misuse_by(attempt)? {
             return Ok(Some(Violation::Provenance(misuse)));
         }
-        let Some(bits) = &self.bits else {
-            return Ok(None);
-        };
-        let used = match &attempt.service {
+        if let Some(misuse) = self.place_misuse(attempt)? {
+            return Ok(Some(Violation::Place(misuse)));
+        }
+        if self.kinds.arithmetic {
+            let step = &attempt.step;
+            if let Some(fault) = ArithmeticFault::of(step.instr, step.before) {
+                return Ok(Some(Violation::Arithmetic(fault)));
+            }
+        }
+        Ok(
+            self.undefined_use(attempt)
+                .map(|used| Violation::Undefined(used)),
+        )
+    }
+
+    /// What of an attempt depends on undefined bits, where that is checked.
+    fn undefined_use(&self, attempt: &Attempt<'_>) -> Option<UndefinedUse> {
+        let bits = self.bits.as_ref()?;
+        match &attempt.service {
             Some(asked) => {
                 let output = asked.bytes.filter(|bytes| !bytes.is_write);
                 bits.judge_service(arguments_of(attempt.step.before), output)
             }
             None => bits.judge(&attempt.step),
+        }
+    }
+
+    /// What is wrong with the pointer to a variable by which an attempt accesses memory, or which
+    /// it frees, where that is checked.
+    fn place_misuse(&mut self, attempt: &Attempt<'_>) -> Result<Option<PlaceMisuse>, Full> {
+        let Some(places) = &self.places else {
+            return Ok(None);
         };
-        Ok(used.map(|used| Violation::Undefined(used)))
+        let Some(asked) = &attempt.service else {
+            if attempt.step.access.is_none() {
+                return Ok(None);
+            }
+            let origin = self.shadow.address_origin(attempt.step.instr)?;
+            return Ok(places.judge(&attempt.step, origin));
+        };
+        let (before, origin) = (attempt.step.before, self.shadow.register(0).pointer());
+        Ok(match asked.bytes {
+            Some(bytes) => places.judge_service(bytes, origin),
+            None if is_free(before) => places.judge_free(before.x[0], origin),
+            None => None,
+        })
     }
 
     /// Notes what an attempt did that completed.
@@ -254,7 +299,11 @@ impl<'a> Checker<'a> {
         if let Some(returned) = self.functions.note(step) {
             self.shadow.note_maker(&returned);
         }
-        self.shadow.note(step)
+        self.shadow.note(step)?;
+        match &mut self.places {
+            Some(places) => places.note(step, &mut self.shadow),
+            None => Ok(()),
+        }
     }
 
     /// What is wrong with the pointer by which an attempt accesses memory, or which it frees, where
@@ -396,7 +445,8 @@ fn forbidden(violation: &Violation) -> ForbiddenAccess {
     let (addr, access) = match violation {
         Violation::Provenance(misuse) => (misuse.addr, Some(&misuse.access)),
         Violation::Undefined(used) => (used.addr.unwrap_or(0), None),
-        Violation::Bounds(_) => (0, None),
+        Violation::Place(misuse) => (misuse.addr, Some(&misuse.access)),
+        Violation::Bounds(_) | Violation::Arithmetic(_) => (0, None),
     };
     let span = match access {
         Some(access) => Span {

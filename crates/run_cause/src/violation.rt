@@ -1,7 +1,9 @@
 //! What is wrong with an access, by what found it.
 
+use arithmetic_faults::{ArithmeticFault, ArithmeticKind};
 use check_kinds::CheckKind;
 use heap_bounds::Trespass;
+use named_places::{PlaceMisuse, PlaceMisuseKind};
 use pointer_provenance::{Misuse, MisuseKind};
 use std::fmt;
 use undefined_bits::{UndefinedUse, UseKind};
@@ -15,6 +17,10 @@ pub enum Violation {
     Provenance(Misuse),
     /// It depends on bits that were never given a value.
     Undefined(UndefinedUse),
+    /// The bounds and the life of its pointer's variable.
+    Place(PlaceMisuse),
+    /// An operation whose operands give it no result.
+    Arithmetic(ArithmeticFault),
 }
 
 impl Violation {
@@ -22,7 +28,7 @@ impl Violation {
     pub fn finder(&self) -> &'static str {
         match self {
             Violation::Bounds(_) => "exact",
-            Violation::Provenance(_) | Violation::Undefined(_) => "check",
+            _ => "check",
         }
     }
 
@@ -35,7 +41,9 @@ impl Violation {
     pub fn kind(&self) -> CheckKind {
         match self {
             Violation::Undefined(_) => CheckKind::Undefined,
+            Violation::Arithmetic(_) => CheckKind::Arithmetic,
             _ if self.is_free() => CheckKind::Frees,
+            Violation::Place(_) => CheckKind::Places,
             _ => CheckKind::Provenance,
         }
     }
@@ -48,17 +56,20 @@ impl Violation {
             Violation::Bounds(Trespass::NoChunk) => "is of no chunk",
             Violation::Provenance(misuse) => misuse_words(misuse),
             Violation::Undefined(used) => use_words(used.kind),
+            Violation::Place(misuse) => place_words(misuse.kind),
+            Violation::Arithmetic(fault) => operation_words(fault.kind),
         }
     }
 
     /// Whether it is no access but a free.
     pub fn is_free(&self) -> bool {
         match self {
-            Violation::Bounds(_) | Violation::Undefined(_) => false,
+            Violation::Place(misuse) => misuse.kind == PlaceMisuseKind::Free,
             Violation::Provenance(misuse) => matches!(
                 misuse.kind,
                 MisuseKind::DoubleFree | MisuseKind::InnerFree | MisuseKind::MismatchedFree
             ),
+            _ => false,
         }
     }
 }
@@ -74,6 +85,14 @@ impl fmt::Display for Violation {
             Violation::Undefined(used) => {
                 let kind = used.kind;
                 write!(f, "Undefined{kind:?}")
+            }
+            Violation::Place(misuse) => {
+                let kind = misuse.kind;
+                write!(f, "Place{kind:?}")
+            }
+            Violation::Arithmetic(fault) => {
+                let kind = fault.kind;
+                write!(f, "{kind:?}")
             }
         }
     }
@@ -111,5 +130,23 @@ fn misuse_words(misuse: &Misuse) -> &'static str {
         (MisuseKind::DoubleFree, _) => "the pointer's chunk was freed before",
         (MisuseKind::InnerFree, _) => "it points into its chunk, not to the start",
         (MisuseKind::MismatchedFree, _) => "the pointer's chunk is not for this function to free",
+    }
+}
+
+/// What a use of a pointer to a variable does that is wrong.
+fn place_words(kind: PlaceMisuseKind) -> &'static str {
+    match kind {
+        PlaceMisuseKind::Overflow => "is past the end of the pointer's variable",
+        PlaceMisuseKind::Underflow => "is in front of the pointer's variable",
+        PlaceMisuseKind::AfterReturn => "was of a function that has returned",
+        PlaceMisuseKind::Free => "it points to a variable",
+    }
+}
+
+/// Which operation has no result.
+fn operation_words(kind: ArithmeticKind) -> &'static str {
+    match kind {
+        ArithmeticKind::Division => "divides by 0",
+        ArithmeticKind::Shift => "shifts by as many bits as there are, or more",
     }
 }

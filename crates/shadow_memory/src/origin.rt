@@ -15,12 +15,17 @@ pub enum OriginKind {
     Stack,
     /// The chunk at an index of the table of chunks.
     Chunk(usize),
+    /// The place at an index of a table of places that have names, as variables.
+    Place(usize),
     /// The sum at an index of the table of sums.
     Sum(usize),
 }
 
 /// The number of the first chunk.
 const FIRST_CHUNK: u32 = 2;
+
+/// The number of the first place.
+const FIRST_PLACE: u32 = 0x4000_0000;
 
 /// The number of the first sum.
 const FIRST_SUM: u32 = 0x8000_0000;
@@ -38,8 +43,18 @@ impl PointerOrigin {
     /// The chunk at an index, of those that have a number.
     pub fn of_chunk(index: usize) -> PointerOrigin {
         match u32::try_from(index) {
-            Ok(index) if index < FIRST_SUM - FIRST_CHUNK => PointerOrigin {
+            Ok(index) if index < FIRST_PLACE - FIRST_CHUNK => PointerOrigin {
                 number: index + FIRST_CHUNK,
+            },
+            _ => PointerOrigin::UNKNOWN,
+        }
+    }
+
+    /// The place at an index, of those that have a number.
+    pub fn of_place(index: usize) -> PointerOrigin {
+        match u32::try_from(index) {
+            Ok(index) if index < FIRST_SUM - FIRST_PLACE => PointerOrigin {
+                number: index + FIRST_PLACE,
             },
             _ => PointerOrigin::UNKNOWN,
         }
@@ -60,7 +75,8 @@ impl PointerOrigin {
         match self.number {
             0 => OriginKind::Unknown,
             1 => OriginKind::Stack,
-            number if number < FIRST_SUM => OriginKind::Chunk((number - FIRST_CHUNK) as usize),
+            number if number < FIRST_PLACE => { OriginKind::Chunk((number - FIRST_CHUNK) as usize) }
+            number if number < FIRST_SUM => OriginKind::Place((number - FIRST_PLACE) as usize),
             number => OriginKind::Sum((number - FIRST_SUM) as usize),
         }
     }
@@ -74,6 +90,14 @@ impl PointerOrigin {
     pub fn chunk(self) -> Option<usize> {
         match self.kind() {
             OriginKind::Chunk(index) => Some(index),
+            _ => None,
+        }
+    }
+
+    /// The index of the place that it is, if it is one.
+    pub fn place(self) -> Option<usize> {
+        match self.kind() {
+            OriginKind::Place(index) => Some(index),
             _ => None,
         }
     }

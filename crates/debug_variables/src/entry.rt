@@ -1,0 +1,103 @@
+//! What an entry says, as far as variables need it (DWARF 5, 7.5.4).
+
+use crate::abbreviation::EntryLayout;
+use crate::budget::ReadingBudget;
+use crate::value::FieldValue;
+use debug_lines::Reader;
+
+/// The attributes of an entry: one that it doesn't have is `FieldValue::Other`.
+#[derive(Clone, Copy)]
+pub struct VariableEntry<'a> {
+    /// DW_AT_location.
+    pub location: FieldValue<'a>,
+    /// DW_AT_name.
+    pub name: FieldValue<'a>,
+    /// DW_AT_byte_size.
+    pub size: FieldValue<'a>,
+    /// DW_AT_low_pc.
+    pub low: FieldValue<'a>,
+    /// DW_AT_high_pc: an address, or how far it is from the low one.
+    pub high: FieldValue<'a>,
+    /// DW_AT_upper_bound.
+    pub last: FieldValue<'a>,
+    /// DW_AT_abstract_origin or DW_AT_specification: the entry that says more.
+    pub origin: FieldValue<'a>,
+    /// DW_AT_count.
+    pub count: FieldValue<'a>,
+    /// DW_AT_decl_file.
+    pub file: FieldValue<'a>,
+    /// DW_AT_decl_line.
+    pub line: FieldValue<'a>,
+    /// DW_AT_frame_base.
+    pub frame: FieldValue<'a>,
+    /// DW_AT_type.
+    pub type_: FieldValue<'a>,
+    /// DW_AT_stmt_list, of a unit.
+    pub lines: FieldValue<'a>,
+    /// DW_AT_str_offsets_base, of a unit.
+    pub text_offsets: FieldValue<'a>,
+    /// DW_AT_addr_base, of a unit.
+    pub addresses: FieldValue<'a>,
+    /// Whether it is said that all of a function's calls have entries, as compilers say it of one
+    /// that they optimized (DW_AT_call_all_calls, DW_AT_GNU_all_call_sites).
+    pub has_all_calls: bool,
+}
+
+impl<'a> VariableEntry<'a> {
+    /// An entry without attributes.
+    const NOTHING: VariableEntry<'static> = VariableEntry {
+        location: FieldValue::Other,
+        name: FieldValue::Other,
+        size: FieldValue::Other,
+        low: FieldValue::Other,
+        high: FieldValue::Other,
+        last: FieldValue::Other,
+        origin: FieldValue::Other,
+        count: FieldValue::Other,
+        file: FieldValue::Other,
+        line: FieldValue::Other,
+        frame: FieldValue::Other,
+        type_: FieldValue::Other,
+        lines: FieldValue::Other,
+        text_offsets: FieldValue::Other,
+        addresses: FieldValue::Other,
+        has_all_calls: false,
+    };
+
+    /// Reads the values of an entry.
+    pub fn read(
+        abbreviation: &EntryLayout<'a>,
+        entries: &mut Reader<'a>,
+        budget: &mut ReadingBudget,
+    ) -> Option<VariableEntry<'a>> {
+        let mut entry: VariableEntry<'a> = VariableEntry::NOTHING;
+        for attribute in abbreviation.attributes {
+            let value = attribute.value(entries, budget)?;
+            entry.put(attribute.name, value);
+        }
+        Some(entry)
+    }
+
+    /// Gives an attribute its value.
+    fn put(&mut self, name: u64, value: FieldValue<'a>) {
+        match name {
+            0x02 => self.location = value,
+            0x03 => self.name = value,
+            0x0B => self.size = value,
+            0x10 => self.lines = value,
+            0x11 => self.low = value,
+            0x12 => self.high = value,
+            0x2F => self.last = value,
+            0x31 | 0x47 => self.origin = value,
+            0x37 => self.count = value,
+            0x3A => self.file = value,
+            0x3B => self.line = value,
+            0x40 => self.frame = value,
+            0x49 => self.type_ = value,
+            0x72 => self.text_offsets = value,
+            0x73 => self.addresses = value,
+            0x7A | 0x2117 => self.has_all_calls = true,
+            _ => {}
+        }
+    }
+}

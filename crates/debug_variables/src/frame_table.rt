@@ -1,0 +1,216 @@
+//! The variables in the frames of functions.
+
+use crate::declaration::{Declaration, VariableName};
+use crate::search::VariableSearch;
+use crate::sections::VariableSections;
+use std::alloc::{AllocError, Global};
+
+/// What the places of a function's variables are counted from.
+#[derive(Clone, Copy, Debug, PartialEq, Eq)]
+pub enum FrameBase {
+    /// SP when the function was called.
+    Caller,
+    /// The frame pointer, x29.
+    FramePointer,
+    /// SP.
+    StackPointer,
+}
+
+/// A function of an image.
+#[derive(Clone, Copy, Debug, PartialEq, Eq)]
+pub struct FrameFunction {
+    /// Its first address.
+    pub low: u64,
+    /// The address behind its last.
+    pub high: u64,
+    /// What the places of its variables are counted from.
+    pub base: FrameBase,
+    /// Whether its unit was optimized, as far as that shows.
+    pub is_optimized: bool,
+    /// The number of its first variable, and how many there are.
+    pub(crate) first: usize,
+    pub(crate) count: usize,
+}
+
+/// A variable in the frame of a function, or several that share its bytes.
+#[derive(Clone, Copy, Debug, PartialEq, Eq)]
+pub struct FrameVariable {
+    /// The function, by its place among those that were found.
+    pub(crate) function: usize,
+    /// How far its first byte is from the function's base, modulo 2^64.
+    pub offset: u64,
+    /// Its bytes.
+    pub size: u64,
+    /// Its name; that of the largest of several.
+    pub name: VariableName,
+    /// Where it is declared, if that is known.
+    pub declaration: Option<Declaration>,
+}
+
+/// What is added to an offset modulo 2^64 so that negative ones come first.
+const SIGN: u64 = 1 << 63;
+
+impl FrameVariable {
+    /// Its place in the order of the variables of a function.
+    fn place(&self) -> u64 {
+        self.offset.wrapping_add(SIGN)
+    }
+
+    /// The place behind it.
+    fn end(&self) -> u64 {
+        self.place().saturating_add(self.size)
+    }
+}
+
+/// The variables in the frames of an image's functions, and where those of the image itself are
+/// declared.
+#[derive(Drop)]
+pub struct FrameVariables {
+    /// The lowest first.
+    functions: Vec<FrameFunction>,
+    /// Those of one function together, the lowest first; none has a byte of another.
+    variables: Vec<FrameVariable>,
+    /// The lowest first.
+    pub(crate) declared: Vec<DeclaredObject>,
+}
+
+/// Where a variable of the image is declared.
+#[derive(Clone, Copy)]
+pub struct DeclaredObject {
+    /// The variable's address.
+    pub(crate) addr: u64,
+    /// Its line.
+    pub(crate) declaration: Declaration,
+}
+
+impl FrameVariables {
+    /// Those of a file, by its units of versions 4 and 5 of the 32-bit format: at most 65,536
+    /// functions and as many variables. A unit is read up to an entry that can't be read, and
+    /// nothing more is found once so much was read as ten large programs have. Variables that share
+    /// bytes are one. `Err` where there is no memory for them: some 10 MiB at most.
+    pub fn of(alloc: Global, file: &[u8]) -> Result<FrameVariables, AllocError> {
+        let mut search = VariableSearch::new(alloc);
+        search.search_all(alloc, &VariableSections::of(file))?;
+        let VariableSearch {
+            mut functions,
+            mut variables,
+            mut declared,
+            ..
+        } = search;
+        variables
+            .as_mut_slice()
+            .sort_unstable_by_key(|variable| (variable.function, variable.place()));
+        let variables = joined(alloc, variables.as_slice())?;
+        count_variables(functions.as_mut_slice(), variables.as_slice());
+        functions
+            .as_mut_slice()
+            .sort_unstable_by_key(|function| function.low);
+        declared
+            .as_mut_slice()
+            .sort_unstable_by_key(|object| object.addr);
+        Ok(FrameVariables {
+            functions,
+            variables,
+            declared,
+        })
+    }
+
+    /// The function at an address.
+    pub fn function_at(&self, pc: u64) -> Option<&FrameFunction> {
+        let behind = self
+            .functions
+            .as_slice()
+            .partition_point(|function| function.low <= pc);
+        let function = self.functions.get(behind.checked_sub(1)?)?;
+        if pc < function.high {
+            Some(function)
+        } else {
+            None
+        }
+    }
+
+    /// The variable of a function that has the byte at an offset from the function's base, modulo
+    /// 2^64.
+    pub fn variable_at(&self, function: &FrameFunction, offset: u64) -> Option<&FrameVariable> {
+        let (all, behind) = self.split_at(function, offset);
+        let variable = all.get(behind.checked_sub(1)?)?;
+        if offset.wrapping_add(SIGN) < variable.end() {
+            Some(variable)
+        } else {
+            None
+        }
+    }
+
+    /// The bytes of the variable of a function that ends where another begins, which has an offset
+    /// from the function's base; 0 where none does.
+    pub fn size_before(&self, function: &FrameFunction, offset: u64) -> u64 {
+        let (all, _) = self.split_at(function, offset);
+        let place = offset.wrapping_add(SIGN);
+        match all.iter().find(|variable| variable.end() == place) {
+            Some(variable) => variable.size,
+            None => 0,
+        }
+    }
+
+    /// The variables of a function, and how many begin at an offset or in front of it.
+    fn split_at(&self, function: &FrameFunction, offset: u64) -> (&[FrameVariable], usize) {
+        let end = function.first.saturating_add(function.count);
+        let all = self.variables.get(function.first..end).unwrap_or(&[]);
+        let place = offset.wrapping_add(SIGN);
+        let behind = all.partition_point(|variable| variable.place() <= place);
+        (all, behind)
+    }
+
+    /// Where the variable of the image at an address is declared, if that is known.
+    pub fn declaration_at(&self, addr: u64) -> Option<Declaration> {
+        let at = self
+            .declared
+            .as_slice()
+            .binary_search_by_key(&addr, |object| object.addr)
+            .ok()?;
+        Some(self.declared.get(at)?.declaration)
+    }
+}
+
+/// Variables in order, where those that share bytes are one.
+fn joined(alloc: Global, sorted: &[FrameVariable]) -> Result<Vec<FrameVariable>, AllocError> {
+    let mut all: Vec<FrameVariable> = Vec::with_capacity(alloc, sorted.len())?;
+    for variable in sorted {
+        match all.last_mut() {
+            Some(last) if last.function == variable.function && variable.place() < last.end() => {
+                *last = union_of(last, variable);
+            }
+            _ => all.push(*variable)?,
+        }
+    }
+    Ok(all)
+}
+
+/// Two variables as one, the first of which begins in front of the other or where it does.
+fn union_of(first: &FrameVariable, other: &FrameVariable) -> FrameVariable {
+    let end = first.end().max(other.end());
+    let named = if other.size > first.size {
+        other
+    } else {
+        first
+    };
+    FrameVariable {
+        function: first.function,
+        offset: first.offset,
+        size: end.saturating_sub(first.place()),
+        name: named.name,
+        declaration: named.declaration,
+    }
+}
+
+/// Enters in functions which variables are theirs.
+fn count_variables(functions: &mut [FrameFunction], variables: &[FrameVariable]) {
+    for (index, variable) in variables.iter().enumerate() {
+        if let Some(function) = functions.get_mut(variable.function) {
+            if function.count == 0 {
+                function.first = index;
+            }
+            function.count = function.count.saturating_add(1);
+        }
+    }
+}

@@ -1,0 +1,22 @@
+//! Where an image has its variables: those of frames by `.debug_info` (DWARF 5 and DWARF 4, 2.5,
+//! 3.3 and 4.1), and those of the image by its symbols (System V ABI, Object Files: `Elf64_Sym`).
+//! What cannot be read is left out: a file with wrong entries has fewer variables.
+#![tactic(auto)]
+
+mod abbreviation;
+mod budget;
+mod declaration;
+mod entry;
+mod frame_table;
+mod object_table;
+mod search;
+mod sections;
+#[cfg(test)]
+mod tests;
+mod types;
+mod unit;
+mod value;
+
+pub use declaration::{Declaration, VariableName};
+pub use frame_table::{FrameBase, FrameFunction, FrameVariable, FrameVariables};
+pub use object_table::{ImageObject, ImageObjects};

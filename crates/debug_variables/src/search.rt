@@ -1,0 +1,447 @@
+//! The search for variables through `.debug_info`.
+
+use crate::abbreviation::{EntryLayout, EntryLayouts};
+use crate::budget::ReadingBudget;
+use crate::declaration::{Declaration, VariableName};
+use crate::entry::VariableEntry;
+use crate::frame_table::{DeclaredObject, FrameBase, FrameFunction, FrameVariable};
+use crate::sections::VariableSections;
+use crate::types::UnitTypes;
+use crate::unit::{SectionUnit, VariableUnit};
+use crate::value::{FieldValue, number};
+use debug_lines::Reader;
+use std::alloc::{AllocError, Global};
+
+/// The most functions, the most variables of frames, and the most of the image, that are found.
+const MOST: usize = 65_536;
+
+/// How many functions may be in one another.
+const DEEPEST: usize = 64;
+
+/// DW_TAG_formal_parameter and DW_TAG_variable.
+const PARAMETER: u64 = 0x05;
+
+const VARIABLE: u64 = 0x34;
+
+/// DW_TAG_subprogram.
+const FUNCTION: u64 = 0x2E;
+
+/// DW_OP_addr, DW_OP_addrx, DW_OP_fbreg, DW_OP_call_frame_cfa, and DW_OP_reg29 and DW_OP_reg31.
+const AT_ADDRESS: u8 = 0x03;
+
+const AT_NUMBERED_ADDRESS: u8 = 0xA1;
+
+const AT_FRAME: u8 = 0x91;
+
+const CALLER_FRAME: u8 = 0x9C;
+
+const REGISTER_29: u8 = 0x6D;
+
+const REGISTER_31: u8 = 0x6F;
+
+/// A function whose entries are being read.
+#[derive(Clone, Copy)]
+struct OpenFunction {
+    /// How many entries it is in.
+    depth: u64,
+    /// Its place among those that were found, if it has a frame of its own.
+    place: Option<usize>,
+}
+
+/// A unit, its first entry and its types.
+#[derive(Clone, Copy)]
+struct UnitScope<'t, 's, 'a> {
+    sections: &'s VariableSections<'a>,
+    first: VariableEntry<'a>,
+    types: UnitTypes<'t, 'a>,
+}
+
+/// A search through `.debug_info`.
+#[derive(Drop)]
+pub struct VariableSearch {
+    budget: ReadingBudget,
+    pub functions: Vec<FrameFunction>,
+    pub variables: Vec<FrameVariable>,
+    pub declared: Vec<DeclaredObject>,
+    /// The functions around the entry that is read, the outermost first.
+    open: Vec<OpenFunction>,
+    /// Whether something says that the unit was optimized.
+    is_optimized: bool,
+}
+
+impl VariableSearch {
+    /// One that has found nothing.
+    pub fn new(alloc: Global) -> VariableSearch {
+        VariableSearch {
+            budget: ReadingBudget::FULL,
+            functions: Vec::new(alloc),
+            variables: Vec::new(alloc),
+            declared: Vec::new(alloc),
+            open: Vec::new(alloc),
+            is_optimized: false,
+        }
+    }
+
+    /// Goes through all units.
+    pub fn search_all(
+        &mut self,
+        alloc: Global,
+        sections: &VariableSections<'_>,
+    ) -> Result<(), AllocError> {
+        let mut table = EntryLayouts::new(alloc);
+        let mut at = 0;
+        for _ in 0..self.budget.left() {
+            let Some(bytes) = self.next_unit(sections, at) else {
+                break;
+            };
+            at = bytes.end;
+            if let Some(unit) = bytes.unit() {
+                table.load(sections.abbreviations, unit.abbreviations, &mut self.budget)?;
+                self.search_unit(sections, &unit, &table)?;
+            }
+        }
+        Ok(())
+    }
+
+    /// The unit at an offset, while there is something left to be spent.
+    fn next_unit<'a>(
+        &mut self,
+        sections: &VariableSections<'a>,
+        at: u64,
+    ) -> Option<SectionUnit<'a>> {
+        self.budget.spend(1)?;
+        SectionUnit::at(sections.info, at)
+    }
+
+    /// Goes through a unit, and enters in its functions whether it was optimized.
+    fn search_unit<'a>(
+        &mut self,
+        sections: &VariableSections<'a>,
+        unit: &VariableUnit<'a>,
+        table: &EntryLayouts<'a>,
+    ) -> Result<(), AllocError> {
+        let functions = self.functions.len();
+        self.is_optimized = false;
+        self.open.clear();
+        let mut entries = unit.entries;
+        if let Some(first) = self.first_entry(table, &mut entries) {
+            let scope = UnitScope {
+                sections,
+                first,
+                types: UnitTypes { unit: *unit, table },
+            };
+            self.search_entries(&scope, entries)?;
+        }
+        let is_optimized = self.is_optimized;
+        for function in self
+            .functions
+            .as_mut_slice()
+            .get_mut(functions..)
+            .unwrap_or(&mut [])
+        {
+            function.is_optimized = is_optimized;
+        }
+        Ok(())
+    }
+
+    /// The first entry of a unit, if others are in it.
+    fn first_entry<'a>(
+        &mut self,
+        table: &EntryLayouts<'a>,
+        entries: &mut Reader<'a>,
+    ) -> Option<VariableEntry<'a>> {
+        let abbreviation = table.of(number(entries)?)?;
+        let entry = VariableEntry::read(&abbreviation, entries, &mut self.budget)?;
+        if abbreviation.has_children {
+            Some(entry)
+        } else {
+            None
+        }
+    }
+
+    /// Goes through the entries in the first one. It ends where one can't be read.
+    fn search_entries<'a>(
+        &mut self,
+        scope: &UnitScope<'_, '_, 'a>,
+        mut entries: Reader<'a>,
+    ) -> Result<(), AllocError> {
+        let mut depth: u64 = 1;
+        for _ in 0..self.budget.left() {
+            let Some(abbreviation) = self.next_entry(scope, &mut entries) else {
+                return Ok(());
+            };
+            let Some(abbreviation) = abbreviation else {
+                depth = depth.saturating_sub(1);
+                if depth == 0 {
+                    return Ok(());
+                }
+                self.close(depth);
+                continue;
+            };
+            let Some(entry) = VariableEntry::read(&abbreviation, &mut entries, &mut self.budget)
+            else {
+                return Ok(());
+            };
+            self.enter(scope, &abbreviation, &entry, depth)?;
+            if abbreviation.has_children {
+                depth = depth.saturating_add(1);
+            }
+        }
+        Ok(())
+    }
+
+    /// What the next entry has; nothing inside where it is the end of those of one entry.
+    fn next_entry<'a>(
+        &mut self,
+        scope: &UnitScope<'_, '_, 'a>,
+        entries: &mut Reader<'a>,
+    ) -> Option<Option<EntryLayout<'a>>> {
+        self.budget.spend(1)?;
+        let code = number(entries)?;
+        if code == 0 {
+            return Some(None);
+        }
+        Some(Some(scope.types.table.of(code)?))
+    }
+
+    /// Closes the function at a depth, if it is open: all of its entries were read.
+    fn close(&mut self, depth: u64) {
+        if let Some(last) = self.open.last() {
+            if last.depth >= depth {
+                self.open.pop();
+            }
+        }
+    }
+
+    /// Enters what an entry says.
+    fn enter<'a>(
+        &mut self,
+        scope: &UnitScope<'_, '_, 'a>,
+        abbreviation: &EntryLayout<'a>,
+        entry: &VariableEntry<'a>,
+        depth: u64,
+    ) -> Result<(), AllocError> {
+        match abbreviation.tag {
+            FUNCTION => {
+                self.is_optimized = self.is_optimized || entry.has_all_calls;
+                if abbreviation.has_children && self.open.len() < DEEPEST {
+                    let place = self.enter_function(scope, entry)?;
+                    self.open.push(OpenFunction { depth, place })?;
+                }
+                Ok(())
+            }
+            VARIABLE | PARAMETER => self.enter_variable(scope, entry),
+            _ => Ok(()),
+        }
+    }
+
+    /// Enters a function that has a frame and one range of addresses; its place.
+    fn enter_function<'a>(
+        &mut self,
+        scope: &UnitScope<'_, '_, 'a>,
+        entry: &VariableEntry<'a>,
+    ) -> Result<Option<usize>, AllocError> {
+        let Some(function) = scope.function(entry) else {
+            return Ok(None);
+        };
+        let place = self.functions.len();
+        if place >= MOST {
+            return Ok(None);
+        }
+        self.functions.push(function)?;
+        Ok(Some(place))
+    }
+
+    /// Enters a variable, where it has one place.
+    fn enter_variable<'a>(
+        &mut self,
+        scope: &UnitScope<'_, '_, 'a>,
+        entry: &VariableEntry<'a>,
+    ) -> Result<(), AllocError> {
+        let expression = match entry.location {
+            FieldValue::Block(expression) => expression,
+            FieldValue::Offset(_) => {
+                self.is_optimized = true;
+                return Ok(());
+            }
+            _ => return Ok(()),
+        };
+        match scope.place_of(expression) {
+            Some(VariablePlace::Frame(offset)) => self.enter_local(scope, entry, offset),
+            Some(VariablePlace::Image(addr)) => self.enter_object(scope, entry, addr),
+            None => Ok(()),
+        }
+    }
+
+    /// Enters a variable of the function that is read, at an offset from the function's base.
+    fn enter_local<'a>(
+        &mut self,
+        scope: &UnitScope<'_, '_, 'a>,
+        entry: &VariableEntry<'a>,
+        offset: u64,
+    ) -> Result<(), AllocError> {
+        let Some(function) = self.open.last().and_then(|open| open.place) else {
+            return Ok(());
+        };
+        let entry = scope.whole(entry, &mut self.budget);
+        let size = entry
+            .type_
+            .entry()
+            .and_then(|at| scope.types.size(at, &mut self.budget));
+        match size {
+            Some(size) if size > 0 && self.variables.len() < MOST => {
+                self.variables.push(FrameVariable {
+                    function,
+                    offset,
+                    size,
+                    name: scope.name(&entry),
+                    declaration: scope.declaration(&entry),
+                })?;
+                Ok(())
+            }
+            _ => Ok(()),
+        }
+    }
+
+    /// Enters where a variable of the image is declared.
+    fn enter_object<'a>(
+        &mut self,
+        scope: &UnitScope<'_, '_, 'a>,
+        entry: &VariableEntry<'a>,
+        addr: u64,
+    ) -> Result<(), AllocError> {
+        let entry = scope.whole(entry, &mut self.budget);
+        match scope.declaration(&entry) {
+            Some(declaration) if self.declared.len() < MOST => {
+                self.declared.push(DeclaredObject { addr, declaration })?;
+                Ok(())
+            }
+            _ => Ok(()),
+        }
+    }
+}
+
+impl<'t, 's, 'a> UnitScope<'t, 's, 'a> {
+    /// A function that has a frame and one range of addresses.
+    fn function(&self, entry: &VariableEntry<'a>) -> Option<FrameFunction> {
+        let FieldValue::Block(expression) = entry.frame else {
+            return None;
+        };
+        let low = self.address(&entry.low)?;
+        let high = match entry.high {
+            FieldValue::Number(size) => low.checked_add(size)?,
+            _ => self.address(&entry.high)?,
+        };
+        Some(FrameFunction {
+            low,
+            high,
+            base: base_of(expression)?,
+            is_optimized: false,
+            first: 0,
+            count: 0,
+        })
+    }
+
+    /// Where the variable of an expression is, if it is in one place as a whole.
+    fn place_of(&self, expression: &'a [u8]) -> Option<VariablePlace> {
+        let mut operations = Reader { rest: expression };
+        let place = match operations.byte()? {
+            AT_FRAME => VariablePlace::Frame(operations.signed()?),
+            AT_ADDRESS => VariablePlace::Image(operations.double_word()?),
+            AT_NUMBERED_ADDRESS => {
+                let number = FieldValue::AddressAt(number(&mut operations)?);
+                VariablePlace::Image(self.address(&number)?)
+            }
+            _ => return None,
+        };
+        if operations.rest.is_empty() {
+            Some(place)
+        } else {
+            None
+        }
+    }
+
+    /// The address that a value is.
+    fn address(&self, value: &FieldValue<'a>) -> Option<u64> {
+        match value {
+            FieldValue::Address(address) => Some(*address),
+            FieldValue::AddressAt(number) => {
+                let base = self.first.addresses.offset()?;
+                self.sections.numbered_address(base, *number)
+            }
+            _ => None,
+        }
+    }
+
+    /// An entry with what another entry says that it refers to.
+    fn whole(&self, entry: &VariableEntry<'a>, budget: &mut ReadingBudget) -> VariableEntry<'a> {
+        match self.origin(entry, budget) {
+            Some(origin) => VariableEntry {
+                name: origin.name,
+                file: origin.file,
+                line: origin.line,
+                type_: origin.type_,
+                ..*entry
+            },
+            None => *entry,
+        }
+    }
+
+    /// The entry that an entry refers to, which says more.
+    fn origin(
+        &self,
+        entry: &VariableEntry<'a>,
+        budget: &mut ReadingBudget,
+    ) -> Option<VariableEntry<'a>> {
+        let mut entries = self.types.unit.entries_at(entry.origin.entry()?)?;
+        let abbreviation = self.types.table.of(number(&mut entries)?)?;
+        VariableEntry::read(&abbreviation, &mut entries, budget)
+    }
+
+    /// The name of an entry.
+    fn name(&self, entry: &VariableEntry<'a>) -> VariableName {
+        let sections = self.sections;
+        let name = match entry.name {
+            FieldValue::Text(text) => Some(text),
+            FieldValue::InfoText(at) => sections.text(at),
+            FieldValue::LineText(at) => sections.line_text(at),
+            FieldValue::TextAt(number) => match self.first.text_offsets.offset() {
+                Some(base) => sections.numbered_text(base, number),
+                None => None,
+            },
+            _ => None,
+        };
+        match name {
+            Some(name) => VariableName::of(name),
+            None => VariableName::NONE,
+        }
+    }
+
+    /// Where the variable of an entry is declared.
+    fn declaration(&self, entry: &VariableEntry<'a>) -> Option<Declaration> {
+        Some(Declaration {
+            unit: self.first.lines.offset()?,
+            file: entry.file.number()?,
+            line: u32::try_from(entry.line.number()?).ok()?,
+        })
+    }
+}
+
+/// Where a variable is.
+#[derive(Clone, Copy)]
+enum VariablePlace {
+    /// At an offset from the base of its function, modulo 2^64.
+    Frame(u64),
+    /// At an address of the image.
+    Image(u64),
+}
+
+/// What the expression of a function's base says.
+fn base_of(expression: &[u8]) -> Option<FrameBase> {
+    match expression {
+        [CALLER_FRAME] => Some(FrameBase::Caller),
+        [REGISTER_29] => Some(FrameBase::FramePointer),
+        [REGISTER_31] => Some(FrameBase::StackPointer),
+        _ => None,
+    }
+}

@@ -1,0 +1,19 @@
+//! What is found in files that are none. What compilers write is read by `tests/test_checks.py`.
+
+use crate::declaration::VariableName;
+use crate::frame_table::FrameVariables;
+use crate::object_table::ImageObjects;
+use std::test::Fail;
+
+#[test]
+fn nothing_is_found_in_nothing(rt: HostRuntime) -> Result<(), Fail> {
+    let variables = FrameVariables::of(rt.alloc(), b"no file")?;
+    assert!(rt; variables.function_at(0).is_none());
+    assert!(rt; variables.declaration_at(0).is_none());
+    let objects = ImageObjects::of(rt.alloc(), b"no file")?;
+    assert!(rt; objects.all().is_empty());
+    assert!(rt; objects.number_at(4096).is_none() && objects.size_before(4096) == 0);
+    assert!(rt; VariableName::of(b"buffer").text() == "buffer");
+    assert!(rt; VariableName::of(b"\n").text() == "?");
+    Ok(())
+}

@@ -1,0 +1,89 @@
+//! How many bytes a type has, by its entries (DWARF 5, 5.1 to 5.15).
+
+use crate::abbreviation::EntryLayouts;
+use crate::budget::ReadingBudget;
+use crate::entry::VariableEntry;
+use crate::unit::VariableUnit;
+use crate::value::number;
+use debug_lines::Reader;
+
+/// How many types are followed, as a typedef's and an array's.
+const FOLLOWED: u32 = 16;
+
+/// How many dimensions an array has at most.
+const DIMENSIONS: u32 = 16;
+
+/// The bytes of a pointer.
+const POINTER: u64 = 8;
+
+/// DW_TAG_array_type.
+const ARRAY: u64 = 0x01;
+
+/// DW_TAG_pointer_type, DW_TAG_reference_type, DW_TAG_rvalue_reference_type.
+const POINTERS: [u64; 3] = [0x0F, 0x10, 0x42];
+
+/// DW_TAG_subrange_type.
+const RANGE: u64 = 0x21;
+
+/// The types of a unit.
+#[derive(Clone, Copy)]
+pub struct UnitTypes<'t, 'a> {
+    pub unit: VariableUnit<'a>,
+    pub table: &'t EntryLayouts<'a>,
+}
+
+impl<'t, 'a> UnitTypes<'t, 'a> {
+    /// The bytes of the type at an offset of the unit, where they are known: not of an array whose
+    /// bounds are no numbers, and not more than 2^32.
+    pub fn size(&self, offset: u64, budget: &mut ReadingBudget) -> Option<u64> {
+        let (mut at, mut elements) = (offset, 1u64);
+        for _ in 0..FOLLOWED {
+            let mut entries = self.unit.entries_at(at)?;
+            let abbreviation = self.table.of(number(&mut entries)?)?;
+            let entry = VariableEntry::read(&abbreviation, &mut entries, budget)?;
+            if let Some(size) = entry.size.number() {
+                return product(elements, size);
+            }
+            if POINTERS.contains(&abbreviation.tag) {
+                return product(elements, POINTER);
+            }
+            if abbreviation.tag == ARRAY {
+                let count = self.elements(entries, budget)?;
+                elements = product(elements, count)?;
+            }
+            at = entry.type_.entry()?;
+        }
+        None
+    }
+
+    /// How many elements an array has, by the entries behind its own.
+    fn elements(&self, mut entries: Reader<'a>, budget: &mut ReadingBudget) -> Option<u64> {
+        let mut elements = 1u64;
+        for _ in 0..DIMENSIONS {
+            let code = number(&mut entries)?;
+            if code == 0 {
+                return Some(elements);
+            }
+            let abbreviation = self.table.of(code)?;
+            let entry = VariableEntry::read(&abbreviation, &mut entries, budget)?;
+            if abbreviation.tag != RANGE || abbreviation.has_children {
+                return None;
+            }
+            elements = product(elements, count_of(&entry)?)?;
+        }
+        None
+    }
+}
+
+/// How many elements a dimension has.
+fn count_of(entry: &VariableEntry<'_>) -> Option<u64> {
+    match entry.count.number() {
+        Some(count) => Some(count),
+        None => entry.last.number()?.checked_add(1),
+    }
+}
+
+/// A product, of at most 2^32.
+fn product(one: u64, other: u64) -> Option<u64> {
+    one.checked_mul(other).filter(|bytes| *bytes <= 1 << 32)
+}

@@ -1,0 +1,259 @@
+//! Whether an access by a pointer to a variable is one of the variable's bytes.
+
+use crate::access_form::{AddressForm, AddressParts};
+use crate::place::{NamedPlace, PlaceKind, PlaceText};
+use crate::places::NamedPlaces;
+use crate::table::PlaceTable;
+use a64_bits::plain;
+use address_map::{IMAGE_END, IMAGE_START, STACK_END, STACK_START};
+use debug_variables::VariableName;
+use shadow_memory::{AccessedBytes, OriginKind, PointerOrigin, Step};
+
+/// The most bytes of a variable that is no array.
+const SCALAR: u64 = 8;
+
+/// What a pointer to a variable was used for that the variable does not allow.
+#[derive(Clone, Copy, Debug, PartialEq, Eq)]
+pub enum PlaceMisuseKind {
+    /// An access past the end of a variable.
+    Overflow,
+    /// An access in front of a variable.
+    Underflow,
+    /// An access to the frame of a function that has returned.
+    AfterReturn,
+    /// A free of what no heap call returned.
+    Free,
+}
+
+/// A use of a pointer to a variable that the variable does not allow.
+#[derive(Clone, Copy, Debug, PartialEq, Eq)]
+pub struct PlaceMisuse {
+    /// What is wrong.
+    pub kind: PlaceMisuseKind,
+    /// The plain address of the first byte that is wrong.
+    pub addr: u64,
+    /// The bytes that are accessed, of one register of a pair.
+    pub access: AccessedBytes,
+    /// The variable.
+    pub place: PlaceText,
+}
+
+/// How an access is judged.
+#[derive(Clone, Copy)]
+struct Strictness {
+    /// Whether the variable's end counts.
+    is_above: bool,
+    /// Whether its start does.
+    is_below: bool,
+    /// Whether what falls into another variable is not told.
+    is_lenient: bool,
+}
+
+impl NamedPlaces {
+    /// What is wrong with what an instruction loads or stores by a pointer, of which nothing is
+    /// noted yet.
+    pub fn judge(&self, step: &Step<'_>, origin: PointerOrigin) -> Option<PlaceMisuse> {
+        let index = origin.place()?;
+        let place = self.table.get(index)?;
+        let access = step.access?;
+        let parts = AddressParts::of(step.instr)?;
+        let strictness = self.strictness(step, parts, index);
+        let found = self.judge_bytes(place, access.bytes, strictness);
+        if found.is_some() || access.second.is_none() {
+            return found;
+        }
+        self.judge_bytes(place, access.bytes.next(), strictness)
+    }
+
+    /// How an access is judged: each one of a function that was not optimized; of another those by
+    /// an index and by a pointer that was moved.
+    fn strictness(&self, step: &Step<'_>, parts: AddressParts, index: usize) -> Strictness {
+        let AddressParts { base, form } = parts;
+        let is_exact = self.is_exact_at(step.before.pc);
+        let (is_moved, is_fresh) = (self.marks.is_moved(base), self.marks.is_fresh(base));
+        let is_own = self.is_own(index);
+        let is_above = match form {
+            AddressForm::Indexed | AddressForm::Behind => true,
+            AddressForm::Plain => is_moved,
+            AddressForm::Front => is_moved || !is_own,
+            AddressForm::Constant => false,
+        };
+        Strictness {
+            is_above: is_exact || is_above,
+            is_below: is_exact && self.is_below(index, form == AddressForm::Indexed && is_fresh),
+            is_lenient: !is_exact && is_own,
+        }
+    }
+
+    /// Whether a place is of the function that runs, or of the image, so that a pointer to another
+    /// may be made of one to it.
+    fn is_own(&self, index: usize) -> bool {
+        match self.table.get(index) {
+            Some(place) if place.text.kind == PlaceKind::Object => true,
+            _ => self.is_of_top(index),
+        }
+    }
+
+    /// Whether what is in front of a place is judged: a pointer to its start may be one to the end
+    /// of what is there.
+    fn is_below(&self, index: usize, is_indexed: bool) -> bool {
+        let Some(place) = self.table.get(index) else {
+            return false;
+        };
+        if is_indexed {
+            place.before <= SCALAR
+        } else {
+            place.is_exact && place.before == 0
+        }
+    }
+
+    /// What is wrong with bytes that are accessed by a pointer to a place.
+    fn judge_bytes(
+        &self,
+        place: &NamedPlace,
+        access: AccessedBytes,
+        strictness: Strictness,
+    ) -> Option<PlaceMisuse> {
+        let (addr, text) = (plain(access.addr), place.text);
+        if !place.is_live {
+            let is_there = place.has(addr);
+            return misuse_if(is_there, PlaceMisuseKind::AfterReturn, addr, access, &text);
+        }
+        if !matches!(text.kind, PlaceKind::Object | PlaceKind::Variable) {
+            return None;
+        }
+        let end = addr.saturating_add(access.count);
+        if addr < text.start {
+            let is_told = strictness.is_below;
+            return misuse_if(is_told, PlaceMisuseKind::Underflow, addr, access, &text);
+        }
+        if end <= text.end || is_part_of_word(&text, access) {
+            return None;
+        }
+        let wrong = addr.max(text.end);
+        let is_other = strictness.is_lenient || place.is_unsure;
+        let is_meant = is_other && self.is_in_other(place, addr, end);
+        let is_told = strictness.is_above && !place.is_marked && !is_meant;
+        misuse_if(is_told, PlaceMisuseKind::Overflow, wrong, access, &text)
+    }
+}
+
+impl NamedPlaces {
+    /// What is wrong with the bytes that a service accesses by the pointer in x0.
+    pub fn judge_service(
+        &self,
+        bytes: AccessedBytes,
+        origin: PointerOrigin,
+    ) -> Option<PlaceMisuse> {
+        let place = self.table.get(origin.place()?)?;
+        if bytes.count == 0 {
+            return None;
+        }
+        let strictness = Strictness {
+            is_above: true,
+            is_below: place.is_exact && place.before == 0,
+            is_lenient: false,
+        };
+        self.judge_bytes(place, bytes, strictness)
+    }
+
+    /// What is wrong with a pointer that a heap call is to free or to give another size: it is one
+    /// to a variable or to the stack, by where it came from, else by its address.
+    pub fn judge_free(&self, pointer: u64, origin: PointerOrigin) -> Option<PlaceMisuse> {
+        let text = self.freed_text(plain(pointer), origin)?;
+        let access = AccessedBytes {
+            addr: pointer,
+            count: 0,
+            is_write: true,
+            is_register: false,
+        };
+        let kind = PlaceMisuseKind::Free;
+        misuse_if(true, kind, plain(pointer), access, &text)
+    }
+
+    /// The variable that a pointer is to which is to be freed.
+    fn freed_text(&self, addr: u64, origin: PointerOrigin) -> Option<PlaceText> {
+        match origin.kind() {
+            OriginKind::Place(index) => {
+                let place = self.table.get(index)?;
+                if place.text.kind == PlaceKind::Page {
+                    return None;
+                }
+                Some(place.text)
+            }
+            OriginKind::Chunk(_) | OriginKind::Sum(_) => None,
+            OriginKind::Stack | OriginKind::Unknown => self.text_at(addr),
+        }
+    }
+
+    /// What is at an address: a variable of the image, or the stack.
+    fn text_at(&self, addr: u64) -> Option<PlaceText> {
+        if IMAGE_START <= addr && addr < IMAGE_END {
+            let number = self.objects.number_at(addr)?;
+            let place = self.table.get(PlaceTable::of_object(number))?;
+            return Some(place.text);
+        }
+        if addr < STACK_START || addr >= STACK_END {
+            return None;
+        }
+        Some(PlaceText {
+            kind: PlaceKind::Frame,
+            start: addr,
+            end: addr,
+            name: VariableName::NONE,
+            declaration: None,
+            function: None,
+        })
+    }
+
+    /// Whether bytes are those of one other variable of the image, or of the same function.
+    fn is_in_other(&self, place: &NamedPlace, addr: u64, end: u64) -> bool {
+        let last = end.saturating_sub(1);
+        if place.text.kind == PlaceKind::Object {
+            let other = self.objects.number_at(addr);
+            return other.is_some() && other == self.objects.number_at(last);
+        }
+        let function = place.text.function.and_then(|low| self.function_at(low));
+        let Some(function) = function else {
+            return false;
+        };
+        let offset = addr.wrapping_sub(place.base);
+        match self.variables.variable_at(&function, offset) {
+            Some(variable) => last.wrapping_sub(place.base).wrapping_sub(variable.offset)
+                < variable.size,
+            None => false,
+        }
+    }
+}
+
+/// A misuse, if it is one.
+fn misuse_if(
+    is_wrong: bool,
+    kind: PlaceMisuseKind,
+    addr: u64,
+    access: AccessedBytes,
+    place: &PlaceText,
+) -> Option<PlaceMisuse> {
+    if !is_wrong {
+        return None;
+    }
+    Some(PlaceMisuse {
+        kind,
+        addr,
+        access,
+        place: *place,
+    })
+}
+
+/// Whether an access is a read of an aligned word that begins in a variable. What is behind the
+/// variable is read for nothing, as by functions that look for the end of a text.
+fn is_part_of_word(place: &PlaceText, access: AccessedBytes) -> bool {
+    let addr = plain(access.addr);
+    let is_aligned = match access.count {
+        2 => addr % 2 == 0,
+        4 => addr % 4 == 0,
+        8 => addr % 8 == 0,
+        _ => false,
+    };
+    access.is_register && !access.is_write && is_aligned && addr < place.end
+}

@@ -1,0 +1,20 @@
+//! Whether a tenant uses a pointer to a variable within the variable's bytes, and while its
+//! function runs: which variable a pointer is to, where the image's symbols and its DWARF say it,
+//! and how long frames last. Where nothing is known nothing is said.
+#![tactic(auto)]
+
+mod access_form;
+mod frames;
+mod judgement;
+mod marks;
+mod notes;
+mod place;
+mod places;
+mod selection;
+mod table;
+#[cfg(test)]
+mod tests;
+
+pub use judgement::{PlaceMisuse, PlaceMisuseKind};
+pub use place::{PlaceKind, PlaceText};
+pub use places::NamedPlaces;

@@ -1,0 +1,266 @@
+//! What instructions make of pointers to variables.
+
+use crate::access_form::{AddressForm, AddressParts};
+use crate::place::PlaceKind;
+use crate::places::NamedPlaces;
+use crate::table::PAGE;
+use a64_bits::plain;
+use a64_instr::Instr;
+use pointer_provenance::Shadow;
+use shadow_memory::{Full, PointerOrigin, Step};
+use std::alloc::AllocError;
+
+/// The frame pointer.
+const FRAME_POINTER: u8 = 29;
+
+/// A constant that is added to a register, or subtracted from it.
+#[derive(Clone, Copy)]
+struct AddedConstant {
+    rn: u8,
+    rd: u8,
+    /// Whether it is the first of two, with the higher bits.
+    is_high: bool,
+}
+
+impl NamedPlaces {
+    /// Notes an instruction that completed, other than SVC, which was noted of the pointers.
+    pub fn note(&mut self, step: &Step<'_>, shadow: &mut Shadow) -> Result<(), Full> {
+        if plain(step.before.sp) < plain(step.after.sp) {
+            self.frames.leave_below(plain(step.after.sp));
+        }
+        match *step.instr {
+            Instr::Branch { op: 1, .. } | Instr::BranchReg { opc: 1, .. } => self.note_call(step)?,
+            Instr::BranchReg { opc: 2, .. } => self.note_return(step),
+            Instr::AddSubImm {
+                sf: 1,
+                sh,
+                rn,
+                rd,
+                ..
+            } => {
+                let is_high = sh == 1;
+                self.note_constant(step, shadow, AddedConstant { rn, rd, is_high })?;
+            }
+            Instr::AddG { rn, rd, .. } => {
+                let is_high = false;
+                self.note_constant(step, shadow, AddedConstant { rn, rd, is_high })?;
+            }
+            Instr::Adr { op, rd, .. } => self.note_address(step, shadow, op == 1, rd),
+            _ => self.note_other(step, shadow)?,
+        }
+        Ok(())
+    }
+
+    /// Notes a call.
+    fn note_call(&mut self, step: &Step<'_>) -> Result<(), AllocError> {
+        let after = step.after;
+        self.marks.cross();
+        self.frames
+            .call(plain(after.x[30]), plain(after.sp), plain(after.pc))
+    }
+
+    /// Notes a return.
+    fn note_return(&mut self, step: &Step<'_>) {
+        let after = step.after;
+        self.marks.cross();
+        self.frames
+            .return_to(plain(after.pc), plain(after.sp), &mut self.table);
+    }
+
+    /// Notes an address that was made of the counter: of a page, or of what is there.
+    fn note_address(&mut self, step: &Step<'_>, shadow: &mut Shadow, is_page: bool, rd: u8) {
+        let origin = if is_page {
+            PointerOrigin::of_place(PAGE)
+        } else {
+            self.object_origin(plain(value_in(step, rd)))
+        };
+        self.marks.make(rd);
+        shadow.point(rd, origin);
+    }
+
+    /// Notes that a constant was added to a register.
+    fn note_constant(
+        &mut self,
+        step: &Step<'_>,
+        shadow: &mut Shadow,
+        added: AddedConstant,
+    ) -> Result<(), AllocError> {
+        let AddedConstant { rn, rd, is_high } = added;
+        let origin = shadow.register(rd).pointer();
+        let addr = plain(value_in(step, rd));
+        if origin == PointerOrigin::STACK {
+            if rd != FRAME_POINTER && !is_high {
+                self.marks.make(rd);
+                shadow.point(rd, self.stack_origin(step, shadow, addr)?);
+            }
+            return Ok(());
+        }
+        match origin.place() {
+            None => {}
+            Some(PAGE) => {
+                self.marks.make(rd);
+                shadow.point(rd, self.object_origin(addr));
+            }
+            Some(_) if rn == rd => self.marks.moves(rd),
+            Some(index) => {
+                self.marks.copy(rd, rn);
+                if !self.marks.is_moved(rn) {
+                    self.note_other_variable(step, shadow, rd, index)?;
+                }
+            }
+        }
+        Ok(())
+    }
+
+    /// Notes that a constant led from a pointer to a place into a register. Compilers that optimize
+    /// go from one variable to another so.
+    fn note_other_variable(
+        &mut self,
+        step: &Step<'_>,
+        shadow: &mut Shadow,
+        rd: u8,
+        index: usize,
+    ) -> Result<(), AllocError> {
+        let addr = plain(value_in(step, rd));
+        let Some(place) = self.table.get(index) else {
+            return Ok(());
+        };
+        let (text, is_whole) = (place.text, place.has(addr));
+        let is_own = self.is_of_top(index);
+        if self.is_exact_at(step.before.pc) {
+            return Ok(());
+        }
+        let origin = match text.kind {
+            PlaceKind::Object if addr == text.end => match self.objects.number_at(addr) {
+                Some(_) => PointerOrigin::UNKNOWN,
+                None => return Ok(()),
+            },
+            PlaceKind::Object if !is_whole => self.object_origin(addr),
+            PlaceKind::Variable if is_own && !is_whole => {
+                self.other_of_frame(step, shadow, addr, text.end)?
+            }
+            PlaceKind::Frame if is_own => self.stack_origin(step, shadow, addr)?,
+            _ => return Ok(()),
+        };
+        shadow.point(rd, origin);
+        Ok(())
+    }
+
+    /// Where a pointer points that a constant led to from a variable of the frame that ends at an
+    /// address: where it is there, it may be meant for that variable's end too.
+    fn other_of_frame(
+        &mut self,
+        step: &Step<'_>,
+        shadow: &Shadow,
+        addr: u64,
+        end: u64,
+    ) -> Result<PointerOrigin, AllocError> {
+        let origin = self.stack_origin(step, shadow, addr)?;
+        if addr == end {
+            return Ok(PointerOrigin::STACK);
+        }
+        Ok(origin)
+    }
+
+    /// Whether a place is one of the frame of the function that runs.
+    pub(crate) fn is_of_top(&self, index: usize) -> bool {
+        let mut next = self.frames.top().and_then(|frame| frame.first);
+        for _ in 0..=u8::MAX {
+            let Some(at) = next else {
+                return false;
+            };
+            if at == index {
+                return true;
+            }
+            next = self.table.get(at).and_then(|place| place.next);
+        }
+        false
+    }
+
+    /// Notes another instruction.
+    fn note_other(&mut self, step: &Step<'_>, shadow: &mut Shadow) -> Result<(), AllocError> {
+        if step.access.is_some() {
+            return self.note_access(step, shadow);
+        }
+        match *step.instr {
+            Instr::LogShift {
+                sf: 1,
+                opc: 1,
+                n: 0,
+                imm6: 0,
+                rm,
+                rn: 31,
+                rd,
+                ..
+            } => self.marks.copy(rd, rm),
+            Instr::AddSubShift { rd, .. } | Instr::AddSubExt { rd, .. } => {
+                self.marks.moves(rd);
+                self.note_sum(step, shadow, rd)?;
+            }
+            Instr::LogShift { rd, .. }
+            | Instr::LogImm { rd, .. }
+            | Instr::Bitfield { rd, .. }
+            | Instr::CondSel { rd, .. }
+            | Instr::MulAdd { rd, .. }
+            | Instr::MulAddLong { rd, .. }
+            | Instr::SubP { rd, .. }
+            | Instr::Irg { rd, .. } => self.marks.moves(rd),
+            _ => {}
+        }
+        Ok(())
+    }
+
+    /// Notes a sum of registers: what is made of SP is a pointer into the frame, and what is made
+    /// of a page is not known.
+    fn note_sum(&mut self, step: &Step<'_>, shadow: &mut Shadow, rd: u8) -> Result<(), AllocError> {
+        let origin = shadow.register(rd).pointer();
+        if origin.place() == Some(PAGE) {
+            shadow.point(rd, PointerOrigin::UNKNOWN);
+        } else if origin == PointerOrigin::STACK && rd != FRAME_POINTER {
+            let addr = plain(value_in(step, rd));
+            shadow.point(rd, self.frame_origin(step, shadow, addr)?);
+        }
+        Ok(())
+    }
+
+    /// Notes a load or a store.
+    fn note_access(&mut self, step: &Step<'_>, shadow: &mut Shadow) -> Result<(), AllocError> {
+        let (Some(access), Some(parts)) = (step.access, AddressParts::of(step.instr)) else {
+            return Ok(());
+        };
+        if parts.writes_back() && parts.base < 31 {
+            self.note_write_back(step, shadow, parts)?;
+        }
+        if !access.bytes.is_write {
+            self.marks.load(access.first);
+            if let Some(second) = access.second {
+                self.marks.load(second);
+            }
+        }
+        Ok(())
+    }
+
+    /// Notes that a base register was moved. The first move in front of an access leads to the
+    /// variable that is accessed.
+    fn note_write_back(
+        &mut self,
+        step: &Step<'_>,
+        shadow: &mut Shadow,
+        parts: AddressParts,
+    ) -> Result<(), AllocError> {
+        let base = parts.base;
+        let is_first = parts.form == AddressForm::Front && !self.marks.is_moved(base);
+        if let Some(index) = shadow.register(base).pointer().place() {
+            if is_first && index != PAGE {
+                self.note_other_variable(step, shadow, base, index)?;
+            }
+        }
+        self.marks.moves(base);
+        Ok(())
+    }
+}
+
+/// A numbered register after an instruction, 0 for 31.
+fn value_in(step: &Step<'_>, n: u8) -> u64 {
+    step.after.x.get(usize::from(n)).copied().unwrap_or(0)
+}

@@ -1,0 +1,88 @@
+//! A place that has a name: a variable, or the frame of a function.
+
+use debug_variables::{Declaration, VariableName};
+use std::fmt;
+
+/// What a place is.
+#[derive(Clone, Copy, Debug, PartialEq, Eq)]
+pub enum PlaceKind {
+    /// A page of the image, from which an address of it is made.
+    Page,
+    /// A variable of the image.
+    Object,
+    /// A variable in the frame of a function.
+    Variable,
+    /// A frame, of which it is not known which variable is meant.
+    Frame,
+}
+
+/// What a place is called, and where it is.
+#[derive(Clone, Copy, Debug, PartialEq, Eq)]
+pub struct PlaceText {
+    /// What it is.
+    pub kind: PlaceKind,
+    /// Its plain address.
+    pub start: u64,
+    /// The address behind its last byte.
+    pub end: u64,
+    /// Its name.
+    pub name: VariableName,
+    /// Where it is declared, if that is known.
+    pub declaration: Option<Declaration>,
+    /// An address of the function that it is of, if it is of one.
+    pub function: Option<u64>,
+}
+
+/// What it is: its bytes and its name, and where it is.
+impl fmt::Display for PlaceText {
+    fn fmt<W: fmt::Write>(&self, f: &mut fmt::Formatter<W>) -> fmt::Result {
+        let PlaceText {
+            kind,
+            start,
+            end,
+            name,
+            ..
+        } = self;
+        let size = end.saturating_sub(*start);
+        match kind {
+            PlaceKind::Page => f.write_str("the image"),
+            PlaceKind::Frame if size == 0 => write!(f, "the stack at {start:#018x}"),
+            PlaceKind::Frame => write!(f, "a frame at {start:#018x}"),
+            PlaceKind::Object | PlaceKind::Variable => {
+                write!(f, "the {size}-byte variable `{name}` at {start:#018x}")
+            }
+        }
+    }
+}
+
+/// A place, and what is known of the pointers to it.
+#[derive(Clone, Copy)]
+pub(crate) struct NamedPlace {
+    pub(crate) text: PlaceText,
+    /// Whether its function has not returned.
+    pub(crate) is_live: bool,
+    /// Whether the function that made a pointer to it was not optimized.
+    pub(crate) is_exact: bool,
+    /// Whether a pointer to it may be meant for the variable behind it.
+    pub(crate) is_unsure: bool,
+    /// Whether a pointer to it may be meant for all that is behind it.
+    pub(crate) is_marked: bool,
+    /// What the variables of its function are counted from.
+    pub(crate) base: u64,
+    /// The bytes of the place that ends where it begins; 0 where none does.
+    pub(crate) before: u64,
+    /// The next place of its frame.
+    pub(crate) next: Option<usize>,
+}
+
+impl NamedPlace {
+    /// Whether the byte at a plain address is its own.
+    pub(crate) fn has(&self, addr: u64) -> bool {
+        self.text.start <= addr && addr < self.text.end
+    }
+
+    /// Whether it is these bytes.
+    pub(crate) fn is_at(&self, kind: PlaceKind, start: u64, end: u64) -> bool {
+        self.text.kind == kind && self.text.start == start && self.text.end == end
+    }
+}

@@ -1,0 +1,47 @@
+//! What is known of a tenant's variables.
+
+use crate::frames::FrameStack;
+use crate::marks::RegisterMarks;
+use crate::table::PlaceTable;
+use debug_variables::{FrameFunction, FrameVariables, ImageObjects};
+use std::alloc::{AllocError, Global};
+
+/// What is known of the variables of an image, of the frames of its functions, and of the pointers
+/// to them.
+#[derive(Drop)]
+pub struct NamedPlaces {
+    pub(crate) alloc: Global,
+    pub(crate) variables: FrameVariables,
+    pub(crate) objects: ImageObjects,
+    pub(crate) table: PlaceTable,
+    pub(crate) frames: FrameStack,
+    pub(crate) marks: RegisterMarks,
+}
+
+impl NamedPlaces {
+    /// Of a tenant of an image, at its first instruction.
+    pub fn new(alloc: Global, image: &[u8]) -> Result<NamedPlaces, AllocError> {
+        let variables = FrameVariables::of(alloc, image)?;
+        let objects = ImageObjects::of(alloc, image)?;
+        let table = PlaceTable::new(alloc, &objects, &variables)?;
+        Ok(NamedPlaces {
+            alloc,
+            variables,
+            objects,
+            table,
+            frames: FrameStack::new(alloc),
+            marks: RegisterMarks::NONE,
+        })
+    }
+
+    /// The function at an address, if it is known.
+    pub(crate) fn function_at(&self, pc: u64) -> Option<FrameFunction> {
+        self.variables.function_at(pc).copied()
+    }
+
+    /// Whether the function at an address is known, and was not optimized.
+    pub(crate) fn is_exact_at(&self, pc: u64) -> bool {
+        self.function_at(pc)
+            .is_some_and(|function| !function.is_optimized)
+    }
+}

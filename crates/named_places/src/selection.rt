@@ -1,0 +1,211 @@
+//! Which variable an address is of that constants were added to.
+
+use crate::frames::{CalledFrame, has_room};
+use crate::place::{NamedPlace, PlaceKind, PlaceText};
+use crate::places::NamedPlaces;
+use crate::table::PlaceTable;
+use a64_bits::plain;
+use debug_variables::{FrameBase, FrameFunction, FrameVariable, VariableName};
+use pointer_provenance::Shadow;
+use shadow_memory::{PointerOrigin, Step};
+use std::alloc::AllocError;
+
+/// How far in front of a variable a pointer may be that is meant for it: one element, as in arrays
+/// that are counted from 1.
+const ELEMENT: u64 = 8;
+
+/// A function that runs, and the value of its base.
+#[derive(Clone, Copy)]
+struct RunningFunction {
+    function: FrameFunction,
+    base: u64,
+}
+
+impl NamedPlaces {
+    /// Where a pointer points that was made of SP by constants, by the variables of the function
+    /// that runs; its frame where none is known there, and the stack alone where the address is not
+    /// of its frame.
+    pub(crate) fn stack_origin(
+        &mut self,
+        step: &Step<'_>,
+        shadow: &Shadow,
+        addr: u64,
+    ) -> Result<PointerOrigin, AllocError> {
+        let Some(frame) = self.frames.top().copied() else {
+            return Ok(PointerOrigin::STACK);
+        };
+        let sp = plain(step.after.sp);
+        if addr < sp || addr >= frame.sp {
+            return Ok(PointerOrigin::STACK);
+        }
+        let place = self.variable_place(step, &frame, addr);
+        let place = match place {
+            Some(place) if has_room(&frame, &self.table) => place,
+            _ => self.frame_place(step, &frame),
+        };
+        self.origin_of(shadow, &frame, place)
+    }
+
+    /// The origin of a place of the last frame, which is entered where it is new.
+    fn origin_of(
+        &mut self,
+        shadow: &Shadow,
+        frame: &CalledFrame,
+        place: NamedPlace,
+    ) -> Result<PointerOrigin, AllocError> {
+        if let Some(index) = self.known(frame, &place) {
+            if let Some(old) = self.table.get_mut(index) {
+                old.is_unsure = old.is_unsure || place.is_unsure;
+                old.text.start = old.text.start.min(place.text.start);
+            }
+            return Ok(PointerOrigin::of_place(index));
+        }
+        if !has_room(frame, &self.table) {
+            return Ok(PointerOrigin::STACK);
+        }
+        let entered = self.table.enter(self.alloc, shadow, place)?;
+        match entered {
+            Some(index) => {
+                self.frames.set_first(index);
+                Ok(PointerOrigin::of_place(index))
+            }
+            None => Ok(PointerOrigin::STACK),
+        }
+    }
+
+    /// Where a pointer into the frame of the function that runs points, of which it is not known
+    /// which variable is meant; the stack alone where the address is not of that frame.
+    pub(crate) fn frame_origin(
+        &mut self,
+        step: &Step<'_>,
+        shadow: &Shadow,
+        addr: u64,
+    ) -> Result<PointerOrigin, AllocError> {
+        let Some(frame) = self.frames.top().copied() else {
+            return Ok(PointerOrigin::STACK);
+        };
+        if addr < plain(step.after.sp) || addr >= frame.sp {
+            return Ok(PointerOrigin::STACK);
+        }
+        let place = self.frame_place(step, &frame);
+        self.origin_of(shadow, &frame, place)
+    }
+
+    /// The index of a place among those of a frame. A frame is one whatever SP was.
+    fn known(&self, frame: &CalledFrame, place: &NamedPlace) -> Option<usize> {
+        let text = &place.text;
+        let mut next = frame.first;
+        for _ in 0..=u8::MAX {
+            let index = next?;
+            let old = self.table.get(index)?;
+            let is_frame = text.kind == PlaceKind::Frame && old.text.kind == PlaceKind::Frame;
+            if is_frame || old.is_at(text.kind, text.start, text.end) {
+                return Some(index);
+            }
+            next = old.next;
+        }
+        None
+    }
+
+    /// The place of a frame as a whole.
+    fn frame_place(&self, step: &Step<'_>, frame: &CalledFrame) -> NamedPlace {
+        NamedPlace {
+            text: PlaceText {
+                kind: PlaceKind::Frame,
+                start: plain(step.after.sp),
+                end: frame.sp,
+                name: VariableName::NONE,
+                declaration: None,
+                function: Some(step.before.pc),
+            },
+            is_live: true,
+            is_exact: false,
+            is_unsure: false,
+            is_marked: false,
+            base: 0,
+            before: 0,
+            next: frame.first,
+        }
+    }
+
+    /// The place of the variable of the function that runs which has the byte at an address.
+    fn variable_place(
+        &self,
+        step: &Step<'_>,
+        frame: &CalledFrame,
+        addr: u64,
+    ) -> Option<NamedPlace> {
+        let running = self.running(step, frame)?;
+        let offset = addr.wrapping_sub(running.base);
+        let variable = self.variables.variable_at(&running.function, offset)?;
+        let start = running.base.wrapping_add(variable.offset);
+        let end = start.checked_add(variable.size)?;
+        if start < plain(step.after.sp) || end > frame.sp {
+            return None;
+        }
+        Some(NamedPlace {
+            text: text_of(variable, start, running.function.low),
+            is_live: true,
+            is_exact: !running.function.is_optimized,
+            is_unsure: self.is_before_other(&running, offset, end.wrapping_sub(addr)),
+            is_marked: false,
+            base: running.base,
+            before: self
+                .variables
+                .size_before(&running.function, variable.offset),
+            next: frame.first,
+        })
+    }
+
+    /// Whether another variable begins where one ends, of which a pointer is so near that it may be
+    /// one in front of the other's first element.
+    fn is_before_other(&self, running: &RunningFunction, offset: u64, left: u64) -> bool {
+        let end = offset.wrapping_add(left);
+        left <= ELEMENT && self.variables.variable_at(&running.function, end).is_some()
+    }
+
+    /// The function that runs, where it is the one that the frame is of and its base is known.
+    fn running(&self, step: &Step<'_>, frame: &CalledFrame) -> Option<RunningFunction> {
+        let function = self.function_at(step.before.pc)?;
+        if frame.entry < function.low || frame.entry >= function.high {
+            return None;
+        }
+        let base = match function.base {
+            FrameBase::Caller => frame.sp,
+            FrameBase::FramePointer => plain(step.before.x[29]),
+            FrameBase::StackPointer => plain(step.before.sp),
+        };
+        if base < plain(step.after.sp) || base > frame.sp {
+            return None;
+        }
+        Some(RunningFunction { function, base })
+    }
+
+    /// Where a pointer points that was made of an address of the image by constants.
+    pub(crate) fn object_origin(&mut self, addr: u64) -> PointerOrigin {
+        let Some(number) = self.objects.number_at(addr) else {
+            return PointerOrigin::UNKNOWN;
+        };
+        let index = PlaceTable::of_object(number);
+        let Some(place) = self.table.get_mut(index) else {
+            return PointerOrigin::UNKNOWN;
+        };
+        let end = place.text.end;
+        if end.saturating_sub(addr) <= ELEMENT && self.objects.number_at(end).is_some() {
+            place.is_unsure = true;
+        }
+        PointerOrigin::of_place(index)
+    }
+}
+
+/// What the variable of a function is called, by where it begins.
+fn text_of(variable: &FrameVariable, start: u64, function: u64) -> PlaceText {
+    PlaceText {
+        kind: PlaceKind::Variable,
+        start,
+        end: start.saturating_add(variable.size),
+        name: variable.name,
+        declaration: variable.declaration,
+        function: Some(function),
+    }
+}
