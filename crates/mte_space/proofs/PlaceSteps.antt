@@ -1,14 +1,15 @@
 -- What stands in the places of a space, and a space whose frame in a place is written.
-use Rattle.std.proofs.Common.{◌≡◌, ◌∙◌, ℕ, ◌<◌, ◌*◌, ◌/◌, ◌^◌, List, Some, length, get_or, slice_set, get_or-set_same, sym, ap, subst, arith}
+use Rattle.std.proofs.Common.{◌≡◌, ◌∙◌, ℕ, ◌<◌, ◌*◌, ◌/◌, ◌%◌, ◌^◌, List, true, Some, length, get_or, slice_set, get_or-set_same, sym, ap, subst, arith}
 use Rattle.std.specs.FinMap as finite
-use Rattle.mte_tags.specs.Memory.{page_at, with_page}
+use Rattle.a64_bits.specs.Addresses.{plain}
+use Rattle.mte_tags.specs.Memory.{page_at, with_page, has}
 use Rattle.mte_arena.specs.Frames.{Frame}
 use Rattle.mte_frames.specs.Pool.{Pool, IsTaken, IsHeldBy, IsSound, KeepsOthers}
-use Rattle.mte_translate.specs.Tables.{pages_of, IsCached}
+use Rattle.mte_translate.specs.Tables.{Pages, pages_of, IsCached}
 use Rattle.mte_translate.specs.declared.translation.Translation.{Translation}
 use Rattle.mte_space.specs.Spaces.{page_of, space_memory, IsSpace, KeepsRest}
 use Rattle.mte_space.specs.SpaceMemory.{memory_of}
-use Rattle.mte_space.specs.Remembered.{attrs_of, IsUpToDate, IsRemembered, no_page}
+use Rattle.mte_space.specs.Remembered.{attrs_of, IsKey, IsUpToDate, IsRemembered, no_page}
 use Rattle.mte_space.specs.Writes.{with_frame}
 use Rattle.mte_space.specs.Places.{IsPlace, remembered_in, number_in, page_in}
 use Rattle.mte_space.specs.declared.remembered.RememberedPage.{RememberedPage}
@@ -41,6 +42,28 @@ page_in_place s q i r l is same low =
     let found = ap (λ k. finite.get (pages_of s.pool.now s.table.now.frame) k) (sym place) ∙ is.page (omega (arith, same, low)) in
     page_found s.pool.now s.table.now s.limit s.state.now q r.frame (attrs_of r) found
     ∙ ap (λ (x : RememberedPage). Some (page_of s.pool.now (x.frame, attrs_of x))) (sym (get_or-set_same s.remembered.now.pages i r no_page l))
+
+-- what a key of a place says of an address: where the page is, and what may be done with it
+pub record KeySays (p : RememberedPage) (attr addr size : ℕ) : Type 0 where
+  pub low : p.address < 2 ^ 56
+  pub page : p.address / 4096 ≡ plain addr / 4096
+  pub aligned : addr % size ≡ 0
+  pub permitted : has (attrs_of p).0 attr ≡ true
+
+pub key_says :
+    (m : Pages) (p : RememberedPage) (attr key addr size : ℕ) → IsUpToDate m p → IsKey p attr key → key < 2 ^ 56
+    → (key % 4096 ≡ 0 → key / 4096 ≡ plain addr / 4096) → (key % 4096 ≡ 0 → addr % size ≡ 0)
+    → KeySays p attr addr size
+key_says m p attr key addr size is says low page aligned =
+    let same : key ≡ p.address = (says low).0 in
+    let below : p.address < 2 ^ 56 = omega (arith, same, low) in
+    let multiple : key % 4096 ≡ 0 = ap (λ k. k % 4096) same ∙ is.aligned below in
+    record {
+      low = below;
+      page = ap (λ k. k / 4096) (sym same) ∙ page multiple;
+      aligned = aligned multiple;
+      permitted = (says low).1;
+    }
 
 -- a space whose frame in a place is written
 module _ (s : Space) (i : ℕ) (x : Frame) (n : Pool) (h : IsPlace s i) (new : n ≡ with_frame s.pool.now (remembered_in s i).frame x) where

@@ -15,9 +15,9 @@ pub(crate) struct RememberedPage {
     /// The address of the page; 2^64 - 1, which no page has, where none was found yet.
     pub(crate) address: u64,
     /// The address once more if the page may be read, else 2^64 - 1.
-    readable: u64,
+    pub(crate) readable: u64,
     /// The address once more if the page may be written, else 2^64 - 1.
-    writable: u64,
+    pub(crate) writable: u64,
     /// The number of the frame that holds the page.
     pub(crate) frame: usize,
     /// The number of its attributes: what may be done with it.
@@ -63,38 +63,20 @@ impl RememberedPage {
     {
         Attrs((self.attrs % 256) as u8)
     }
+}
 
-    /// Whether it is the page of a read of `size` bytes whose address is a multiple of them, and
-    /// may be read. One comparison says all three.
-    #[inline(always)]
-    pub(crate) fn may_read(&self, addr: u64, size: u64) -> bool
-        requires key { IsKey self.now 1 self.now.readable }
-        requires page { self.now.address < 2 ^ 56 → self.now.address % 4096 ≡ 0 }
-        requires some { 0 < size }
-        requires most { size ≤ 16 }
-        ensures address { IsTrue result → self.now.address < 2 ^ 56 }
-        ensures page { IsTrue result → self.now.address / 4096 ≡ plain addr / 4096 }
-        ensures aligned { IsTrue result → addr % size ≡ 0 }
-        ensures permitted { IsTrue result → has (attrs_of self.now).0 1 ≡ true }
-    {
-        self.readable == plain(addr) / 4096 * 4096 + addr % size
-    }
-
-    /// Whether it is the page of a write of `size` bytes whose address is a multiple of them, and
-    /// may be written. One comparison says all three.
-    #[inline(always)]
-    pub(crate) fn may_write(&self, addr: u64, size: u64) -> bool
-        requires key { IsKey self.now 2 self.now.writable }
-        requires page { self.now.address < 2 ^ 56 → self.now.address % 4096 ≡ 0 }
-        requires some { 0 < size }
-        requires most { size ≤ 16 }
-        ensures address { IsTrue result → self.now.address < 2 ^ 56 }
-        ensures page { IsTrue result → self.now.address / 4096 ≡ plain addr / 4096 }
-        ensures aligned { IsTrue result → addr % size ≡ 0 }
-        ensures permitted { IsTrue result → has (attrs_of self.now).0 2 ≡ true }
-    {
-        self.writable == plain(addr) / 4096 * 4096 + addr % size
-    }
+/// Whether a key is that of the page of an access of `size` bytes whose address is a multiple of
+/// them: one comparison says that it is this page, that the access is aligned, and what the key
+/// says.
+#[inline(always)]
+pub(crate) fn is_key_of(key: u64, addr: u64, size: u64) -> bool
+    requires some { 0 < size }
+    requires most { size ≤ 16 }
+    ensures low { IsTrue result → key < 2 ^ 56 }
+    ensures page { IsTrue result → key % 4096 ≡ 0 → key / 4096 ≡ plain addr / 4096 }
+    ensures aligned { IsTrue result → key % 4096 ≡ 0 → addr % size ≡ 0 }
+{
+    key == plain(addr) / 4096 * 4096 + addr % size
 }
 
 /// The address of a page with which something may be done, or 2^64 - 1.

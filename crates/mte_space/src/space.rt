@@ -7,7 +7,7 @@ ghost use Rattle.mte_space.specs.Remembered.{IsRemembered};
 ghost use Rattle.mte_space.specs.Spaces.{space_memory, IsSpace, HasFrames};
 
 use crate::mapping::{PageRange, map_range, unmap_range};
-use crate::remembered::{CODE_PLACE, PLACES, RememberedPages, data_place};
+use crate::remembered::{CODE_PLACE, PLACES, RememberedPages, data_place, is_key_of};
 use crate::translation::remember;
 use crate::writing::{retag_frame, write_frame};
 use a64_bits::plain;
@@ -134,7 +134,7 @@ impl PageStore for Space<'_> {
     fn readable_place(&self, addr: u64, size: u64) -> Option<usize> {
         let place = data_place(addr / 4096);
         let page = self.remembered.at(place);
-        if page.may_read(addr, size) {
+        if is_key_of(page.readable, addr, size) {
             return Some(place);
         }
         None
@@ -144,7 +144,7 @@ impl PageStore for Space<'_> {
     fn writable_place(&self, addr: u64, size: u64) -> Option<usize> {
         let place = data_place(addr / 4096);
         let page = self.remembered.at(place);
-        if page.may_write(addr, size) {
+        if is_key_of(page.writable, addr, size) {
             return Some(place);
         }
         None

@@ -1,9 +1,18 @@
 use Rattle.std.proofs.Common.{refl, arith}
-use Rattle.mte_space.proofs.PlaceSteps.{page_of_place}
+use Rattle.mte_translate.specs.Tables.{pages_of}
+use Rattle.mte_space.specs.Places.{remembered_in}
+use Rattle.mte_space.specs.Remembered.{no_page}
+use Rattle.mte_space.proofs.PlaceSteps.{KeySays, key_says, page_of_place}
 use Rattle.mte_space.proofs.space.SpacePageStore.readable_place.Goals as goal
 
-pub returns-then-may_read-clause-page : goal.returns-then-may_read-clause-page
-returns-then-may_read-clause-page c =
-    let low = rw c.at-page.ensures at c.if-may_read.ensures.address refl in
-    let page = rw c.at-page.ensures at c.if-may_read.ensures.page refl in
-    page_of_place c.args.self.now _ c.data_place-place.result (search arith, low) page
+says : (c : goal.Then-is_key_of) → KeySays (remembered_in c.args.self.now c.data_place-place.result) 1 c.args.addr c.args.size
+says c =
+    let s = c.args.self.now in
+    let is = s.up_to_date.pages c.data_place-place.result no_page (search arith) in
+    let key = rw c.at-page.ensures at c.if-is_key_of.ensures in
+    key_says (pages_of s.pool.now s.table.now.frame) _ 1 _ c.args.addr c.args.size is is.readable (key.low refl) (key.page refl) (key.aligned refl)
+
+pub returns-then-is_key_of-clause-page : goal.returns-then-is_key_of-clause-page
+returns-then-is_key_of-clause-page c =
+    let of = says c in
+    page_of_place c.args.self.now _ c.data_place-place.result (search arith, of.low) of.page
