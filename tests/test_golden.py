@@ -3,20 +3,23 @@ that each of them finds a step that was altered."""
 
 import collections
 import ctypes
+import hashlib
 import json
+import lzma
 import pathlib
 import re
+import shutil
 import sys
 from collections.abc import Callable, Iterator
 from typing import Any
 
 import pytest
 
-from tests.support.library import shared_object
+from tests.support.library import shared_object, static_library
 from tests.support.once import make_once
 from tests.support.pages import parts_of, read_page
 from tests.support.places import EXAMPLES, ROOT
-from tests.support.running import Ran, run, succeed
+from tests.support.running import Ran, Word, run, succeed
 from tests.support.tools import give_up, need
 
 GOLDEN = EXAMPLES / "golden"
@@ -314,3 +317,54 @@ def test_the_page_shows_a_step(shared: pathlib.Path) -> None:
     number = re.search(r"Step (\d+) of the file above", read_page("docs/GOLDEN.md"))
     assert len(found) == 1 and number
     assert json.loads(found[0].text) == steps_of(golden(shared))[int(number[1]) - 1]
+
+
+def release(*words: Word) -> Ran:
+    """What the script that makes a release's file says."""
+    need("rt", "git")
+    return run([sys.executable, ROOT / "tools" / "golden_release.py", *words], seconds=300)
+
+
+def test_the_file_of_a_release(shared: pathlib.Path, tmp_path: pathlib.Path) -> None:
+    """A small one: its steps have the sum of the repository, its name the version, and it has the
+    same bytes when it is made again."""
+    words: list[Word] = ["--count", "860", "--library", static_library(shared)]
+    files = []
+    for name in ("one", "other"):
+        ran = release(*words, tmp_path / name)
+        assert ran.status == 0 and ran.errors == "", ran.errors
+        (path,) = (tmp_path / name).iterdir()
+        assert ran.output == f"{hashlib.sha256(path.read_bytes()).hexdigest()}  {path}\n"
+        files.append(path)
+    assert files[0].read_bytes() == files[1].read_bytes()
+    version = (ROOT / "VERSION").read_text(encoding="utf-8").strip()
+    assert files[0].name.startswith(f"tombolopan-golden-steps_{version}")
+    first, rest = lzma.decompress(files[0].read_bytes()).split(b"\n", 1)
+    assert f"860 1 {hashlib.sha256(rest).hexdigest()}" in (GOLDEN / "sums.txt").read_text()
+    is_proved = json.loads(first)["library"]["build"] == "proved"
+    assert files[0].name.endswith(".jsonl.xz") and ("~unproved" in files[0].name) != is_proved
+
+
+def test_a_release_without_its_steps(shared: pathlib.Path, tmp_path: pathlib.Path) -> None:
+    """Nothing is written of a count that has no sum, or without the library; nor of steps whose sum
+    is another, which a changed maker has."""
+    (tmp_path / "none.a").write_text("no archive")
+    refused: tuple[tuple[list[Word], str], ...] = (
+        (["--count", "12", "--library", static_library(shared)], "has no sum of 12"),
+        (["--library", tmp_path / "absent"], "is not there"),
+        (["--library", tmp_path / "none.a"], "none.a"))
+    for words, said in refused:
+        ran = release(*words, tmp_path / "out")
+        assert ran.status == 1 and said in ran.errors and not (tmp_path / "out").exists()
+    copy = tmp_path / "copy"
+    for folder in ("tools/packing", "examples/golden", "examples/embed", "include", "isa"):
+        shutil.copytree(ROOT / folder, copy / folder)
+    for name in ("tools/golden_release.py", "examples/over_library.py", "VERSION"):
+        shutil.copy(ROOT / name, copy / name)
+    maker = copy / "examples" / "golden" / "make_golden.c"
+    maker.write_text(maker.read_text().replace("below(1008)", "below(1007)"))
+    for path in (copy / "examples" / "golden").glob("*.h"):
+        path.write_text(path.read_text().replace("below(1008)", "below(1007)"))
+    ran = run([sys.executable, copy / "tools" / "golden_release.py", "--count", "860", "--library",
+               static_library(shared), tmp_path / "out"], seconds=300)
+    assert ran.status == 1 and "has another sum" in ran.errors and not (tmp_path / "out").exists()

@@ -31,7 +31,7 @@ OPTIONS = [
     "--pages", "--out", "--seed", "--async", "--steps", "--slices", "--last", "--trace",
     "--trace=2-9", "--trace-file", "--input", "--script", "--frames", "--map", "--map=text",
     "--json", "--seeds=3", "--core", "--exact", "--exact=writes", "--leaks", "--statistics",
-    "--services", "--calls", "--help", "--version", "--sarif", "--whole-output",
+    "--services", "--calls", "--help", "--version", "--sarif", "--html", "--whole-output",
     "--raw-output", "--check",
 ]
 VALUES = ["0", "1", "5", "64", "4096", "4097", "65536", "-1", "18446744073709551615",
@@ -205,11 +205,20 @@ def run(words: list[str]) -> Union[int, str]:
     return ran.returncode if set(ran.stderr) <= PLAIN else "raw bytes"
 
 
+def read_data(page: str) -> object:
+    """The data of a page, which end where its element does."""
+    data = page.split("id='data'>\n")[1].split("\n</script>")[0]
+    if "<" in data or page.count("</script>") != 2:
+        raise ValueError("the data have a tag")
+    return json.loads(data)
+
+
 def read_files(path: pathlib.Path) -> Union[None, str]:
     """Reads what a run wrote, and says what is no document."""
     told = None
     readers: list[tuple[str, Callable[[str], object]]] = [
-        ("json", json.loads), ("sarif", json.loads), ("svg", xml.fromstring)]
+        ("json", json.loads), ("sarif", json.loads), ("svg", xml.fromstring),
+        ("html", read_data)]
     for suffix, read in readers:
         file = path.with_name(f"{path.name}.{suffix}")
         if file.exists():
@@ -250,7 +259,8 @@ def main() -> None:
         path.write_bytes(image)
         path.with_name(f"{path.name}.input").write_bytes(data)
         files = [word for suffix, option in (("json", "--json"), ("sarif", "--sarif"),
-                                             ("svg", "--map")) if draw.random() < 0.4
+                                             ("svg", "--map"), ("html", "--html"))
+                 if draw.random() < 0.4
                  for word in (option, f"{path}.{suffix}")]
         options = ["--input", f"{path}.input", "--leaks", str(path)]
         words = arguments(str(path), draw) if what == "image" else options
