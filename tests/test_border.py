@@ -95,7 +95,7 @@ def test_fields_of_another_width(name: str) -> None:
     """A number of a struct with another width, in the crate, in C, in Rust and in Python."""
     for language in range(4):
         path, begin, end = body_of(language, name)
-        if name != "LentBytes":
+        if name not in ("LentBytes", "MachineEnd"):
             assert not unnoticed(border.each_replaced(
                 path, r"\bu(\d+)\b|\buint(\d+)_t\b|\bc_uint(\d+)\b", widened, begin, end
             ))
@@ -114,7 +114,8 @@ def test_arguments_of_another_width(name: str) -> None:
     places = [(border.file_with(f"fn {name}("), f"fn {name}("), (RUST, f"    fn {name}("),
               (HEADER, f"\nuint32_t {name}(")]
     if name not in ("tb_version", "tb_build_info", "tb_memory_init", "tb_alone", "tb_step",
-                    "tb_heap_calls", "tb_heap_replay", "tb_run_traced"):
+                    "tb_heap_calls", "tb_heap_replay", "tb_run_traced", "tb_machine_acts",
+                    "tb_machine_pages"):
         for path, begin in places:
             assert not unnoticed(border.each_replaced(path, number, widened, begin, ")"))
 
