@@ -72,23 +72,24 @@ impl CheckKinds {
         arithmetic: false,
     };
 
-    /// All but `arithmetic`, which compilers bring about in correct programs too.
+    /// All but `places` and `arithmetic`, which are checked only where they are asked for.
     pub const ALL: CheckKinds = CheckKinds {
         provenance: true,
         frees: true,
         leaks: true,
         undefined: true,
-        places: true,
+        places: false,
         arithmetic: false,
     };
 
-    /// Those that a text names, with commas between them; all but `arithmetic` by `all`. `None`
-    /// where a word is no kind.
+    /// Those that a text names, with commas between them; all but `places` and `arithmetic` by
+    /// `all`. `None` where a word is no kind.
     pub fn parse(text: &str) -> Option<CheckKinds> {
         let mut kinds = CheckKinds::NONE;
         for word in text.split(',') {
             if word == "all" {
                 kinds = CheckKinds {
+                    places: kinds.places,
                     arithmetic: kinds.arithmetic,
                     ..CheckKinds::ALL
                 };
