@@ -7,7 +7,9 @@ ghost use Rattle.mte_space.specs.Remembered.{IsRemembered};
 ghost use Rattle.mte_space.specs.Spaces.{space_memory, IsSpace, HasFrames};
 
 use crate::mapping::{PageRange, map_range, unmap_range};
-use crate::remembered::{CODE_PLACE, PLACES, RememberedPage, RememberedPages, data_place, is_key_of};
+use crate::remembered::{
+    CODE_PLACE, PLACES, RememberedPage, RememberedPages, data_place, is_key_of,
+};
 use crate::translation::translate;
 use crate::writing::{retag_frame, write_frame};
 use a64_bits::plain;

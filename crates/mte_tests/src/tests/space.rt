@@ -9,8 +9,9 @@ ghost use Rattle.mte_tests.specs.Tenants.{IsReady};
 use crate::tests::calls::{MapCall, Value, reply};
 use mte_arena::Arena;
 use mte_frames::{FramePool, Quota};
-use mte_space::{RememberedPages, Space, Tenancy, other_tenants_stay, pages_of_a_space};
-use mte_space::written_frames_are_pages;
+use mte_space::{
+    RememberedPages, Space, Tenancy, other_tenants_stay, pages_of_a_space, written_frames_are_pages,
+};
 use mte_tags::{Attrs, FaultKind, MemFault, PageStore, TagMode, TagState};
 use mte_translate::{Table, Tlb, tables_stay};
 use std::alloc::Global;
