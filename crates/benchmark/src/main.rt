@@ -78,7 +78,10 @@ fn run_asked(rt: &HostRuntime, asked: Asked) -> Result<()> {
     if !has_room(&pool, &table, &quota, PAGES) {
         bail!("there are too few frames");
     }
-    let (mut tlb, mut remembered) = (Tlb::new(), RememberedPages::new());
+    let mut tlb = Tlb::new();
+    let Ok(mut remembered) = RememberedPages::new(rt.alloc()) else {
+        bail!("no memory for the remembered pages");
+    };
     let mut state = TagState {
         mode: TagMode::Sync,
         pending: false,

@@ -105,7 +105,7 @@ module _ (p : Pool) (us : List Translation) (ts : List code.Tenant) (sharing : I
     charged = placed.charged;
     counted = placed.counted;
     cached = cached_framed p x.live.memory.quota x.live.memory.table x.tenant.pages q f a frame placed.space x.mapped x.at us placed.cached;
-    remembered = subst (λ m. IsRemembered m x.live.memory.remembered.value) (sym stays.pages) placed.remembered;
+    remembered = subst (λ m. IsRemembered m x.live.memory.remembered) (sym stays.pages) placed.remembered;
     some = placed.some;
     most = placed.most;
   }

@@ -16,7 +16,7 @@ use Rattle.mte_sched.specs.Memories.{IsTenantMemory}
 
 pub placed_after : (p n : Pool) (us vs : List Translation) (i pages : ℕ) (a b : TenantMemory) → IsTenantMemory p us i pages a
     → KeepsRest a.quota p n a.table b.table → b.quota ≡ a.quota → IsSpace n b.quota b.table pages → IsCached (pages_of n b.table.frame) i vs
-    → IsRemembered (pages_of n b.table.frame) b.remembered.value → IsTenantMemory n vs i pages b
+    → IsRemembered (pages_of n b.table.frame) b.remembered → IsTenantMemory n vs i pages b
 placed_after p n us vs i pages a b h rest same space cached remembered = record {
   space = space;
   charged = ap (reserved_by n) same ∙ rest.reserved ∙ h.charged;
@@ -72,7 +72,7 @@ sum_more p m k c inside sound none e =
 
 pub first_placed : (p n : Pool) (vs : List Translation) (i pages : ℕ) (a b : TenantMemory) → taken_by p a.quota ≡ 1 → reserved_by p a.quota ≡ charge_of pages
     → a.table.len ≡ 0 → a.table.leaves ≡ 0 → KeepsRest a.quota p n a.table b.table → b.quota ≡ a.quota → IsSpace n b.quota b.table pages → IsCached (pages_of n b.table.frame) i vs
-    → IsRemembered (pages_of n b.table.frame) b.remembered.value → 0 < pages → pages ≤ MAX_PAGES → IsTenantMemory n vs i pages b
+    → IsRemembered (pages_of n b.table.frame) b.remembered → 0 < pages → pages ≤ MAX_PAGES → IsTenantMemory n vs i pages b
 first_placed p n vs i pages a b taken charged len leaves rest same space cached remembered some most = record {
   space = space;
   charged = ap (reserved_by n) same ∙ rest.reserved ∙ charged;

@@ -38,7 +38,7 @@ placed_stays p n us vs k i j pages a turn differs apart h = record {
   charged = (turn.others.counts a.quota differs).0 ∙ h.charged;
   counted = (turn.others.counts a.quota differs).1 ∙ h.counted;
   cached = other_cached p n k a.quota i j a.table us vs differs turn.others h.space.table apart turn.entries h.cached;
-  remembered = other_remembered p n k a.quota a.table a.remembered.value differs turn.others h.space.table h.remembered;
+  remembered = other_remembered p n k a.quota a.table a.remembered differs turn.others h.space.table h.remembered;
   some = h.some;
   most = h.most;
 }

@@ -103,7 +103,7 @@ module _ (p n : Pool) (us vs : List Translation) (ts : List code.Tenant) (i id :
   -- ---- a slice
 
   module _ (steps : ℕ) (b : TenantMemory) (parts : Box TenantParts Global) (rest : KeepsRest a.memory.quota p n a.memory.table b.table) (quota : b.quota ≡ a.memory.quota) (space : IsSpace n b.quota b.table t.pages)
-      (cached : IsCached (pages_of n b.table.frame) i vs) (remembered : IsRemembered (pages_of n b.table.frame) b.remembered.value) (ready : IsReady parts.value (memory_at n b t.pages))
+      (cached : IsCached (pages_of n b.table.frame) i vs) (remembered : IsRemembered (pages_of n b.table.frame) b.remembered) (ready : IsReady parts.value (memory_at n b t.pages))
       (step : machine_of parts.value (memory_at n b t.pages) ≡ after_slice steps (machine_of a.parts.value (memory_at p a.memory t.pages))) (was : IsSound p) (is : IsSound n) where
     abbrev pub after : code.Tenant
     after = record { pages = t.pages; holding = kept.Live (record { parts = parts; memory = b }) }

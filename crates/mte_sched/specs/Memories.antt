@@ -39,6 +39,6 @@ pub record IsTenantMemory (p : Pool) (ts : List Translation) (asid pages : ℕ)
   -- the translations of the ASID are those of the table
   pub cached : IsCached (pages_of p a.table.frame) asid ts
   -- the remembered pages are those of the table
-  pub remembered : IsRemembered (pages_of p a.table.frame) a.remembered.value
+  pub remembered : IsRemembered (pages_of p a.table.frame) a.remembered
   pub some : 0 < pages
   pub most : pages ≤ MAX_PAGES

@@ -113,7 +113,7 @@ impl Host {
         accepted_means(facts, admission);
         let first = start_parts(alloc, admission, &plan)?;
         let parts = Box::new(alloc, first)?;
-        let remembered = Box::new(alloc, RememberedPages::new())?;
+        let remembered = RememberedPages::new(alloc)?;
         make_room(&mut self.tenants)?;
         let asid = self.tenants.len();
         self.index.enter(admission.id, asid);

@@ -30,7 +30,7 @@ pub struct TenantMemory {
     pub(crate) table: Table,
     pub(crate) quota: Quota,
     pub(crate) state: TagState,
-    pub(crate) remembered: Box<RememberedPages>,
+    pub(crate) remembered: RememberedPages,
 }
 
 /// Reserves a new tenant's charge, and maps and loads its image and its stack.
@@ -40,13 +40,13 @@ pub(crate) fn start_memory(
     asid: usize,
     admission: &Admission<'_>,
     plan: &Plan,
-    remembered: Box<RememberedPages>,
+    remembered: RememberedPages,
 ) -> TenantMemory
     requires image { IsPlanned admission.now.image.now plan.now admission.now.terms.pages }
     requires most { admission.now.terms.pages ≤ MAX_PAGES }
     requires frames { HasCharge pool.old admission.now.terms.pages }
     requires fresh { All (λ u. u.asid ≢ asid) tlb.old }
-    requires remembered { (m : Pages) → IsRemembered m remembered.value }
+    requires remembered { (m : Pages) → IsRemembered m remembered }
     ensures placed { IsTenantMemory pool.new tlb.new asid admission.now.terms.pages result }
     ensures memory { memory_at pool.new result admission.now.terms.pages
         ≡ first_memory admission.now.image.now admission.now.terms.pages admission.now.terms.mode }
@@ -74,7 +74,7 @@ fn reserve_memory(
     pool: &mut FramePool,
     pages: u32,
     mode: TagMode,
-    remembered: Box<RememberedPages>,
+    remembered: RememberedPages,
 ) -> TenantMemory
     requires frames { HasCharge pool.old pages }
     ensures table { IsTable pool.new result.quota result.table }
@@ -128,7 +128,7 @@ fn fill_memory(
         admission.now.terms.pages }
     requires cached { IsCached (pages_of pool.old memory.old.table.frame) asid tlb.old }
     requires remembered { IsRemembered (pages_of pool.old memory.old.table.frame)
-        memory.old.remembered.value }
+        memory.old.remembered }
     ensures memory { memory_at pool.new memory.new admission.now.terms.pages
         ≡ first_memory admission.now.image.now admission.now.terms.pages admission.now.terms.mode }
     ensures limit { (memory_at pool.new memory.new admission.now.terms.pages).limit
@@ -137,7 +137,7 @@ fn fill_memory(
     ensures space { IsSpace pool.new memory.new.quota memory.new.table admission.now.terms.pages }
     ensures cached { IsCached (pages_of pool.new memory.new.table.frame) asid tlb.new }
     ensures remembered { IsRemembered (pages_of pool.new memory.new.table.frame)
-        memory.new.remembered.value }
+        memory.new.remembered }
     ensures rest { KeepsRest memory.old.quota pool.old pool.new memory.old.table memory.new.table }
     ensures same { memory.new.quota ≡ memory.old.quota }
     ensures entries { NoneEnters asid tlb.old tlb.new }
@@ -187,7 +187,7 @@ impl Live {
         ensures cached { IsCached (pages_of pool.new self.new.memory.table.frame) asid
             caches.new.tlb }
         ensures remembered { IsRemembered (pages_of pool.new self.new.memory.table.frame)
-            self.new.memory.remembered.value }
+            self.new.memory.remembered }
         ensures rest { KeepsRest self.old.memory.quota pool.old pool.new
             self.old.memory.table self.new.memory.table }
         ensures same { self.new.memory.quota ≡ self.old.memory.quota }

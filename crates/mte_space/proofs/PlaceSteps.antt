@@ -35,13 +35,13 @@ page_of_place s q i h same =
     (page_found s.pool.now s.table.now s.limit s.state.now (number_in s i) (remembered_in s i).frame (attrs_of (remembered_in s i)) (found_in s i h))
 
 -- the page that was found is in its place
-pub page_in_place : (s : Space) (q i : ℕ) (r : RememberedPage) → i < length s.remembered.now.pages → IsUpToDate (pages_of s.pool.now s.table.now.frame) r → r.address ≡ q * 4096 → q < 2 ^ 44
-    → page_at (memory_of s) q ≡ Some (page_of s.pool.now ((get_or (slice_set s.remembered.now.pages i r) i no_page).frame, attrs_of (get_or (slice_set s.remembered.now.pages i r) i no_page)))
+pub page_in_place : (s : Space) (q i : ℕ) (r : RememberedPage) → i < length s.remembered.now.pages.value → IsUpToDate (pages_of s.pool.now s.table.now.frame) r → r.address ≡ q * 4096 → q < 2 ^ 44
+    → page_at (memory_of s) q ≡ Some (page_of s.pool.now ((get_or (slice_set s.remembered.now.pages.value i r) i no_page).frame, attrs_of (get_or (slice_set s.remembered.now.pages.value i r) i no_page)))
 page_in_place s q i r l is same low =
     let place : r.address / 4096 ≡ q = omega (arith, same) in
     let found = ap (λ k. finite.get (pages_of s.pool.now s.table.now.frame) k) (sym place) ∙ is.page (omega (arith, same, low)) in
     page_found s.pool.now s.table.now s.limit s.state.now q r.frame (attrs_of r) found
-    ∙ ap (λ (x : RememberedPage). Some (page_of s.pool.now (x.frame, attrs_of x))) (sym (get_or-set_same s.remembered.now.pages i r no_page l))
+    ∙ ap (λ (x : RememberedPage). Some (page_of s.pool.now (x.frame, attrs_of x))) (sym (get_or-set_same s.remembered.now.pages.value i r no_page l))
 
 -- what a key of a place says of an address: where the page is, and what may be done with it
 pub record KeySays (p : RememberedPage) (attr addr size : ℕ) : Type 0 where

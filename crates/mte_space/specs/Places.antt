@@ -12,7 +12,7 @@ remembered_in s i = page_at_place s.remembered.now i
 
 -- a place in which a page was found
 abbrev pub IsPlace : Space → ℕ → Type 0
-IsPlace s i = (i < length s.remembered.now.pages) × ((remembered_in s i).address < 2 ^ 56)
+IsPlace s i = (i < length s.remembered.now.pages.value) × ((remembered_in s i).address < 2 ^ 56)
 
 -- The number of a remembered page.
 abbrev pub number_in : Space → ℕ → ℕ

@@ -4,7 +4,8 @@
 --     IsUpToDate m p       the page of p, if it is one, is in the pages m as p says
 --     IsRemembered m r     each page that r remembers is such
 --     page_at_place r i    the page that r remembers in the place i
-use Rattle.std.specs.Prelude.{◌≡◌, ◌<◌, ◌/◌, ◌%◌, ◌^◌, ℕ, true, Some, All, get_or, length}
+--     with_page_at r i p   r, with p in the place i
+use Rattle.std.specs.Prelude.{◌≡◌, ◌<◌, ◌/◌, ◌%◌, ◌^◌, ℕ, true, Some, All, get_or, length, slice_set}
 use Rattle.std.specs.FinMap.{get}
 use Rattle.mte_tags.specs.Memory.{has}
 use Rattle.mte_tags.specs.declared.attrs.Attrs.{Attrs}
@@ -31,8 +32,8 @@ pub record IsUpToDate (m : Pages) (p : RememberedPage) : Type 0 where
 
 -- All remembered pages are what the table maps.
 pub record IsRemembered (m : Pages) (r : RememberedPages) : Type 0 where
-  pub places : length r.pages ≡ PLACES
-  pub pages : All (IsUpToDate m) r.pages
+  pub places : length r.pages.value ≡ PLACES
+  pub pages : All (IsUpToDate m) r.pages.value
 
 -- for where no place is
 abbrev pub no_page : RememberedPage
@@ -40,4 +41,15 @@ no_page = record { address = 0; readable = 0; writable = 0; frame = 0; attrs = 0
 
 -- The remembered page with an index.
 abbrev pub page_at_place : RememberedPages → ℕ → RememberedPage
-page_at_place r i = get_or r.pages i no_page
+page_at_place r i = get_or r.pages.value i no_page
+
+-- The same but for the page of one place.
+abbrev pub with_page_at : RememberedPages → ℕ → RememberedPage → RememberedPages
+with_page_at r i p =
+    record {
+      pages = record {
+        ptr = r.pages.ptr;
+        alloc = r.pages.alloc;
+        value = slice_set r.pages.value i p;
+      };
+    }

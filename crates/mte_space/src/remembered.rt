@@ -1,6 +1,6 @@
 //! Where a tenant's last accesses found their pages.
 
-ghost use Rattle.std.specs.Prelude.{◌≡◌, ◌<◌, ◌≤◌, ◌-◌, ◌*◌, ◌/◌, ◌%◌, ◌^◌, IsTrue, IsFalse, true};
+ghost use Rattle.std.specs.Prelude.{◌≡◌, ◌<◌, ◌≤◌, ◌-◌, ◌*◌, ◌/◌, ◌%◌, ◌^◌, IsTrue, IsFalse, IfOk, true};
 ghost use Rattle.mte_tags.specs.Memory.{has};
 ghost use Rattle.a64_bits.specs.Addresses.{plain};
 ghost use Rattle.mte_translate.specs.Tables.{Pages};
@@ -8,6 +8,7 @@ ghost use Rattle.mte_space.specs.Remembered.{attrs_of, IsRemembered};
 
 use a64_bits::plain;
 use mte_tags::Attrs;
+use std::alloc::{AllocError, Global};
 
 /// A page, and where it was found.
 #[derive(Clone, Copy)]
@@ -112,19 +113,19 @@ pub(crate) fn data_place(page: u64) -> usize
 /// data. It is the tenant's own, so that it outlives a slice.
 #[derive(Drop)]
 pub struct RememberedPages {
-    pub(crate) pages: [RememberedPage; PLACES],
+    pages: Box<[RememberedPage; PLACES]>,
 }
 
 impl RememberedPages {
-    ghost use Rattle.mte_space.specs.Remembered.{page_at_place};
+    ghost use Rattle.mte_space.specs.Remembered.{page_at_place, with_page_at};
 
-    /// Nothing is remembered, so that it is right of whatever pages are mapped.
-    pub fn new() -> RememberedPages
-        ensures { (m : Pages) → IsRemembered m result }
+    /// Nothing is remembered, so that it is right of whatever pages are mapped. It is refused only
+    /// where its memory is.
+    pub fn new(alloc: Global) -> Result<RememberedPages, AllocError>
+        ensures { IfOk result (λ r. (m : Pages) → IsRemembered m r) }
     {
-        RememberedPages {
-            pages: [NO_PAGE; PLACES],
-        }
+        let pages = Box::new(alloc, [NO_PAGE; PLACES])?;
+        Ok(RememberedPages { pages })
     }
 
     /// The page of a place.
@@ -134,5 +135,21 @@ impl RememberedPages {
         ensures { result ≡ page_at_place self.now place }
     {
         self.pages[place]
+    }
+
+    /// Remembers a page in a place.
+    #[inline(always)]
+    pub(crate) fn set(&mut self, place: usize, page: RememberedPage)
+        requires { place < PLACES }
+        ensures { self.new ≡ with_page_at self.old place page }
+    {
+        self.pages[place] = page;
+    }
+
+    /// Remembers nothing from now on.
+    pub(crate) fn forget(&mut self)
+        ensures { (m : Pages) → IsRemembered m self.new }
+    {
+        *self.pages = [NO_PAGE; PLACES];
     }
 }

@@ -7,8 +7,10 @@ ghost use Rattle.mte_space.specs.Remembered.{IsRemembered};
 ghost use Rattle.mte_space.specs.Spaces.{space_memory, IsSpace, HasFrames};
 
 use crate::mapping::{PageRange, map_range, unmap_range};
-use crate::remembered::{CODE_PLACE, PLACES, RememberedPages, data_place, is_key_of};
-use crate::translation::remember;
+use crate::remembered::{
+    CODE_PLACE, PLACES, RememberedPage, RememberedPages, data_place, is_key_of,
+};
+use crate::translation::translate;
 use crate::writing::{retag_frame, write_frame};
 use a64_bits::plain;
 use mte_frames::{FramePool, Quota};
@@ -93,12 +95,28 @@ impl<'a> Space<'a> {
         ensures memory { memory_of self.new ≡ memory_of self.old }
         ensures kept { IsKept self.old self.new }
     {
-        let asid = self.asid;
-        let remembered = &mut self.remembered.pages[place];
-        if remember(remembered, self.pool, self.table, self.tlb, asid, page) {
+        if self.remembered.at(place).address == page * 4096 {
             return Some(place);
         }
-        None
+        self.look_up(place, page)
+    }
+
+    /// Slow path: another page is remembered in the place.
+    #[cold]
+    #[inline(never)]
+    fn look_up(&mut self, place: usize, page: u64) -> Option<usize>
+        requires low { page < 2 ^ 44 }
+        requires within { place < PLACES }
+        ensures place { IfSome result (λ i. IsPlace self.new i) }
+        ensures number { IfSome result (λ i. number_in self.new i ≡ page) }
+        ensures page { page_at (memory_of self.old) page ≡ option_map (page_in self.new) result }
+        ensures memory { memory_of self.new ≡ memory_of self.old }
+        ensures kept { IsKept self.old self.new }
+    {
+        let (frame, attrs) = translate(self.pool, self.table, self.tlb, self.asid, page)?;
+        self.remembered
+            .set(place, RememberedPage::new(page, frame, attrs));
+        Some(place)
     }
 }
 
@@ -202,7 +220,7 @@ impl Paged for Space<'_> {
     }
 
     fn unmap_pages(&mut self, page: u64, count: usize) {
-        *self.remembered = RememberedPages::new();
+        self.remembered.forget();
         let pages = PageRange { first: page, count };
         let tenant = Tenancy {
             asid: self.asid,

@@ -4,10 +4,8 @@ ghost use Rattle.std.specs.Prelude.{◌≡◌, ◌<◌, ◌*◌, ◌^◌, IsTrue
 ghost use Rattle.std.specs.FinMap.{get};
 ghost use Rattle.mte_translate.specs.Tables.{pages_of, IsSomeTable, IsCached};
 ghost use Rattle.mte_translate.specs.Translations.{lookup};
-ghost use Rattle.mte_space.specs.Remembered.{IsUpToDate};
 ghost use Rattle.mte_space.specs.Spaces.{NoneEnters};
 
-use crate::remembered::RememberedPage;
 use mte_frames::FramePool;
 use mte_tags::Attrs;
 use mte_translate::{Table, Tlb, fill_adds_its_own, lookup_returns_what_stands};
@@ -34,62 +32,6 @@ pub(crate) fn translate(
         return Some(found);
     }
     walk_and_fill(pool, table, tlb, asid, page)
-}
-
-/// Sees to it that the page is the remembered one, and says whether it is mapped. (A pair of
-/// results from a function out of line would go through memory, on the quick way too; so the caller
-/// reads what is remembered.)
-#[inline(always)]
-pub(crate) fn remember(
-    remembered: &mut RememberedPage,
-    pool: &FramePool,
-    table: &Table,
-    tlb: &mut Tlb,
-    asid: usize,
-    page: u64,
-) -> bool
-    requires low { page < 2 ^ 44 }
-    requires table { IsSomeTable pool.now table.now }
-    requires cached { IsCached (pages_of pool.now table.now.frame) asid tlb.old }
-    requires remembered { IsUpToDate (pages_of pool.now table.now.frame) remembered.old }
-    ensures found { IsTrue result → remembered.new.address ≡ page * 4096 }
-    ensures none { IsFalse result → get (pages_of pool.now table.now.frame) page ≡ None }
-    ensures cached { IsCached (pages_of pool.now table.now.frame) asid tlb.new }
-    ensures remembered { IsUpToDate (pages_of pool.now table.now.frame) remembered.new }
-    ensures entries { NoneEnters asid tlb.old tlb.new }
-{
-    if remembered.address == page * 4096 {
-        return true;
-    }
-    look_up(remembered, pool, table, tlb, asid, page)
-}
-
-/// Slow path: another page is remembered.
-#[cold]
-#[inline(never)]
-fn look_up(
-    remembered: &mut RememberedPage,
-    pool: &FramePool,
-    table: &Table,
-    tlb: &mut Tlb,
-    asid: usize,
-    page: u64,
-) -> bool
-    requires low { page < 2 ^ 44 }
-    requires table { IsSomeTable pool.now table.now }
-    requires cached { IsCached (pages_of pool.now table.now.frame) asid tlb.old }
-    requires remembered { IsUpToDate (pages_of pool.now table.now.frame) remembered.old }
-    ensures found { IsTrue result → remembered.new.address ≡ page * 4096 }
-    ensures none { IsFalse result → get (pages_of pool.now table.now.frame) page ≡ None }
-    ensures cached { IsCached (pages_of pool.now table.now.frame) asid tlb.new }
-    ensures remembered { IsUpToDate (pages_of pool.now table.now.frame) remembered.new }
-    ensures entries { NoneEnters asid tlb.old tlb.new }
-{
-    let Some((frame, attrs)) = translate(pool, table, tlb, asid, page) else {
-        return false;
-    };
-    *remembered = RememberedPage::new(page, frame, attrs);
-    true
 }
 
 /// Slow path: asks all translations of the page's hash, and then the table.

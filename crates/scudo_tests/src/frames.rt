@@ -33,7 +33,8 @@ fn answers_over_pool(
     if pool.taken(&quota) + 2 * pages > pool.reserved(&quota) {
         return Ok(false);
     }
-    let (mut tlb, mut remembered) = (Tlb::new(), RememberedPages::new());
+    let mut tlb = Tlb::new();
+    let mut remembered = RememberedPages::new(alloc)?;
     let mut state = TagState {
         mode,
         pending: false,

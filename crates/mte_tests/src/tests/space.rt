@@ -9,8 +9,9 @@ ghost use Rattle.mte_tests.specs.Tenants.{IsReady};
 use crate::tests::calls::{MapCall, Value, reply};
 use mte_arena::Arena;
 use mte_frames::{FramePool, Quota};
-use mte_space::{RememberedPages, Space, Tenancy, other_tenants_stay, pages_of_a_space};
-use mte_space::written_frames_are_pages;
+use mte_space::{
+    RememberedPages, Space, Tenancy, other_tenants_stay, pages_of_a_space, written_frames_are_pages,
+};
 use mte_tags::{Attrs, FaultKind, MemFault, PageStore, TagMode, TagState};
 use mte_translate::{Table, Tlb, tables_stay};
 use std::alloc::Global;
@@ -75,51 +76,68 @@ pub(crate) fn has_room(pool: &FramePool, table: &Table, quota: &Quota) -> bool
     table.len() <= PAGES && pool.taken(quota) <= pool.reserved(quota) && to_come <= free
 }
 
+/// A tenant's table, and its quota.
+#[derive(Drop)]
+struct Tenant {
+    table: Table,
+    quota: Quota,
+}
+
 /// A tenant's memory answers a call.
 fn ask(
+    alloc: Global,
     pool: &mut FramePool,
-    table: &mut Table,
-    quota: &mut Quota,
+    tenant: &mut Tenant,
     tlb: &mut Tlb,
     asid: usize,
     call: MapCall,
 ) -> Value
-    requires { IsReady pool.old quota.old table.old asid tlb.old }
-    ensures ready { IsReady pool.new quota.new table.new asid tlb.new }
-    ensures same { quota.new ≡ quota.old }
-    ensures others { KeepsOthers quota.old pool.old pool.new }
+    requires { IsReady pool.old tenant.old.quota tenant.old.table asid tlb.old }
+    ensures ready { IsReady pool.new tenant.new.quota tenant.new.table asid tlb.new }
+    ensures same { tenant.new.quota ≡ tenant.old.quota }
+    ensures others { KeepsOthers tenant.old.quota pool.old pool.new }
     ensures entries { NoneEnters asid tlb.old tlb.new }
 {
-    if !has_room(pool, table, quota) {
+    if !has_room(pool, &tenant.table, &tenant.quota) {
         return Value::NoRoom;
     }
-    let (mut remembered, mut state) = (RememberedPages::new(), SYNC);
-    let tenant = Tenancy { asid, pages: PAGES };
-    let mut memory = Space::new(pool, table, quota, tlb, &mut remembered, &mut state, tenant);
+    let Ok(mut remembered) = RememberedPages::new(alloc) else {
+        return Value::NoRoom;
+    };
+    let mut state = SYNC;
+    let mut memory = Space::new(
+        pool,
+        &mut tenant.table,
+        &mut tenant.quota,
+        tlb,
+        &mut remembered,
+        &mut state,
+        Tenancy { asid, pages: PAGES },
+    );
     reply(&mut memory, call)
 }
 
 /// A tenant's answer, and what stays of each tenant beside it.
 fn ask_beside(
+    alloc: Global,
     pool: &mut FramePool,
-    table: &mut Table,
-    quota: &mut Quota,
+    tenant: &mut Tenant,
     tlb: &mut Tlb,
     asid: usize,
     call: MapCall,
 ) -> Value
-    requires { IsReady pool.old quota.old table.old asid tlb.old }
-    ensures ready { IsReady pool.new quota.new table.new asid tlb.new }
-    ensures same { quota.new ≡ quota.old }
+    requires { IsReady pool.old tenant.old.quota tenant.old.table asid tlb.old }
+    ensures ready { IsReady pool.new tenant.new.quota tenant.new.table asid tlb.new }
+    ensures same { tenant.new.quota ≡ tenant.old.quota }
     ensures others { (k : ℕ) (t : Root) (other : ℕ)
-        → k ≢ quota.old
+        → k ≢ tenant.old.quota
         → other ≢ asid
         → IsReady pool.old k t other tlb.old
         → IsReady pool.new k t other tlb.new }
 {
     other_tenants_stay();
     tables_stay();
-    ask(pool, table, quota, tlb, asid, call)
+    ask(alloc, pool, tenant, tlb, asid, call)
 }
 
 /// A call of the first or of the second tenant, and its answer.
@@ -184,26 +202,25 @@ const APART: [Row; 4] = [
 
 /// Whether two tenants' memories answer calls in turn as they should.
 fn are_answered(
+    alloc: Global,
     pool: &mut FramePool,
-    t: &mut Table,
-    q: &mut Quota,
-    u: &mut Table,
-    r: &mut Quota,
+    t: &mut Tenant,
+    u: &mut Tenant,
     tlb: &mut Tlb,
     rows: &[Row],
 ) -> bool
-    requires apart { r.old ≢ q.old }
-    requires first { IsReady pool.old q.old t.old 1 tlb.old }
-    requires second { IsReady pool.old r.old u.old 2 tlb.old }
-    ensures same { (q.new ≡ q.old) × (r.new ≡ r.old) }
-    ensures first { IsReady pool.new q.new t.new 1 tlb.new }
-    ensures second { IsReady pool.new r.new u.new 2 tlb.new }
+    requires apart { u.old.quota ≢ t.old.quota }
+    requires first { IsReady pool.old t.old.quota t.old.table 1 tlb.old }
+    requires second { IsReady pool.old u.old.quota u.old.table 2 tlb.old }
+    ensures same { (t.new.quota ≡ t.old.quota) × (u.new.quota ≡ u.old.quota) }
+    ensures first { IsReady pool.new t.new.quota t.new.table 1 tlb.new }
+    ensures second { IsReady pool.new u.new.quota u.new.table 2 tlb.new }
 {
     for row in rows {
         let answer = if row.second {
-            ask_beside(pool, u, r, tlb, 2, row.call)
+            ask_beside(alloc, pool, u, tlb, 2, row.call)
         } else {
-            ask_beside(pool, t, q, tlb, 1, row.call)
+            ask_beside(alloc, pool, t, tlb, 1, row.call)
         };
         if answer != row.answer {
             return false;
@@ -221,43 +238,43 @@ fn frame_of(walked: Option<(usize, Attrs)>) -> Option<usize> {
 
 /// Whether the worked calls are answered.
 fn answer_all(
+    alloc: Global,
     pool: &mut FramePool,
-    t: &mut Table,
-    q: &mut Quota,
-    u: &mut Table,
-    r: &mut Quota,
+    t: &mut Tenant,
+    u: &mut Tenant,
     tlb: &mut Tlb,
 ) -> bool
-    requires apart { r.old ≢ q.old }
-    requires first { IsReady pool.old q.old t.old 1 tlb.old }
-    requires second { IsReady pool.old r.old u.old 2 tlb.old }
+    requires apart { u.old.quota ≢ t.old.quota }
+    requires first { IsReady pool.old t.old.quota t.old.table 1 tlb.old }
+    requires second { IsReady pool.old u.old.quota u.old.table 2 tlb.old }
 {
-    let touched = are_answered(pool, t, q, u, r, tlb, &TOUCHED);
-    let walked = t.walk(pool, PAGE);
+    let touched = are_answered(alloc, pool, t, u, tlb, &TOUCHED);
+    let walked = t.table.walk(pool, PAGE);
     let is_cached = walked.is_some() && tlb.len() == 1 && tlb.lookup(1, PAGE) == walked;
-    let taken_over = are_answered(pool, t, q, u, r, tlb, &TAKEN_OVER);
-    let is_handed_on = frame_of(u.walk(pool, PAGE)) == frame_of(walked);
-    let is_forgotten = tlb.lookup(1, PAGE).is_none() && pool.taken(q) == 1;
-    let apart = are_answered(pool, t, q, u, r, tlb, &APART);
-    let first = tlb.len() == 2 && tlb.lookup(1, PAGE) == t.walk(pool, PAGE);
-    let second = tlb.lookup(2, PAGE) == u.walk(pool, PAGE);
+    let taken_over = are_answered(alloc, pool, t, u, tlb, &TAKEN_OVER);
+    let is_handed_on = frame_of(u.table.walk(pool, PAGE)) == frame_of(walked);
+    let is_forgotten = tlb.lookup(1, PAGE).is_none() && pool.taken(&t.quota) == 1;
+    let apart = are_answered(alloc, pool, t, u, tlb, &APART);
+    let first = tlb.len() == 2 && tlb.lookup(1, PAGE) == t.table.walk(pool, PAGE);
+    let second = tlb.lookup(2, PAGE) == u.table.walk(pool, PAGE);
     let worked = touched && is_cached && taken_over && is_handed_on && is_forgotten;
     worked && apart && first && second
 }
 
-fn tenants_answer(pool: &mut FramePool) -> bool {
+fn tenants_answer(alloc: Global, pool: &mut FramePool) -> bool {
     let Some((mut q, mut r)) = two_quotas(pool) else {
         return false;
     };
-    let Some(mut t) = new_table(pool, &mut q) else {
+    let Some(t) = new_table(pool, &mut q) else {
         return false;
     };
     tables_stay();
-    let Some(mut u) = new_table(pool, &mut r) else {
+    let Some(u) = new_table(pool, &mut r) else {
         return false;
     };
-    let mut tlb = Tlb::new();
-    answer_all(pool, &mut t, &mut q, &mut u, &mut r, &mut tlb)
+    let mut first = Tenant { table: t, quota: q };
+    let mut second = Tenant { table: u, quota: r };
+    answer_all(alloc, pool, &mut first, &mut second, &mut Tlb::new())
 }
 
 /// Whether a page that a memory maps is written and read in its place, and the flag is set.
@@ -279,7 +296,7 @@ fn works_in_place<S: PageStore>(store: &mut S) -> bool {
     is_written && is_data && is_apart && state.pending && state.mode == TagMode::Sync
 }
 
-fn place_is_written(pool: &mut FramePool) -> bool {
+fn place_is_written(alloc: Global, pool: &mut FramePool) -> bool {
     let Some((mut quota, _)) = two_quotas(pool) else {
         return false;
     };
@@ -289,7 +306,10 @@ fn place_is_written(pool: &mut FramePool) -> bool {
     if !has_room(pool, &table, &quota) {
         return false;
     }
-    let (mut tlb, mut remembered, mut state) = (Tlb::new(), RememberedPages::new(), SYNC);
+    let Ok(mut remembered) = RememberedPages::new(alloc) else {
+        return false;
+    };
+    let (mut tlb, mut state) = (Tlb::new(), SYNC);
     let tenant = Tenancy {
         asid: 1,
         pages: PAGES,
@@ -309,7 +329,7 @@ fn place_is_written(pool: &mut FramePool) -> bool {
 #[test]
 fn place_of_a_page(rt: HostRuntime) -> Result<(), Fail> {
     let mut pool = pool_of(rt.alloc(), 22)?;
-    assert!(rt; place_is_written(&mut pool));
+    assert!(rt; place_is_written(rt.alloc(), &mut pool));
     Ok(())
 }
 
@@ -317,7 +337,7 @@ fn place_of_a_page(rt: HostRuntime) -> Result<(), Fail> {
 #[test]
 fn two_tenants_over_one_pool(rt: HostRuntime) -> Result<(), Fail> {
     let mut pool = pool_of(rt.alloc(), 22)?;
-    assert!(rt; tenants_answer(&mut pool));
+    assert!(rt; tenants_answer(rt.alloc(), &mut pool));
     written_frames_are_pages();
     pages_of_a_space();
     Ok(())

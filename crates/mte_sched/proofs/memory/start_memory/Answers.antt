@@ -1,7 +1,6 @@
 use Rattle.std.proofs.Common.{◌∙◌, ap, sum, sym, subst, arith}
 use Rattle.mte_frames.specs.Pool.{KeepsOthers}
 use Rattle.mte_frames.proofs.Keeps.{keeps_on}
-use Rattle.mte_translate.specs.Tables.{pages_of}
 use Rattle.mte_space.specs.Remembered.{IsRemembered}
 use Rattle.mte_sched.proofs.MemoryLemmas.{first_placed, reserved_stays}
 use Rattle.mte_sched.proofs.memory.start_memory.Goals as goal
@@ -26,6 +25,4 @@ returns-clause-others c =
 
 pub fill_memory-requires-clause-remembered : goal.fill_memory-requires-clause-remembered
 fill_memory-requires-clause-remembered c =
-    let p = c.recall.new.self in
-    let a = c.reserve_memory-memory.result in
-    subst (λ r. IsRemembered (pages_of p a.table.frame) r.value) (sym c.reserve_memory-memory.ensures.remembered) (c.requires.remembered (pages_of p a.table.frame))
+    subst (IsRemembered _) (sym c.reserve_memory-memory.ensures.remembered) (c.requires.remembered _)

@@ -89,7 +89,13 @@ fn are_loaded_alike<A: Paged, B: Paged>(plan: &Plan, file: &[u8], a: &mut A, b: 
 }
 
 /// Whether an image is loaded into a memory over frames as into this one.
-fn is_loaded_alike<M: Paged>(plan: &Plan, file: &[u8], plain: &mut M, pool: &mut FramePool) -> bool
+fn is_loaded_alike<M: Paged>(
+    alloc: Global,
+    plan: &Plan,
+    file: &[u8],
+    plain: &mut M,
+    pool: &mut FramePool,
+) -> bool
     requires image { refusal_of file.now ≡ None }
     requires plan { plan.now.segments.items ≡ segments_of file.now }
     requires count { plan.now.pages ≡ pages_of file.now }
@@ -105,7 +111,10 @@ fn is_loaded_alike<M: Paged>(plan: &Plan, file: &[u8], plain: &mut M, pool: &mut
     if !has_room(pool, &table, &quota) {
         return false;
     }
-    let (mut tlb, mut remembered, mut state) = (Tlb::new(), RememberedPages::new(), SYNC);
+    let Ok(mut remembered) = RememberedPages::new(alloc) else {
+        return false;
+    };
+    let (mut tlb, mut state) = (Tlb::new(), SYNC);
     let tenant = Tenancy {
         asid: 1,
         pages: PAGES,
@@ -131,7 +140,7 @@ fn file_is_loaded_alike(
 ) -> Result<bool, Obstacle<ElfError>> {
     let plan = plan(alloc, file)?;
     let mut plain = Flat::new(alloc, PAGES, TagMode::Sync)?;
-    Ok(is_loaded_alike(&plan, file, &mut plain, pool))
+    Ok(is_loaded_alike(alloc, &plan, file, &mut plain, pool))
 }
 
 /// The image is that of examples/hi.elf, of one page. No other page is mapped.

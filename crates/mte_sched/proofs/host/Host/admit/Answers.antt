@@ -132,3 +132,6 @@ returns-clause-ok c =
     ∙ ap (λ u. tenants_in h.pool ts ++ u ∷ []) (first_tenant n c.args.admission.now.id given c.in_ok-parts.parts b boxed start.memory) in
     ap (λ (k : ℕ). let z : Content = record { frames = k; tenants = tenants_in n c.push_reserved.new.self.items } in z) start.others.count
     ∙ ap (λ (l : List Tenant). let z : Content = record { frames = length h.pool.frames; tenants = l } in z) tenants
+
+pub start_memory-memory-requires-clause-remembered : goal.start_memory-memory-requires-clause-remembered
+start_memory-memory-requires-clause-remembered c = λ m. c.in_ok-remembered.ensures m

@@ -13,5 +13,5 @@ invariant_of-self c =
     record {
       space = c.unmap_range.ensures.space;
       cached = c.unmap_range.ensures.cached;
-      up_to_date = c.new-self.ensures (pages_of c.unmap_range.new.pool c.unmap_range.new.table.frame);
+      up_to_date = c.forget.ensures (pages_of c.unmap_range.new.pool c.unmap_range.new.table.frame);
     }

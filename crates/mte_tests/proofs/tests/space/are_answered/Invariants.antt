@@ -4,9 +4,9 @@ use Rattle.mte_tests.proofs.tests.space.are_answered.Given as goal
 
 abbrev pub invariant-loop-row : goal.invariant-loop-row
 invariant-loop-row l = record {
-  apart : l.r ≢ l.q;
-  first_same : l.q ≡ l.initial.q;
-  second_same : l.r ≡ l.initial.r;
-  first : IsReady l.pool l.q l.t 1 l.tlb;
-  second : IsReady l.pool l.r l.u 2 l.tlb;
+  apart : l.u.quota ≢ l.t.quota;
+  first_same : l.t.quota ≡ l.initial.t.quota;
+  second_same : l.u.quota ≡ l.initial.u.quota;
+  first : IsReady l.pool l.t.quota l.t.table 1 l.tlb;
+  second : IsReady l.pool l.u.quota l.u.table 2 l.tlb;
 }
