@@ -321,7 +321,8 @@ def test_services_that_are_none(
     path.write_text(text)
     ran = run([sys.executable, ALLOC / "tenant_calls.py", path])
     assert (ran.status, ran.output) == (status, "") and said in ran.errors
-    for words in ([tmp_path / "absent"], [tmp_path], ["--x"], [path, path]):
+    lines: list[list[Word]] = [[tmp_path / "absent"], [tmp_path], ["--x"], [path, path]]
+    for words in lines:
         assert run([sys.executable, ALLOC / "tenant_calls.py", *words]).status == 2
 
 
@@ -362,8 +363,10 @@ def test_three_heaps_on_one_trace(shared: pathlib.Path, tmp_path: pathlib.Path) 
 def test_three_heaps_of_wrong_words(shared: pathlib.Path, tmp_path: pathlib.Path) -> None:
     """A status and a line."""
     (tmp_path / "none").write_text("malloc\n")
-    for words, status in ((["--rows", "0", tmp_path / "none"], 2), ([tmp_path / "none"], 1),
-                          ([tmp_path / "absent"], 1), ([], 2)):
+    lines: list[tuple[list[Word], int]] = [
+        (["--rows", "0", tmp_path / "none"], 2), ([tmp_path / "none"], 1),
+        ([tmp_path / "absent"], 1), ([], 2)]
+    for words, status in lines:
         ran = beside(shared, *words)
         assert (ran.status, ran.output) == (status, "") and "beside_allocators.py: " in ran.errors
 

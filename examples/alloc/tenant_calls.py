@@ -7,8 +7,8 @@ a tenant's services.
 
 FILE is what --services or --trace wrote (standard input without it). Lines of other services and of
 instructions are passed over, and so is usable_size, which changes no heap; a call that was not
-answered, since it ended the tenant, has no line. Status 1 where there is no heap call, and 2 where a
-line has one of another form.
+answered, since it ended the tenant, has no line. Status 1 where there is no heap call, and 2 where
+a line has one of another form.
 """
 from __future__ import annotations
 
