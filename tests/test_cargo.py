@@ -9,19 +9,9 @@ import pytest
 
 from tests.support import library
 from tests.support.embedding.built import EMBED
-from tests.support.tools import give_up
 
 CRATE = EMBED / "cargo" / "tombolopan-sys"
 WANTED = "0x10000: add x0, x0, #0x1\n0x10004: brk #0x1\nbreakpoint 1, x0 is 42\n"
-
-
-def cargo() -> str:
-    """Cargo, which is not always where commands are looked for."""
-    at_home = pathlib.Path.home() / ".cargo" / "bin" / "cargo"
-    found = shutil.which("cargo") or (str(at_home) if os.access(at_home, os.X_OK) else None)
-    if found is None:
-        give_up("missing: cargo")
-    return str(found)
 
 
 def ran(folder: pathlib.Path, **extra: str) -> subprocess.CompletedProcess[str]:
@@ -36,7 +26,7 @@ def ran(folder: pathlib.Path, **extra: str) -> subprocess.CompletedProcess[str]:
     kept = {name: value for name, value in os.environ.items()
             if name not in ("TOMBOLOPAN_LIB_DIR", "PKG_CONFIG_PATH")}
     return subprocess.run(
-        [cargo(), "run", "--offline", "--quiet", "--example", "first"], text=True, check=False,
+        [library.rust_program("cargo"), "run", "--offline", "--quiet", "--example", "first"], text=True, check=False,
         cwd=folder / CRATE.relative_to(EMBED), env={**kept, **extra}, capture_output=True,
         timeout=300,
     )

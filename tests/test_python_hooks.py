@@ -2,6 +2,7 @@
 
 import pathlib
 
+from tests.support.growth import MEASURED
 from tests.test_python_package import told
 
 DRAWN = """
@@ -133,7 +134,6 @@ for turn in range(30):
 def test_nothing_grows_by_hooks_and_replays(shared: pathlib.Path) -> None:
     """Thousands of hooked runs and replays take no more memory than the first of them."""
     assert told(shared, """
-import resource
 memory = Memory()
 memory.map(0x10000, 4096, R | X)
 memory.load(0x10000, ADD * 3 + BRK)
@@ -143,13 +143,4 @@ def turn():
     heap = Heap(pages=16)
     heap.free(heap.malloc(24))
     assert heap.replay().codes() == [OK, OK]
-
-def peak(turns):
-    for _ in range(turns):
-        turn()
-    return resource.getrusage(resource.RUSAGE_SELF).ru_maxrss
-
-before = peak(500)
-grown = peak(3000) - before
-print(grown if grown > 2000 else "")
-""") == "\n"
+""" + MEASURED) == "\n"

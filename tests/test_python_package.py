@@ -11,6 +11,7 @@ import pytest
 from tests.support import library
 from tests.support.embedding.built import EMBED, in_python
 from tests.support.expected import compare
+from tests.support.growth import MEASURED
 from tests.support.places import ROOT
 from tests.support.running import Ran, Word, run, succeed
 from tests.support.tools import give_up, need
@@ -380,7 +381,6 @@ print(stop.fault, Code.SVC.number, Code("svc"))
 def test_nothing_grows(shared: pathlib.Path) -> None:
     """Thousands of sessions, tenants, heaps, runs and copies take no more memory than hundreds."""
     assert told(shared, """
-import resource
 image, script = example("hi.elf"), (b"admit 1 image 1 input 0 seed 0000000000000001 frames 5 out 16"
                                     b"\\nslice 1 100\\n")
 memory, regs = Memory(), Regs(pc=0x10000, x2=0x11000)
@@ -394,16 +394,7 @@ def turn():
     trace(memory, regs, 9, [])
     refused(lambda: memory.peek(0, 1), Fault)
     memory.copy().map(0x20000, 20 * 4096, R)
-
-def peak(turns):
-    for _ in range(turns):
-        turn()
-    return resource.getrusage(resource.RUSAGE_SELF).ru_maxrss
-
-before = peak(500)
-grown = peak(3000) - before
-print(grown if grown > 2000 else "")
-""") == "\n"
+""" + MEASURED) == "\n"
 
 
 @pytest.mark.parametrize("name", ["watch", "hooks", "services", "protect", "context"])

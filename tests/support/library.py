@@ -52,10 +52,15 @@ def shared_object(shared: pathlib.Path) -> pathlib.Path:
     return make_once(shared / "libtombolopan.so", link)
 
 
-def rustc() -> str:
-    """Rust's compiler, which is not always where commands are looked for."""
-    at_home = pathlib.Path.home() / ".cargo" / "bin" / "rustc"
-    found = shutil.which("rustc") or (str(at_home) if os.access(at_home, os.X_OK) else None)
+def rust_program(name: str) -> str:
+    """rustc or cargo, which are not always where commands are looked for."""
+    at_home = pathlib.Path.home() / ".cargo" / "bin" / name
+    found = shutil.which(name) or (str(at_home) if os.access(at_home, os.X_OK) else None)
     if found is None:
-        give_up("missing: rustc")
+        give_up(f"missing: {name}")
     return str(found)
+
+
+def rustc() -> str:
+    """Rust's compiler."""
+    return rust_program("rustc")
