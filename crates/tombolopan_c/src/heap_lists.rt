@@ -4,8 +4,8 @@ ghost use Rattle.std.specs.Prelude.{◌≡◌, ◌≢◌, ◌⊎◌, ℕ, ◌<�
 ghost use Rattle.tombolopan_c.specs.HeapCalls.{is_setup, after_heap_call, start_of, call_made};
 ghost use Rattle.call_reports.specs.declared.codes.TheConstants.{OK, BAD_ARGUMENT, OUT_OF_MEMORY};
 
-use call_reports::{BAD_ARGUMENT, OK, OUT_OF_MEMORY};
 use crate::lent_heap::{HeapSetup, LentHeapCall};
+use call_reports::{BAD_ARGUMENT, OK, OUT_OF_MEMORY};
 use heap_calls::HeapBench;
 use std::alloc::Global;
 

@@ -11,12 +11,11 @@ ghost use Rattle.tombolopan_c.specs.MemoryCodes.{tags_code};
 ghost use Rattle.tombolopan_c.specs.MemoryCodes.{tags_report, load_code};
 ghost use Rattle.call_reports.specs.declared.codes.TheConstants.{OK};
 
-use call_reports::{BAD_ARGUMENT, NOT_MAPPED, OK};
-use call_reports::{FaultReport, report};
 use crate::find::are_mapped;
 use crate::lent::{Lent, LentTagState};
 use crate::lent_page::LentPage;
 use a64_bits::plain;
+use call_reports::{BAD_ARGUMENT, FaultReport, NOT_MAPPED, OK, report};
 use mte_tags::{Tagged, replace_bytes};
 
 /// Copies bytes out of pages with READ, and compares tags where `check` is set. FAULT leaves the

@@ -7,10 +7,10 @@ ghost use Rattle.tombolopan_c.specs.LentPages.{lent_memory, state_of, has_room, 
 ghost use Rattle.tombolopan_c.specs.MemoryCodes.{map_code, unmap_code};
 ghost use Rattle.call_reports.specs.declared.codes.TheConstants.{OK};
 
-use call_reports::{ALREADY_MAPPED, BAD_ARGUMENT, NO_ROOM, NOT_MAPPED, OK, PAGES, VERSION};
 use crate::find::{find_free, is_mapped};
 use crate::lent::LentTagState;
 use crate::lent_page::LentPage;
+use call_reports::{ALREADY_MAPPED, BAD_ARGUMENT, NO_ROOM, NOT_MAPPED, OK, PAGES, VERSION};
 
 /// The version of the layouts and calls, 2.
 #[unsafe(no_mangle)]

@@ -5,10 +5,10 @@ ghost use Rattle.tombolopan_c.specs.HeapCalls.{is_setup, start_of};
 ghost use Rattle.tombolopan_c.specs.HeapReplays.{step_made, replayed, first_bad};
 ghost use Rattle.call_reports.specs.declared.codes.TheConstants.{OK, BAD_ARGUMENT, OUT_OF_MEMORY};
 
-use call_reports::{BAD_ARGUMENT, OK, OUT_OF_MEMORY};
 use crate::heap_lists::make;
 use crate::lent_heap::HeapSetup;
 use crate::lent_step::{HeapStep, find_bad};
+use call_reports::{BAD_ARGUMENT, OK, OUT_OF_MEMORY};
 use heap_calls::HeapBench;
 use std::alloc::Global;
 

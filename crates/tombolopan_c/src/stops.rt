@@ -4,9 +4,8 @@ ghost use Rattle.std.specs.Prelude.{◌≡◌};
 ghost use Rattle.tombolopan_c.specs.RunsUntil.{until_report};
 ghost use Rattle.tombolopan_c.specs.Stops.{stop_report};
 
-use call_reports::{BREAKPOINT, FAULT, ILLEGAL, OK, STOPPED, SVC};
-use call_reports::FaultReport;
 use a64_step::{Outcome, Stop};
+use call_reports::{BREAKPOINT, FAULT, FaultReport, ILLEGAL, OK, STOPPED, SVC};
 
 /// How a step or a run ended.
 #[repr(C)]
