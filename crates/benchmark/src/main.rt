@@ -67,7 +67,7 @@ fn main(rt: HostRuntime) -> Result<ExitCode> {
 /// Makes a plain memory and one over shared frames, and does there what is asked.
 fn run_asked(rt: &HostRuntime, asked: Asked) -> Result<()> {
     let mut plain = Flat::new(rt.alloc(), PAGES, TagMode::Sync)?;
-    let mut pool = pool_for(rt.alloc(), PAGES)?;
+    let mut pool = pool_for(rt.alloc())?;
     let Ok(mut quota) = pool.reserve(2 * PAGES + 1) else {
         bail!("the frames could not be reserved");
     };
@@ -75,7 +75,7 @@ fn run_asked(rt: &HostRuntime, asked: Asked) -> Result<()> {
         bail!("there is no frame for the table");
     }
     let mut table = Table::new(&mut pool, &mut quota);
-    if !has_room(&pool, &table, &quota, PAGES) {
+    if !has_room(&pool, &table, &quota) {
         bail!("there are too few frames");
     }
     let mut tlb = Tlb::new();

@@ -19,7 +19,11 @@ pub(crate) fn get(regs: &Regs, act: &MachineAct) -> MachineAct
 }
 
 /// Writes a register.
-#[tactic(auto, unfolding(a64_registers::specs::Registers::with_pc, a64_registers::specs::Registers::with_register_or_sp))]
+#[rattlefmt::skip]
+#[tactic(auto, unfolding(
+    a64_registers::specs::Registers::with_pc,
+    a64_registers::specs::Registers::with_register_or_sp
+))]
 pub(crate) fn set(regs: &mut Regs, act: &MachineAct) -> MachineAct
     ensures act { result ≡ (after_set regs.old act.now).act }
     ensures regs { regs.new ≡ (after_set regs.old act.now).regs }

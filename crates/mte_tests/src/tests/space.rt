@@ -78,7 +78,7 @@ pub(crate) fn has_room(pool: &FramePool, table: &Table, quota: &Quota) -> bool
 
 /// A tenant's table, and its quota.
 #[derive(Drop)]
-struct Tenant {
+struct TenantTable {
     table: Table,
     quota: Quota,
 }
@@ -87,7 +87,7 @@ struct Tenant {
 fn ask(
     alloc: Global,
     pool: &mut FramePool,
-    tenant: &mut Tenant,
+    tenant: &mut TenantTable,
     tlb: &mut Tlb,
     asid: usize,
     call: MapCall,
@@ -121,7 +121,7 @@ fn ask(
 fn ask_beside(
     alloc: Global,
     pool: &mut FramePool,
-    tenant: &mut Tenant,
+    tenant: &mut TenantTable,
     tlb: &mut Tlb,
     asid: usize,
     call: MapCall,
@@ -204,8 +204,8 @@ const APART: [Row; 4] = [
 fn are_answered(
     alloc: Global,
     pool: &mut FramePool,
-    t: &mut Tenant,
-    u: &mut Tenant,
+    t: &mut TenantTable,
+    u: &mut TenantTable,
     tlb: &mut Tlb,
     rows: &[Row],
 ) -> bool
@@ -240,8 +240,8 @@ fn frame_of(walked: Option<(usize, Attrs)>) -> Option<usize> {
 fn answer_all(
     alloc: Global,
     pool: &mut FramePool,
-    t: &mut Tenant,
-    u: &mut Tenant,
+    t: &mut TenantTable,
+    u: &mut TenantTable,
     tlb: &mut Tlb,
 ) -> bool
     requires apart { u.old.quota ≢ t.old.quota }
@@ -272,8 +272,8 @@ fn tenants_answer(alloc: Global, pool: &mut FramePool) -> bool {
     let Some(u) = new_table(pool, &mut r) else {
         return false;
     };
-    let mut first = Tenant { table: t, quota: q };
-    let mut second = Tenant { table: u, quota: r };
+    let mut first = TenantTable { table: t, quota: q };
+    let mut second = TenantTable { table: u, quota: r };
     answer_all(alloc, pool, &mut first, &mut second, &mut Tlb::new())
 }
 

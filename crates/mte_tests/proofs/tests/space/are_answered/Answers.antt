@@ -2,11 +2,11 @@ use Rattle.std.proofs.Common.{◌≡◌, ◌∙◌, ℕ, List, sym, ap, arith}
 use Rattle.mte_frames.specs.Pool.{Pool}
 use Rattle.mte_translate.specs.declared.translation.Translation.{Translation}
 use Rattle.mte_tests.specs.Tenants.{IsReady}
-use Rattle.mte_tests.specs.declared.tests.space.Tenant.{Tenant}
+use Rattle.mte_tests.specs.declared.tests.space.TenantTable.{TenantTable}
 use Rattle.mte_tests.proofs.tests.space.are_answered.Goals.{then-row, else-row}
 use Rattle.mte_tests.proofs.tests.space.are_answered.Goals as goal
 
-ready_same : {p n : Pool} {t u : Tenant} {asid : ℕ} {ts us : List Translation} → p ≡ n → t ≡ u → ts ≡ us → IsReady n u.quota u.table asid us → IsReady p t.quota t.table asid ts
+ready_same : {p n : Pool} {t u : TenantTable} {asid : ℕ} {ts us : List Translation} → p ≡ n → t ≡ u → ts ≡ us → IsReady n u.quota u.table asid us → IsReady p t.quota t.table asid ts
 ready_same e f g h = rw e (rw f (rw g h))
 
 pub returns-then-ne-clause-first : goal.returns-then-ne-clause-first
@@ -29,8 +29,8 @@ loop-row-preserved c =
     elim c.if-row.branch [
       | then-row w ↦
           let did = w.ask_beside-answer.ensures in
-          let q = ap (λ (t : Tenant). t.quota) w.t-is in
-          let r = ap (λ (t : Tenant). t.quota) w.u-is ∙ did.same in
+          let q = ap (λ (t : TenantTable). t.quota) w.t-is in
+          let r = ap (λ (t : TenantTable). t.quota) w.u-is ∙ did.same in
           record {
             apart = λ e. was.apart (sym r ∙ e ∙ q);
             first_same = q ∙ was.first_same;
@@ -40,8 +40,8 @@ loop-row-preserved c =
           }
       | else-row w ↦
           let did = w.ask_beside-answer-else-row.ensures in
-          let q = ap (λ (t : Tenant). t.quota) w.t-is ∙ did.same in
-          let r = ap (λ (t : Tenant). t.quota) w.u-is in
+          let q = ap (λ (t : TenantTable). t.quota) w.t-is ∙ did.same in
+          let r = ap (λ (t : TenantTable). t.quota) w.u-is in
           record {
             apart = λ e. was.apart (sym r ∙ e ∙ q);
             first_same = q ∙ was.first_same;
