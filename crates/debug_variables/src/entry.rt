@@ -38,8 +38,10 @@ pub struct VariableEntry<'a> {
     pub text_offsets: FieldValue<'a>,
     /// DW_AT_addr_base, of a unit.
     pub addresses: FieldValue<'a>,
-    /// Whether it is said that all of a function's calls have entries, as compilers say it of one
-    /// that they optimized (DW_AT_call_all_calls, DW_AT_GNU_all_call_sites).
+    /// DW_AT_producer, of a unit.
+    pub producer: FieldValue<'a>,
+    /// Whether it is said that all of a function's calls have entries (DW_AT_call_all_calls,
+    /// DW_AT_GNU_all_call_sites).
     pub has_all_calls: bool,
 }
 
@@ -61,6 +63,7 @@ impl<'a> VariableEntry<'a> {
         lines: FieldValue::Other,
         text_offsets: FieldValue::Other,
         addresses: FieldValue::Other,
+        producer: FieldValue::Other,
         has_all_calls: false,
     };
 
@@ -87,6 +90,7 @@ impl<'a> VariableEntry<'a> {
             0x10 => self.lines = value,
             0x11 => self.low = value,
             0x12 => self.high = value,
+            0x25 => self.producer = value,
             0x2F => self.last = value,
             0x31 | 0x47 => self.origin = value,
             0x37 => self.count = value,

@@ -5,8 +5,8 @@ use crate::search::VariableSearch;
 use crate::sections::VariableSections;
 use std::alloc::{AllocError, Global};
 
-/// What the places of a function's variables are counted from.
-#[derive(Clone, Copy, Debug, PartialEq, Eq)]
+/// What the place of a variable is counted from.
+#[derive(Clone, Copy, Debug, PartialEq, Eq, PartialOrd, Ord)]
 pub enum FrameBase {
     /// SP when the function was called.
     Caller,
@@ -16,6 +16,46 @@ pub enum FrameBase {
     StackPointer,
 }
 
+/// All bases, in order.
+const BASES: [FrameBase; 3] = [
+    FrameBase::Caller,
+    FrameBase::FramePointer,
+    FrameBase::StackPointer,
+];
+
+/// The values of the bases of a function that runs.
+#[derive(Clone, Copy, Debug, PartialEq, Eq)]
+pub struct FrameBases {
+    /// SP when it was called.
+    pub caller: u64,
+    /// The frame pointer, x29.
+    pub frame_pointer: u64,
+    /// SP.
+    pub stack_pointer: u64,
+}
+
+impl FrameBases {
+    /// The value of a base.
+    fn of(&self, base: FrameBase) -> u64 {
+        match base {
+            FrameBase::Caller => self.caller,
+            FrameBase::FramePointer => self.frame_pointer,
+            FrameBase::StackPointer => self.stack_pointer,
+        }
+    }
+}
+
+/// A variable, and its address while its function runs.
+#[derive(Clone, Copy, Debug, PartialEq, Eq)]
+pub struct PlacedVariable {
+    /// The variable.
+    pub variable: FrameVariable,
+    /// Its address.
+    pub start: u64,
+    /// The address behind its last byte.
+    pub end: u64,
+}
+
 /// A function of an image.
 #[derive(Clone, Copy, Debug, PartialEq, Eq)]
 pub struct FrameFunction {
@@ -23,8 +63,8 @@ pub struct FrameFunction {
     pub low: u64,
     /// The address behind its last.
     pub high: u64,
-    /// What the places of its variables are counted from.
-    pub base: FrameBase,
+    /// What the places of its variables are counted from where these say no other.
+    pub(crate) base: FrameBase,
     /// Whether its unit was optimized, as far as that shows.
     pub is_optimized: bool,
     /// The number of its first variable, and how many there are.
@@ -37,8 +77,10 @@ pub struct FrameFunction {
 pub struct FrameVariable {
     /// The function, by its place among those that were found.
     pub(crate) function: usize,
-    /// How far its first byte is from the function's base, modulo 2^64.
-    pub offset: u64,
+    /// What its place is counted from.
+    pub(crate) base: FrameBase,
+    /// How far its first byte is from that, modulo 2^64.
+    pub(crate) offset: u64,
     /// Its bytes.
     pub size: u64,
     /// Its name; that of the largest of several.
@@ -54,6 +96,11 @@ impl FrameVariable {
     /// Its place in the order of the variables of a function.
     fn place(&self) -> u64 {
         self.offset.wrapping_add(SIGN)
+    }
+
+    /// Whether it is of the function and has the base of another.
+    fn is_beside(&self, other: &FrameVariable) -> bool {
+        self.function == other.function && self.base == other.base
     }
 
     /// The place behind it.
@@ -97,9 +144,11 @@ impl FrameVariables {
             mut declared,
             ..
         } = search;
-        variables
-            .as_mut_slice()
-            .sort_unstable_by_key(|variable| (variable.function, variable.place()));
+        variables.as_mut_slice().sort_unstable_by_key(|variable| (
+            variable.function,
+            variable.base,
+            variable.place(),
+        ));
         let variables = joined(alloc, variables.as_slice())?;
         count_variables(functions.as_mut_slice(), variables.as_slice());
         functions
@@ -129,36 +178,58 @@ impl FrameVariables {
         }
     }
 
-    /// The variable of a function that has the byte at an offset from the function's base, modulo
-    /// 2^64.
-    pub fn variable_at(&self, function: &FrameFunction, offset: u64) -> Option<&FrameVariable> {
-        let (all, behind) = self.split_at(function, offset);
-        let variable = all.get(behind.checked_sub(1)?)?;
-        if offset.wrapping_add(SIGN) < variable.end() {
-            Some(variable)
-        } else {
-            None
+    /// The variable of a function that has the byte at an address, by the values of its bases.
+    /// `None` where two have it, which are counted from different ones.
+    pub fn variable_at(
+        &self,
+        function: &FrameFunction,
+        bases: &FrameBases,
+        addr: u64,
+    ) -> Option<PlacedVariable> {
+        let mut found = None;
+        for base in BASES {
+            if let Some(variable) = self.counted_from(function, base, addr, bases) {
+                if found.is_some() {
+                    return None;
+                }
+                found = Some(variable);
+            }
+        }
+        found
+    }
+
+    /// The bytes of the variable of a function that ends at an address; 0 where none does.
+    pub fn size_before(&self, function: &FrameFunction, bases: &FrameBases, addr: u64) -> u64 {
+        match self.variable_at(function, bases, addr.wrapping_sub(1)) {
+            Some(placed) if placed.end == addr => placed.variable.size,
+            _ => 0,
         }
     }
 
-    /// The bytes of the variable of a function that ends where another begins, which has an offset
-    /// from the function's base; 0 where none does.
-    pub fn size_before(&self, function: &FrameFunction, offset: u64) -> u64 {
-        let (all, _) = self.split_at(function, offset);
-        let place = offset.wrapping_add(SIGN);
-        match all.iter().find(|variable| variable.end() == place) {
-            Some(variable) => variable.size,
-            None => 0,
-        }
-    }
-
-    /// The variables of a function, and how many begin at an offset or in front of it.
-    fn split_at(&self, function: &FrameFunction, offset: u64) -> (&[FrameVariable], usize) {
+    /// The variable of a function that is counted from a base and has the byte at an address.
+    fn counted_from(
+        &self,
+        function: &FrameFunction,
+        base: FrameBase,
+        addr: u64,
+        bases: &FrameBases,
+    ) -> Option<PlacedVariable> {
         let end = function.first.saturating_add(function.count);
-        let all = self.variables.get(function.first..end).unwrap_or(&[]);
-        let place = offset.wrapping_add(SIGN);
-        let behind = all.partition_point(|variable| variable.place() <= place);
-        (all, behind)
+        let all = self.variables.get(function.first..end)?;
+        let value = bases.of(base);
+        let place = addr.wrapping_sub(value).wrapping_add(SIGN);
+        let behind = all.partition_point(|variable| (variable.base, variable.place())
+            <= (base, place));
+        let variable = all.get(behind.checked_sub(1)?)?;
+        if variable.base != base || place >= variable.end() {
+            return None;
+        }
+        let start = value.wrapping_add(variable.offset);
+        Some(PlacedVariable {
+            variable: *variable,
+            start,
+            end: start.checked_add(variable.size)?,
+        })
     }
 
     /// Where the variable of the image at an address is declared, if that is known.
@@ -196,6 +267,7 @@ fn union_of(first: &FrameVariable, other: &FrameVariable) -> FrameVariable {
     };
     FrameVariable {
         function: first.function,
+        base: first.base,
         offset: first.offset,
         size: end.saturating_sub(first.place()),
         name: named.name,

@@ -18,5 +18,7 @@ mod unit;
 mod value;
 
 pub use declaration::{Declaration, VariableName};
-pub use frame_table::{FrameBase, FrameFunction, FrameVariable, FrameVariables};
+pub use frame_table::{
+    FrameBase, FrameBases, FrameFunction, FrameVariable, FrameVariables, PlacedVariable,
+};
 pub use object_table::{ImageObject, ImageObjects};

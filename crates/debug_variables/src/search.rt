@@ -26,12 +26,22 @@ const VARIABLE: u64 = 0x34;
 /// DW_TAG_subprogram.
 const FUNCTION: u64 = 0x2E;
 
-/// DW_OP_addr, DW_OP_addrx, DW_OP_fbreg, DW_OP_call_frame_cfa, and DW_OP_reg29 and DW_OP_reg31.
+/// DW_TAG_call_site and DW_TAG_GNU_call_site, which compilers write where they optimize.
+const CALL: u64 = 0x48;
+
+const GNU_CALL: u64 = 0x4109;
+
+/// DW_OP_addr, DW_OP_addrx, DW_OP_fbreg, DW_OP_breg29 and DW_OP_breg31, DW_OP_call_frame_cfa, and
+/// DW_OP_reg29 and DW_OP_reg31.
 const AT_ADDRESS: u8 = 0x03;
 
 const AT_NUMBERED_ADDRESS: u8 = 0xA1;
 
 const AT_FRAME: u8 = 0x91;
+
+const BASE_29: u8 = 0x8D;
+
+const BASE_31: u8 = 0x8F;
 
 const CALLER_FRAME: u8 = 0x9C;
 
@@ -54,6 +64,8 @@ struct UnitScope<'t, 's, 'a> {
     sections: &'s VariableSections<'a>,
     first: VariableEntry<'a>,
     types: UnitTypes<'t, 'a>,
+    /// Whether gcc wrote it, which says of a function without calls that all have entries.
+    is_of_gcc: bool,
 }
 
 /// A search through `.debug_info`.
@@ -125,11 +137,15 @@ impl VariableSearch {
         self.open.clear();
         let mut entries = unit.entries;
         if let Some(first) = self.first_entry(table, &mut entries) {
-            let scope = UnitScope {
+            let mut scope = UnitScope {
                 sections,
                 first,
                 types: UnitTypes { unit: *unit, table },
+                is_of_gcc: false,
             };
+            let producer = scope.text(&first.producer).unwrap_or(&[]);
+            scope.is_of_gcc = producer.starts_with(b"GNU ");
+            self.is_optimized = has_level(producer);
             self.search_entries(&scope, entries)?;
         }
         let is_optimized = self.is_optimized;
@@ -223,11 +239,15 @@ impl VariableSearch {
     ) -> Result<(), AllocError> {
         match abbreviation.tag {
             FUNCTION => {
-                self.is_optimized = self.is_optimized || entry.has_all_calls;
+                self.is_optimized = self.is_optimized || (entry.has_all_calls && !scope.is_of_gcc);
+                let place = self.enter_function(scope, entry)?;
                 if abbreviation.has_children && self.open.len() < DEEPEST {
-                    let place = self.enter_function(scope, entry)?;
                     self.open.push(OpenFunction { depth, place })?;
                 }
+                Ok(())
+            }
+            CALL | GNU_CALL => {
+                self.is_optimized = true;
                 Ok(())
             }
             VARIABLE | PARAMETER => self.enter_variable(scope, entry),
@@ -267,20 +287,28 @@ impl VariableSearch {
             _ => return Ok(()),
         };
         match scope.place_of(expression) {
-            Some(VariablePlace::Frame(offset)) => self.enter_local(scope, entry, offset),
+            Some(VariablePlace::Frame(base, offset)) => {
+                self.enter_local(scope, entry, base, offset)
+            }
             Some(VariablePlace::Image(addr)) => self.enter_object(scope, entry, addr),
             None => Ok(()),
         }
     }
 
-    /// Enters a variable of the function that is read, at an offset from the function's base.
+    /// Enters a variable of the function that is read, at an offset from a base, or from the
+    /// function's.
     fn enter_local<'a>(
         &mut self,
         scope: &UnitScope<'_, '_, 'a>,
         entry: &VariableEntry<'a>,
+        base: Option<FrameBase>,
         offset: u64,
     ) -> Result<(), AllocError> {
         let Some(function) = self.open.last().and_then(|open| open.place) else {
+            return Ok(());
+        };
+        let own = self.functions.get(function).map(|function| function.base);
+        let Some(base) = base.or(own) else {
             return Ok(());
         };
         let entry = scope.whole(entry, &mut self.budget);
@@ -292,6 +320,7 @@ impl VariableSearch {
             Some(size) if size > 0 && self.variables.len() < MOST => {
                 self.variables.push(FrameVariable {
                     function,
+                    base,
                     offset,
                     size,
                     name: scope.name(&entry),
@@ -346,7 +375,9 @@ impl<'t, 's, 'a> UnitScope<'t, 's, 'a> {
     fn place_of(&self, expression: &'a [u8]) -> Option<VariablePlace> {
         let mut operations = Reader { rest: expression };
         let place = match operations.byte()? {
-            AT_FRAME => VariablePlace::Frame(operations.signed()?),
+            AT_FRAME => VariablePlace::Frame(None, operations.signed()?),
+            BASE_29 => VariablePlace::Frame(Some(FrameBase::FramePointer), operations.signed()?),
+            BASE_31 => VariablePlace::Frame(Some(FrameBase::StackPointer), operations.signed()?),
             AT_ADDRESS => VariablePlace::Image(operations.double_word()?),
             AT_NUMBERED_ADDRESS => {
                 let number = FieldValue::AddressAt(number(&mut operations)?);
@@ -398,20 +429,23 @@ impl<'t, 's, 'a> UnitScope<'t, 's, 'a> {
         VariableEntry::read(&abbreviation, &mut entries, budget)
     }
 
+    /// The text that a value is.
+    fn text(&self, value: &FieldValue<'a>) -> Option<&'a [u8]> {
+        let sections = self.sections;
+        match value {
+            FieldValue::Text(text) => Some(*text),
+            FieldValue::InfoText(at) => sections.text(*at),
+            FieldValue::LineText(at) => sections.line_text(*at),
+            FieldValue::TextAt(number) => {
+                sections.numbered_text(self.first.text_offsets.offset()?, *number)
+            }
+            _ => None,
+        }
+    }
+
     /// The name of an entry.
     fn name(&self, entry: &VariableEntry<'a>) -> VariableName {
-        let sections = self.sections;
-        let name = match entry.name {
-            FieldValue::Text(text) => Some(text),
-            FieldValue::InfoText(at) => sections.text(at),
-            FieldValue::LineText(at) => sections.line_text(at),
-            FieldValue::TextAt(number) => match self.first.text_offsets.offset() {
-                Some(base) => sections.numbered_text(base, number),
-                None => None,
-            },
-            _ => None,
-        };
-        match name {
+        match self.text(&entry.name) {
             Some(name) => VariableName::of(name),
             None => VariableName::NONE,
         }
@@ -430,8 +464,8 @@ impl<'t, 's, 'a> UnitScope<'t, 's, 'a> {
 /// Where a variable is.
 #[derive(Clone, Copy)]
 enum VariablePlace {
-    /// At an offset from the base of its function, modulo 2^64.
-    Frame(u64),
+    /// At an offset from a base, or from that of its function, modulo 2^64.
+    Frame(Option<FrameBase>, u64),
     /// At an address of the image.
     Image(u64),
 }
@@ -444,4 +478,9 @@ fn base_of(expression: &[u8]) -> Option<FrameBase> {
         [REGISTER_31] => Some(FrameBase::StackPointer),
         _ => None,
     }
+}
+
+/// Whether the words of a producer have a level of optimization other than 0, as gcc writes it.
+fn has_level(producer: &[u8]) -> bool {
+    producer.windows(4).any(|word| word.starts_with(b" -O") && word.last() != Some(&b'0'))
 }

@@ -3,8 +3,8 @@
 use debug_lines::Reader;
 use elf_symbols::Sections;
 
-/// The most bytes of a name that is looked at, with the 0 behind it.
-const LONGEST: usize = 80;
+/// The most bytes of a text that is looked at, with the 0 behind it.
+const LONGEST: usize = 1_024;
 
 /// The sections of a file. One that is not there, is not in the file or is compressed is
 /// empty.
