@@ -271,6 +271,19 @@ def test_each_call_is_made() -> None:
     assert commands <= known | {"texts", "size"}
 
 
+def test_what_is_measured(shared: pathlib.Path) -> None:
+    """speed.c makes its calls, and thousands of sessions, tenants and heap traces take no more
+    memory than hundreds."""
+    it = in_c(shared, "gcc-c11", EMBED / "speed.c")
+    ran = started(it, "2000")
+    assert (ran.status, ran.errors) == (0, "")
+    lines = [re.sub(r"-?[0-9]+[.][0-9]+", "F", it) for it in ran.output.splitlines()]
+    assert lines[:3] == ["a tenant of 136 steps and 24 pages: F us, without its steps F us",
+                         "a traced access: F ns over the run", "heap calls: F million a second"]
+    grown = re.fullmatch(r"2000 sessions, tenants and heap traces: ([0-9]+) KiB more", lines[3])
+    assert grown and int(grown[1]) < 2000 and len(lines) == 4
+
+
 @pytest.mark.parametrize("language, file", [("rust", "calls.rs"), ("python", "calls.py")])
 def test_each_call_is_made_from(language: str, file: str) -> None:
     """Of Rust and Python each call of the library has a line."""

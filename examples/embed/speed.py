@@ -13,7 +13,7 @@ from collections.abc import Callable
 from ctypes import byref, c_uint64
 
 from tombolopan import EXEC, FREE, MALLOC, READ, WRITE, Answer, Heap, Memory, Regs
-from tombolopan import abi, hook_code, hook_mem, replays
+from tombolopan import abi, hook_code, hook_mem, replays, run
 
 CODE, DATA, STEPS = 0x10000, 0x20000, 1_000_000
 # str x2, [x0]; ldr x3, [x0]; ldr x4, [x0, #8]; str x5, [x0, #8]; b to the first
@@ -50,9 +50,21 @@ def tell(what: str, count: int, call: Callable[[], object]) -> None:
     print(f"{what}: {count / (time.process_time() - begin) / 1e6:.2f} million a second")
 
 
+def of_run(pages: int) -> float:
+    """The least processor time of some runs of the loop."""
+    times = []
+    for _ in range(9):
+        memory, regs = machine(pages)
+        begin = time.process_time()
+        run(memory, regs, STEPS)
+        times.append(time.process_time() - begin)
+    return min(times)
+
+
 def main() -> None:
     """Measures each once."""
     pages = int(sys.argv[1]) if len(sys.argv) > 1 else 2
+    print(f"a run over {pages} pages: {of_run(pages) / of_run(4):.2f} times that over 4")
     tell("accesses, iterated", int(STEPS * 0.8),
          lambda: sum(1 for _ in hook_mem(*machine(pages), STEPS)))
     tell("instructions, iterated", STEPS, lambda: sum(1 for _ in hook_code(*machine(pages), STEPS)))
