@@ -53,8 +53,43 @@ UNDEFINED = {
     9: ("an argument of the service", CHUNK), 10: ("whether it branches", CHUNK),
     11: ("whether it branches", STACK), 12: ("whether it branches", CHUNK),
     13: ("whether it branches", CHUNK), 14: ("whether it branches", CHUNK),
+    15: ("whether it branches", CHUNK), 16: ("whether it branches", CHUNK),
+    17: ("whether it branches", CHUNK),
 }
-UNDEFINED_IDIOMS = range(1, 16)
+UNDEFINED_IDIOMS = range(1, 17)
+OVER, UNDER = "Buffer Overflow, {} right of the {}", "Buffer Underflow, {} left of the {}"
+RETURNED = "Use After Return of the {1}"
+NO_CALL = "which no heap call returned: it is one to the {1}"
+# What is wrong, how far from the variable, its bytes and its name, by the numbers in the source.
+PLACES = {
+    1: (OVER, "0 bytes", "16-byte variable `buffer`"),
+    2: (OVER, "0 bytes", "16-byte variable `numbers`"),
+    4: (OVER, "0 bytes", "16-byte variable `buffer`"),
+    5: (OVER, "0 bytes", "16-byte variable `buffer`"),
+    6: (OVER, "0 bytes", "24-byte variable `numbers`"),
+    8: (OVER, "0 bytes", "16-byte variable `text_of_image`"),
+    9: (OVER, "0 bytes", "16-byte variable `text_of_image`"),
+    10: (OVER, "0 bytes", "32-byte variable"), 11: (RETURNED, "", "16-byte variable `local`"),
+    12: (RETURNED, "", "16-byte variable `local`"),
+    13: (OVER, "0 bytes", "16-byte variable `record`"),
+    14: (OVER, "0 bytes", "32-byte variable `buffer`"),
+    15: (NO_CALL, "", "4-byte variable `number`"),
+    16: (NO_CALL, "", "16-byte variable `numbers_of_image`"),
+    17: (NO_CALL, "", "48-byte variable `buffer`"), 18: (OVER, "0 bytes", "48-byte variable"),
+    20: (OVER, "0 bytes", "16-byte variable `text_of_image`"),
+}
+# What only a build that is not optimized shows.
+PLAIN_PLACES = {
+    3: (UNDER, "1 byte", "40-byte variable `buffer`"),
+    7: (OVER, "0 bytes", "16-byte variable `more_of_image`"),
+    19: (OVER, "0 bytes", "8-byte variable `number`"),
+}
+PLACE_IDIOMS = range(1, 25)
+ARITHMETIC = {
+    1: "0x64 of 32 bits, divided by 0", 2: "0x1 of 64 bits, divided by 0",
+    3: "0x1 of 32 bits, shifted by 40", 4: "0x1 of 64 bits, shifted by 64",
+    5: "0x28 of 32 bits, shifted by 4294967295",
+}
 
 
 def image(shared: pathlib.Path, build: str, source: str, *defined: str) -> pathlib.Path:
@@ -73,12 +108,13 @@ def image(shared: pathlib.Path, build: str, source: str, *defined: str) -> pathl
 
 
 def check(
-    alone: pathlib.Path, path: pathlib.Path, *words: str, given: bytes = b"y" * 100
+    alone: pathlib.Path, path: pathlib.Path, *words: str, given: bytes = b"y" * 100,
+    kinds: str = "",
 ) -> Ran:
     """What `mte_run --check` says of a tenant that may read some bytes."""
     text = path.parent / "input"
     text.write_bytes(given)
-    return run([alone, "--check", "--input", text, *words, path])
+    return run([alone, f"--check={kinds}" if kinds else "--check", "--input", text, *words, path])
 
 
 @pytest.mark.parametrize("build", sorted(BUILDS))
@@ -96,6 +132,13 @@ def test_a_product_that_wraps(alone: pathlib.Path, tmp_path: pathlib.Path, build
     """The first write past its 4 bytes is told; compilers write several at once."""
     told = check(alone, image(tmp_path, build, "pointer_bugs.c", "BUG=5")).errors
     assert re.search(r"Cause: \[check\]: Buffer Overflow, \d+ bytes right of a 4-byte", told)
+
+
+def test_chunks_are_given_up(alone: pathlib.Path, tmp_path: pathlib.Path) -> None:
+    """More chunks are made and freed than are kept: one that is pointed to is known still."""
+    told = check(alone, image(tmp_path, "clang-O0", "pointer_bugs.c", "BUG=33"))
+    wanted = "is no longer of the pointer's chunk, which was freed"
+    assert told.status == 137 and wanted in told.errors, told.errors
 
 
 @pytest.mark.parametrize("build", sorted(BUILDS))
@@ -165,6 +208,52 @@ def test_undefined_values_that_nothing_depends_on(
     for idiom in UNDEFINED_IDIOMS:
         told = check(alone, image(tmp_path, build, "undefined_idioms.c", f"IDIOM={idiom}"))
         assert told.status == 0 and "check:" not in told.errors, (idiom, told.errors)
+
+
+@pytest.mark.parametrize("build", sorted(BUILDS))
+def test_variables(alone: pathlib.Path, tmp_path: pathlib.Path, build: str) -> None:
+    """Accesses beyond variables and after their functions, and frees of them, by their names."""
+    bugs = PLACES if build.endswith("-O2") else {**PLACES, **PLAIN_PLACES}
+    for bug, (cause, distance, variable) in bugs.items():
+        path = image(tmp_path, build, "place_bugs.c", f"BUG={bug}")
+        told = check(alone, path, kinds="places")
+        assert told.status == 137 and cause.format(distance, variable) in told.errors, (
+            bug, told.errors)
+        is_of_image = bug in (7, 8, 9, 10, 16, 18, 20)
+        assert is_of_image or "  a variable of " in told.errors, (bug, told.errors)
+        assert is_of_image or "declared at place_bugs.c:" in told.errors, (bug, told.errors)
+
+
+@pytest.mark.parametrize("build", sorted(BUILDS))
+def test_variables_that_are_not_told(
+    alone: pathlib.Path, tmp_path: pathlib.Path, build: str
+) -> None:
+    """What correct programs do with pointers to variables is not told; with no DWARF neither, and
+    without symbols no variable is."""
+    for idiom in PLACE_IDIOMS:
+        told = check(alone, image(tmp_path, build, "place_idioms.c", f"IDIOM={idiom}"),
+                     kinds="places")
+        assert told.status == 0 and "check:" not in told.errors, (idiom, told.errors)
+    if not build.startswith("clang"):
+        return
+    for bug, words in ((1, ["--strip-debug"]), (8, ["--strip-all"])):
+        stripped = tmp_path / "stripped.elf"
+        path = image(tmp_path, build, "place_bugs.c", f"BUG={bug}")
+        succeed(["llvm-objcopy", *words, path, stripped])
+        assert "variable" not in check(alone, stripped, kinds="places").errors
+
+
+@pytest.mark.parametrize("build", sorted(BUILDS))
+def test_arithmetic(alone: pathlib.Path, tmp_path: pathlib.Path, build: str) -> None:
+    """Divisions by 0 and shifts past the width, with their operands, only where asked."""
+    for bug, operands in ARITHMETIC.items():
+        path = image(tmp_path, build, "arithmetic_bugs.c", f"BUG={bug}")
+        told = check(alone, path, kinds="arithmetic")
+        assert told.status == 137 and f"Undefined Arithmetic: {operands}\n" in told.errors, (
+            bug, told.errors)
+        assert "Cause" not in check(alone, path).errors, bug
+    clean = image(tmp_path, build, "arithmetic_bugs.c", "BUG=6")
+    assert "Cause" not in check(alone, clean, kinds="arithmetic").errors
 
 
 def test_kinds(alone: pathlib.Path, tmp_path: pathlib.Path) -> None:

@@ -4,7 +4,7 @@
     checking.py [--write | --check]
 
 Each bug is compiled by clang at -O0 as a tenant, which mte_run runs with tags alone, with --exact
-and with --check; and for this machine, where it runs under AddressSanitizer and Valgrind's
+and with --check=all,places; and for this machine, where it runs under AddressSanitizer and Valgrind's
 memcheck.
 Without an option the table is printed; --write puts it into the page; --check compares the columns
 of mte_run with the page's, and those of the other tools that are here.
@@ -61,7 +61,7 @@ class Row(NamedTuple):
 
 def bugs() -> Iterator[Bug]:
     """The bugs that a checker of memory may find, in the order of their sources."""
-    for source in ("pointer_bugs.c", "undefined_bugs.c"):
+    for source in ("pointer_bugs.c", "undefined_bugs.c", "place_bugs.c"):
         text = (SOURCES / source).read_text(encoding="utf-8")
         for number, title in re.findall(r"^#(?:el)?if BUG == (\d+) /\* (.*) \*/$", text, re.M):
             yield Bug(source, (f"-DBUG={number}",), b"y" * 100, title)
@@ -93,7 +93,7 @@ def as_tenant(bug: Bug, folder: pathlib.Path) -> list[str]:
     compile_to(image, TENANT, bug, "start.c")
     text.write_bytes(bug.given)
     found = []
-    for options in ((), ("--exact",), ("--check",)):
+    for options in ((), ("--exact",), ("--check=all,places",)):
         status, errors = run([str(RUN), *options, "--input", str(text), str(image)])
         is_found = 129 <= status <= 137 or (bug.is_leak and "lost at the end" in errors)
         found.append(FOUND if is_found else MISSED)

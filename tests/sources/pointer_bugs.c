@@ -170,6 +170,14 @@ static void bug(void)
 #elif BUG == 31 /* 4 bytes that begin in a chunk and end past it, written */
     char *p = make(22);
     *(volatile uint32_t *)(p + 20 * one) = 1;
+#elif BUG == 33 /* a read by a stale pointer, after 70,000 others of its block */
+    char *p = make(24);
+    cell = p;
+    tenant_free(p);
+    for (int i = 0; i < 70000; i++)
+        tenant_free(tenant_malloc(24));
+    p = make(24);
+    sink = ((volatile char *)cell)[3 * one];
 #elif BUG == 32 /* lost: a chunk, and what it alone leads to */
     struct node *node = tenant_malloc(sizeof *node);
     node->next = tenant_malloc(sizeof *node);

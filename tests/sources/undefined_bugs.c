@@ -29,6 +29,18 @@ __attribute__((noinline)) static void fill_stack(void)
         words[i] = i;
 }
 
+/* A branch by the comparison of a byte that was not given with a number. */
+#ifdef __aarch64__
+#define BRANCH(condition, operator, number) \
+    __asm__ volatile("cmp %0, %1\n\tb." condition " 1f\n\tnop\n1:" \
+                     : : "r"((uint64_t)*(volatile unsigned char *)tenant_malloc(24)), \
+                       "i"(number) : "cc")
+#else
+#define BRANCH(condition, operator, number) \
+    if (*(volatile unsigned char *)tenant_malloc(24) operator number) \
+        sink = 1
+#endif
+
 static int bug(void)
 {
 #if BUG == 1 /* a branch by a word of a chunk */
@@ -94,6 +106,12 @@ static int bug(void)
     volatile unsigned *p = tenant_malloc(24);
     if (p[one] / 7 == 3)
         sink = 1;
+#elif BUG == 15 /* equal, by no bit that was given */
+    BRANCH("eq", ==, 0xff);
+#elif BUG == 16 /* at least, where the number may be less */
+    BRANCH("cs", >=, 0xff);
+#elif BUG == 17 /* more than 0, where the number may be 0 */
+    BRANCH("hi", >, 0);
 #endif
     return 0;
 }

@@ -51,6 +51,11 @@ __attribute__((noinline)) static int use_buffer(int size)
     return sum;
 }
 
+/* A branch by the comparison of a byte of a chunk with a number. */
+#define BRANCH(condition, number) \
+    __asm__ volatile("cmp %0, %1\n\tb." condition " 1f\n\tnop\n1:" \
+                     : : "r"((uint64_t)p[0]), "i"(number) : "cc")
+
 static int idiom(void)
 {
 #if IDIOM == 1 /* structures with padding are copied and sorted */
@@ -150,6 +155,17 @@ static int idiom(void)
     p[0] = (unsigned __int128)one << 100;
     p[1] = p[0] + ((unsigned __int128)3 << 90);
     return p[1] > p[0];
+#elif IDIOM == 16 /* comparisons of a byte with numbers that decide them, whatever the byte is */
+    volatile unsigned char *p = tenant_malloc(24);
+    BRANCH("eq", 0x100);
+    BRANCH("cs", 0x100);
+    BRANCH("cs", 0);
+    BRANCH("hi", 0xff);
+    BRANCH("ge", 0);
+    BRANCH("mi", 0);
+    BRANCH("gt", 0xff);
+    BRANCH("al", 1);
+    return p != 0;
 #endif
 }
 

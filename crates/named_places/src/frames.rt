@@ -60,6 +60,11 @@ impl FrameStack {
         Ok(())
     }
 
+    /// Enters that nothing is known of the functions that run.
+    pub(crate) fn clear(&mut self) {
+        self.frames.clear();
+    }
+
     /// Enters a place as the newest of the last frame.
     pub(crate) fn set_first(&mut self, index: usize) {
         if let Some(frame) = self.frames.last_mut() {

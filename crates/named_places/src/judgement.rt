@@ -65,31 +65,33 @@ impl NamedPlaces {
         self.judge_bytes(place, access.bytes.next(), strictness)
     }
 
-    /// How an access is judged: each one of a function that was not optimized; of another those by
-    /// an index and by a pointer that was moved.
+    /// How an access is judged: each one of a function that was not optimized, but for those from a
+    /// pointer to its frame by a constant, which is one for several variables; of another function
+    /// those by an index, by a pointer that was moved, and by one that was passed to it.
     fn strictness(&self, step: &Step<'_>, parts: AddressParts, index: usize) -> Strictness {
         let AddressParts { base, form } = parts;
         let is_exact = self.is_exact_at(step.before.pc);
         let (is_moved, is_fresh) = (self.marks.is_moved(base), self.marks.is_fresh(base));
-        let is_own = self.is_own(index);
+        let is_own = self.is_own(index, is_fresh);
         let is_above = match form {
             AddressForm::Indexed | AddressForm::Behind => true,
             AddressForm::Plain => is_moved,
             AddressForm::Front => is_moved || !is_own,
-            AddressForm::Constant => false,
+            AddressForm::Constant => !is_own && self.marks.is_passed(base),
         };
+        let is_shared = form == AddressForm::Constant && self.is_of_top(index);
         Strictness {
-            is_above: is_exact || is_above,
+            is_above: (is_exact && !is_shared) || is_above,
             is_below: is_exact && self.is_below(index, form == AddressForm::Indexed && is_fresh),
             is_lenient: !is_exact && is_own,
         }
     }
 
-    /// Whether a place is of the function that runs, or of the image, so that a pointer to another
-    /// may be made of one to it.
-    fn is_own(&self, index: usize) -> bool {
+    /// Whether a pointer to a place was made by the function that runs, so that compilers may have
+    /// made one to another place of it.
+    fn is_own(&self, index: usize, is_fresh: bool) -> bool {
         match self.table.get(index) {
-            Some(place) if place.text.kind == PlaceKind::Object => true,
+            Some(place) if place.text.kind == PlaceKind::Object => is_fresh,
             _ => self.is_of_top(index),
         }
     }
@@ -217,10 +219,8 @@ impl NamedPlaces {
         let Some(function) = function else {
             return false;
         };
-        let offset = addr.wrapping_sub(place.base);
-        match self.variables.variable_at(&function, offset) {
-            Some(variable) => last.wrapping_sub(place.base).wrapping_sub(variable.offset)
-                < variable.size,
+        match self.variables.variable_at(&function, &place.bases, addr) {
+            Some(placed) => last < placed.end,
             None => false,
         }
     }

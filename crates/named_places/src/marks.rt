@@ -7,11 +7,17 @@ pub(crate) struct RegisterMarks {
     moved: u32,
     /// Those that were made since the last call or return, and of registers alone.
     fresh: u32,
+    /// Those that are as they were at the last call.
+    passed: u32,
 }
 
 impl RegisterMarks {
     /// No marks.
-    pub(crate) const NONE: RegisterMarks = RegisterMarks { moved: 0, fresh: 0 };
+    pub(crate) const NONE: RegisterMarks = RegisterMarks {
+        moved: 0,
+        fresh: 0,
+        passed: 0,
+    };
 
     /// Whether a register was moved by more than constants.
     pub(crate) fn is_moved(&self, n: u8) -> bool {
@@ -23,27 +29,39 @@ impl RegisterMarks {
         self.fresh & bit(n) != 0
     }
 
+    /// Whether a register is as it was at the last call, or a copy of such a one.
+    pub(crate) fn is_passed(&self, n: u8) -> bool {
+        self.passed & bit(n) != 0
+    }
+
     /// Enters that a register was made of SP or the counter by constants.
     pub(crate) fn make(&mut self, n: u8) {
         self.moved &= !bit(n);
         self.fresh |= bit(n);
+        self.passed &= !bit(n);
     }
 
     /// Enters that a register was loaded.
     pub(crate) fn load(&mut self, n: u8) {
         self.moved &= !bit(n);
         self.fresh &= !bit(n);
+        self.passed &= !bit(n);
     }
 
     /// Enters that a register was moved by more than constants.
     pub(crate) fn moves(&mut self, n: u8) {
         self.moved |= bit(n);
+        self.passed &= !bit(n);
     }
 
     /// Enters that a register is made of another.
     pub(crate) fn copy(&mut self, n: u8, from: u8) {
         let (moved, fresh) = (self.is_moved(from), self.is_fresh(from));
+        let passed = self.is_passed(from);
         self.load(n);
+        if passed {
+            self.passed |= bit(n);
+        }
         if moved {
             self.moved |= bit(n);
         }
@@ -52,9 +70,16 @@ impl RegisterMarks {
         }
     }
 
-    /// Enters a call or a return.
-    pub(crate) fn cross(&mut self) {
+    /// Enters a call: what is in registers is passed.
+    pub(crate) fn call(&mut self) {
         self.fresh = 0;
+        self.passed = u32::MAX;
+    }
+
+    /// Enters a return.
+    pub(crate) fn return_back(&mut self) {
+        self.fresh = 0;
+        self.passed = 0;
     }
 }
 

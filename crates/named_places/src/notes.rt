@@ -13,6 +13,9 @@ use std::alloc::AllocError;
 /// The frame pointer.
 const FRAME_POINTER: u8 = 29;
 
+/// SP, where it is the register of an address.
+const STACK_POINTER: u8 = 31;
+
 /// A constant that is added to a register, or subtracted from it.
 #[derive(Clone, Copy)]
 struct AddedConstant {
@@ -31,6 +34,7 @@ impl NamedPlaces {
         match *step.instr {
             Instr::Branch { op: 1, .. } | Instr::BranchReg { opc: 1, .. } => self.note_call(step)?,
             Instr::BranchReg { opc: 2, .. } => self.note_return(step),
+            Instr::AddSubImm { s: 1, rd: 31, .. } => {}
             Instr::AddSubImm {
                 sf: 1,
                 sh,
@@ -54,7 +58,7 @@ impl NamedPlaces {
     /// Notes a call.
     fn note_call(&mut self, step: &Step<'_>) -> Result<(), AllocError> {
         let after = step.after;
-        self.marks.cross();
+        self.marks.call();
         self.frames
             .call(plain(after.x[30]), plain(after.sp), plain(after.pc))
     }
@@ -62,7 +66,7 @@ impl NamedPlaces {
     /// Notes a return.
     fn note_return(&mut self, step: &Step<'_>) {
         let after = step.after;
-        self.marks.cross();
+        self.marks.return_back();
         self.frames
             .return_to(plain(after.pc), plain(after.sp), &mut self.table);
     }
@@ -86,6 +90,10 @@ impl NamedPlaces {
         added: AddedConstant,
     ) -> Result<(), AllocError> {
         let AddedConstant { rn, rd, is_high } = added;
+        if rd == STACK_POINTER {
+            self.note_stack(shadow, rn);
+            return Ok(());
+        }
         let origin = shadow.register(rd).pointer();
         let addr = plain(value_in(step, rd));
         if origin == PointerOrigin::STACK {
@@ -110,6 +118,22 @@ impl NamedPlaces {
             }
         }
         Ok(())
+    }
+
+    /// Notes that SP was made of a register by a constant, or of itself, where it may have been left
+    /// for another stack: not where the register was made of SP by the function that runs. Of the
+    /// frames there nothing is known.
+    fn note_stack(&mut self, shadow: &Shadow, rn: u8) {
+        if rn == STACK_POINTER || rn == FRAME_POINTER || self.marks.is_fresh(rn) {
+            return;
+        }
+        let is_own = match shadow.register(rn).pointer().place() {
+            Some(index) => self.is_of_top(index),
+            None => false,
+        };
+        if !is_own {
+            self.frames.clear();
+        }
     }
 
     /// Notes that a constant led from a pointer to a place into a register. Compilers that optimize

@@ -1,6 +1,6 @@
 //! A place that has a name: a variable, or the frame of a function.
 
-use debug_variables::{Declaration, VariableName};
+use debug_variables::{Declaration, FrameBases, VariableName};
 use std::fmt;
 
 /// What a place is.
@@ -55,6 +55,13 @@ impl fmt::Display for PlaceText {
     }
 }
 
+/// The bases of no function.
+pub(crate) const NO_BASES: FrameBases = FrameBases {
+    caller: 0,
+    frame_pointer: 0,
+    stack_pointer: 0,
+};
+
 /// A place, and what is known of the pointers to it.
 #[derive(Clone, Copy)]
 pub(crate) struct NamedPlace {
@@ -68,7 +75,7 @@ pub(crate) struct NamedPlace {
     /// Whether a pointer to it may be meant for all that is behind it.
     pub(crate) is_marked: bool,
     /// What the variables of its function are counted from.
-    pub(crate) base: u64,
+    pub(crate) bases: FrameBases,
     /// The bytes of the place that ends where it begins; 0 where none does.
     pub(crate) before: u64,
     /// The next place of its frame.

@@ -1,11 +1,11 @@
 //! Which variable an address is of that constants were added to.
 
 use crate::frames::{CalledFrame, has_room};
-use crate::place::{NamedPlace, PlaceKind, PlaceText};
+use crate::place::{NO_BASES, NamedPlace, PlaceKind, PlaceText};
 use crate::places::NamedPlaces;
 use crate::table::PlaceTable;
 use a64_bits::plain;
-use debug_variables::{FrameBase, FrameFunction, FrameVariable, VariableName};
+use debug_variables::{FrameBases, FrameFunction, PlacedVariable, VariableName};
 use pointer_provenance::Shadow;
 use shadow_memory::{PointerOrigin, Step};
 use std::alloc::AllocError;
@@ -14,11 +14,11 @@ use std::alloc::AllocError;
 /// that are counted from 1.
 const ELEMENT: u64 = 8;
 
-/// A function that runs, and the value of its base.
+/// A function that runs, and the values of its bases.
 #[derive(Clone, Copy)]
 struct RunningFunction {
     function: FrameFunction,
-    base: u64,
+    bases: FrameBases,
 }
 
 impl NamedPlaces {
@@ -122,7 +122,7 @@ impl NamedPlaces {
             is_exact: false,
             is_unsure: false,
             is_marked: false,
-            base: 0,
+            bases: NO_BASES,
             before: 0,
             next: frame.first,
         }
@@ -136,49 +136,48 @@ impl NamedPlaces {
         addr: u64,
     ) -> Option<NamedPlace> {
         let running = self.running(step, frame)?;
-        let offset = addr.wrapping_sub(running.base);
-        let variable = self.variables.variable_at(&running.function, offset)?;
-        let start = running.base.wrapping_add(variable.offset);
-        let end = start.checked_add(variable.size)?;
-        if start < plain(step.after.sp) || end > frame.sp {
+        let RunningFunction { function, bases } = &running;
+        let placed = self.variables.variable_at(function, bases, addr)?;
+        if placed.start < plain(step.after.sp) || placed.end > frame.sp {
             return None;
         }
         Some(NamedPlace {
-            text: text_of(variable, start, running.function.low),
+            text: text_of(&placed, function.low),
             is_live: true,
-            is_exact: !running.function.is_optimized,
-            is_unsure: self.is_before_other(&running, offset, end.wrapping_sub(addr)),
+            is_exact: !function.is_optimized,
+            is_unsure: self.is_before_other(&running, &placed, addr),
             is_marked: false,
-            base: running.base,
-            before: self
-                .variables
-                .size_before(&running.function, variable.offset),
+            bases: *bases,
+            before: self.variables.size_before(function, bases, placed.start),
             next: frame.first,
         })
     }
 
     /// Whether another variable begins where one ends, of which a pointer is so near that it may be
     /// one in front of the other's first element.
-    fn is_before_other(&self, running: &RunningFunction, offset: u64, left: u64) -> bool {
-        let end = offset.wrapping_add(left);
-        left <= ELEMENT && self.variables.variable_at(&running.function, end).is_some()
+    fn is_before_other(
+        &self,
+        running: &RunningFunction,
+        placed: &PlacedVariable,
+        addr: u64,
+    ) -> bool {
+        let RunningFunction { function, bases } = running;
+        let next = self.variables.variable_at(function, bases, placed.end);
+        placed.end.saturating_sub(addr) <= ELEMENT && next.is_some()
     }
 
-    /// The function that runs, where it is the one that the frame is of and its base is known.
+    /// The function that runs, where it is the one that the frame is of.
     fn running(&self, step: &Step<'_>, frame: &CalledFrame) -> Option<RunningFunction> {
         let function = self.function_at(step.before.pc)?;
         if frame.entry < function.low || frame.entry >= function.high {
             return None;
         }
-        let base = match function.base {
-            FrameBase::Caller => frame.sp,
-            FrameBase::FramePointer => plain(step.before.x[29]),
-            FrameBase::StackPointer => plain(step.before.sp),
+        let bases = FrameBases {
+            caller: frame.sp,
+            frame_pointer: plain(step.before.x[29]),
+            stack_pointer: plain(step.before.sp),
         };
-        if base < plain(step.after.sp) || base > frame.sp {
-            return None;
-        }
-        Some(RunningFunction { function, base })
+        Some(RunningFunction { function, bases })
     }
 
     /// Where a pointer points that was made of an address of the image by constants.
@@ -198,14 +197,14 @@ impl NamedPlaces {
     }
 }
 
-/// What the variable of a function is called, by where it begins.
-fn text_of(variable: &FrameVariable, start: u64, function: u64) -> PlaceText {
+/// What a variable of the function that begins at an address is called.
+fn text_of(placed: &PlacedVariable, function: u64) -> PlaceText {
     PlaceText {
         kind: PlaceKind::Variable,
-        start,
-        end: start.saturating_add(variable.size),
-        name: variable.name,
-        declaration: variable.declaration,
+        start: placed.start,
+        end: placed.end,
+        name: placed.variable.name,
+        declaration: placed.variable.declaration,
         function: Some(function),
     }
 }

@@ -1,6 +1,6 @@
 //! The places that pointers point to.
 
-use crate::place::{NamedPlace, PlaceKind, PlaceText};
+use crate::place::{NO_BASES, NamedPlace, PlaceKind, PlaceText};
 use debug_variables::{FrameVariables, ImageObjects, VariableName};
 use pointer_provenance::{Pointed, Shadow};
 use std::alloc::{AllocError, Global};
@@ -141,7 +141,7 @@ fn fixed_place(text: PlaceText) -> NamedPlace {
         is_exact: false,
         is_unsure: false,
         is_marked: false,
-        base: 0,
+        bases: NO_BASES,
         before: 0,
         next: None,
     }

@@ -1,0 +1,461 @@
+/* What correct programs do with pointers to variables, for a checker that must not object: IDIOM
+   says which. */
+#include <stdarg.h>
+#include "tenant.h"
+
+static volatile int one = 1;
+static volatile int sink;
+static void *volatile cell;
+
+__attribute__((noinline)) static void fill(char *to, int count)
+{
+    for (int i = 0; i < count; i++)
+        to[i] = (char)i;
+}
+
+__attribute__((noinline)) static void set_all(int *all, int count)
+{
+    for (int i = 0; i < count; i++)
+        all[i] = i;
+}
+
+__attribute__((noinline)) static int sum_between(const int *from, const int *to)
+{
+    int sum = 0;
+    while (from != to)
+        sum += *from++;
+    return sum;
+}
+
+__attribute__((noinline)) static int sum_back(const int *from, const int *to)
+{
+    int sum = 0;
+    while (to != from)
+        sum += *--to;
+    return sum;
+}
+
+#if IDIOM == 1 /* The fields of a structure, one after the other, as bytes. */
+struct mixed {
+    char first;
+    long second;
+    short third[3];
+};
+static int idiom(void)
+{
+    struct mixed mixed;
+    memset(&mixed, 0, sizeof mixed);
+    mixed.third[2] = 7;
+    char *bytes = (char *)&mixed;
+    int sum = 0;
+    for (size_t i = 0; i < sizeof mixed; i++)
+        sum += bytes[i];
+    return sum;
+}
+#elif IDIOM == 2 /* An array of arrays as one. */
+static int idiom(void)
+{
+    int rows[4][5];
+    set_all(&rows[0][0], 20);
+    static int others[3][4];
+    set_all(others[0], 12);
+    return rows[3][4] + others[2][3 * one];
+}
+#elif IDIOM == 3 /* The end of an array, which is the start of the next. */
+static int of_image[4] = {1, 2, 3, 4}, next_of_image[4] = {5, 6, 7, 8};
+static int idiom(void)
+{
+    int first[4], second[4];
+    set_all(first, 4);
+    set_all(second, 4);
+    int sum = sum_between(first, first + 4) + sum_back(second, second + 4);
+    sum += sum_back(of_image, of_image + 4) + sum_between(next_of_image, next_of_image + 4);
+    return sum + sum_back(of_image + 1, of_image + 4 * one);
+}
+#elif IDIOM == 4 /* Memory of the stack whose size is not known before. */
+static int idiom(void)
+{
+    int sum = 0;
+    for (int count = 1; count < 40; count++) {
+        char *all = __builtin_alloca((size_t)count);
+        char some[count];
+        fill(all, count);
+        fill(some, count);
+        sum += all[count - 1] + some[count - one];
+    }
+    return sum;
+}
+#elif IDIOM == 5 /* Arguments of which their number says how many there are. */
+__attribute__((noinline)) static long sum_all(int count, ...)
+{
+    va_list list, again;
+    long sum = 0;
+    va_start(list, count);
+    va_copy(again, list);
+    for (int i = 0; i < count; i++)
+        sum += va_arg(list, long);
+    while (count-- > 0)
+        sum -= va_arg(again, long);
+    va_end(list);
+    va_end(again);
+    return sum;
+}
+static int idiom(void)
+{
+    return (int)sum_all(12, 1l, 2l, 3l, 4l, 5l, 6l, 7l, 8l, 9l, 10l, 11l, 12l * one);
+}
+#elif IDIOM == 6 /* One member of a union by another. */
+union either {
+    char bytes[24];
+    long words[3];
+    int halves[6];
+};
+static int idiom(void)
+{
+    union either either;
+    fill(either.bytes, 24);
+    set_all(either.halves, 6);
+    return (int)either.words[2 * one] + either.bytes[23];
+}
+#elif IDIOM == 7 /* From a member back to its structure. */
+struct link {
+    struct link *next;
+};
+struct item {
+    long value;
+    struct link link;
+    char name[5];
+};
+__attribute__((noinline)) static int item_value(struct link *link)
+{
+    struct item *item = (struct item *)((char *)link - offsetof(struct item, link));
+    return (int)item->value + item->name[4];
+}
+static struct item of_image;
+static int idiom(void)
+{
+    struct item item = {one, {0}, "four"};
+    return item_value(&item.link) + item_value(&of_image.link);
+}
+#elif IDIOM == 8 /* What a linker puts behind one another, from a symbol without a size on. */
+static const int __attribute__((section("numbers"), used)) n1 = 1, n2 = 2, n3 = 3;
+extern const int __start_numbers[], __stop_numbers[];
+static int idiom(void)
+{
+    return sum_between(__start_numbers, __stop_numbers) + sum_back(__start_numbers, __stop_numbers);
+}
+#elif IDIOM == 9 /* Texts that are one's end, and constants that are the same. */
+static int length_of(const char *text)
+{
+    int length = 0;
+    while (text[length * one])
+        length++;
+    return length;
+}
+static int idiom(void)
+{
+    const char *all[] = {"a text", "text", "", "another text", "text"};
+    int sum = 0;
+    for (int i = 0; i < 5; i++)
+        sum += length_of(all[i]);
+    return sum;
+}
+#elif IDIOM == 10 /* Variables that the linker joins. */
+int common_numbers[7] __attribute__((common));
+char common_bytes[3] __attribute__((common));
+static int idiom(void)
+{
+    set_all(common_numbers, 7);
+    fill(common_bytes, 3);
+    return common_numbers[6 * one] + common_bytes[2 * one];
+}
+#elif IDIOM == 11 /* Variables of two blocks, which may have one place. */
+static int idiom(void)
+{
+    int sum = 0;
+    if (one) {
+        int some[4];
+        set_all(some, 4);
+        for (int i = 0; i < 4; i++)
+            sum += some[i * one];
+    }
+    {
+        int more[16];
+        set_all(more, 16);
+        for (int i = 0; i < 16; i++)
+            sum += more[i * one];
+    }
+    return sum;
+}
+#elif IDIOM == 12 /* A variable of a block, used after the block in its function. */
+static int idiom(void)
+{
+    int *outer = 0;
+    if (one) {
+        int inner = 5;
+        outer = &inner;
+        cell = outer;
+    }
+    return outer != 0 && *(int *)cell >= 0;
+}
+#elif IDIOM == 13 /* A jump over frames to where they were left. */
+static void *place[14];
+static volatile int left;
+int save_place(void **to) __attribute__((returns_twice));
+_Noreturn void jump_back(void **to);
+__asm__("save_place:\n"
+        "    stp x19, x20, [x0]\n"
+        "    stp x21, x22, [x0, #16]\n"
+        "    stp x23, x24, [x0, #32]\n"
+        "    stp x25, x26, [x0, #48]\n"
+        "    stp x27, x28, [x0, #64]\n"
+        "    stp x29, x30, [x0, #80]\n"
+        "    mov x2, sp\n"
+        "    str x2, [x0, #96]\n"
+        "    mov w0, #0\n"
+        "    ret\n"
+        "jump_back:\n"
+        "    ldp x19, x20, [x0]\n"
+        "    ldp x21, x22, [x0, #16]\n"
+        "    ldp x23, x24, [x0, #32]\n"
+        "    ldp x25, x26, [x0, #48]\n"
+        "    ldp x27, x28, [x0, #64]\n"
+        "    ldp x29, x30, [x0, #80]\n"
+        "    ldr x2, [x0, #96]\n"
+        "    mov sp, x2\n"
+        "    mov w0, #1\n"
+        "    br x30\n");
+__attribute__((noinline)) static void go_back(int *depth)
+{
+    int local[8];
+    set_all(local, 8);
+    cell = local;
+    if (*depth > 0) {
+        int lower = *depth - 1;
+        go_back(&lower);
+    }
+    left++;
+    jump_back(place);
+}
+static int idiom(void)
+{
+    int table[6];
+    int depth = 3;
+    set_all(table, 6);
+    for (volatile int turn = 0; turn < 4; turn++)
+        if (save_place(place) == 0)
+            go_back(&depth);
+    int again[5];
+    set_all(again, 5);
+    return table[5 * one] + again[4 * one] + left;
+}
+#elif IDIOM == 14 /* One before the first and one past the last, counted by both. */
+__attribute__((noinline)) static long both_ways(int count)
+{
+    int a[6], b[6], c[6];
+    set_all(a, 6), set_all(b, 6), set_all(c, 6);
+    long sum = 0;
+    int *up = a - 1, *also = b - 1, *down = c + 6;
+    while (count-- > 0)
+        sum += *++up + *++also - *--down;
+    for (int i = 1; i <= 6; i++)
+        sum += (a - 1)[i * one];
+    return sum;
+}
+static int idiom(void)
+{
+    return (int)both_ways(6);
+}
+#elif IDIOM == 15 /* Three variables by one index each, which may have one address. */
+static int first_of[4] = {1}, second_of[4] = {2}, third_of[4] = {3};
+static int idiom(void)
+{
+    int sum = 0;
+    for (int i = 0; i < 4; i++)
+        sum += first_of[i * one] + second_of[3 - i] * third_of[i];
+    return sum;
+}
+#elif IDIOM == 16 /* A frame of more than a page. */
+static int idiom(void)
+{
+    int large[1500], small[3];
+    char bytes[4500];
+    set_all(large, 1500);
+    set_all(small, 3);
+    fill(bytes, 4500);
+    return large[1499 * one] + small[2 * one] + bytes[4499];
+}
+#elif IDIOM == 17 /* Structures that are passed and returned as they are. */
+struct large {
+    long words[7];
+};
+__attribute__((noinline)) static struct large doubled(struct large given)
+{
+    for (int i = 0; i < 7; i++)
+        given.words[i] *= 2;
+    return given;
+}
+static int idiom(void)
+{
+    struct large large = {{1, 2, 3, 4, 5, 6, one}};
+    struct large twice = doubled(doubled(large));
+    return (int)twice.words[6 * one];
+}
+#elif IDIOM == 18 /* A list of nodes in the frames of a recursion. */
+struct node {
+    struct node *up;
+    int value;
+};
+__attribute__((noinline)) static int walk(struct node *up, int depth)
+{
+    struct node node = {up, depth};
+    if (depth > 0)
+        return walk(&node, depth - 1) + node.value;
+    int sum = 0;
+    for (struct node *at = &node; at; at = at->up)
+        sum += at->value;
+    return sum;
+}
+static int idiom(void)
+{
+    return walk(0, 50 * one);
+}
+#elif IDIOM == 19 /* Elements that are sorted, and exchanged a byte at a time. */
+static void exchange(char *one_place, char *other, size_t size)
+{
+    for (size_t i = 0; i < size; i++) {
+        char byte = one_place[i];
+        one_place[i] = other[i];
+        other[i] = byte;
+    }
+}
+static int idiom(void)
+{
+    struct {
+        int key;
+        char text[6];
+    } all[7];
+    for (int i = 0; i < 7; i++)
+        all[i].key = (i * 5) % 7 * one, fill(all[i].text, 6);
+    for (int i = 0; i < 7; i++)
+        for (int j = 0; j + 1 < 7; j++)
+            if (all[j].key > all[j + 1].key)
+                exchange((char *)&all[j], (char *)&all[j + 1], sizeof all[0]);
+    return all[6].key;
+}
+#elif IDIOM == 20 /* The distance of two variables, and words of a text that end past it. */
+static size_t length_by_words(const char *text)
+{
+    const uint64_t *word = (const uint64_t *)text;
+    while (((*word - 0x0101010101010101u) & ~*word & 0x8080808080808080u) == 0)
+        word++;
+    const char *at = (const char *)word;
+    while (*at)
+        at++;
+    return (size_t)(at - text);
+}
+static int idiom(void)
+{
+    char text[13] __attribute__((aligned(8))), other[5];
+    fill(other, 5);
+    for (int i = 0; i < 12; i++)
+        text[i] = 'a';
+    text[12] = 0;
+    cell = (void *)(text - other);
+    return (int)length_by_words(text) + (other + (intptr_t)cell)[3];
+}
+#elif IDIOM == 21 /* A table of pointers to variables, and one into another's middle. */
+static int values[5] = {1, 2, 3, 4, 5};
+static int *const pointers[] = {values, &values[2], &values[4], values + 5};
+static int idiom(void)
+{
+    int sum = 0;
+    for (int i = 0; i < 3; i++)
+        sum += *pointers[i * one];
+    return sum + sum_between(pointers[1], pointers[3]) + sum_back(pointers[0], pointers[3]);
+}
+#elif IDIOM == 22 /* A second stack, which is left and entered again. */
+static char stack[4096] __attribute__((aligned(16)));
+static void *stacks[2];
+void switch_stack(void **from, void **to);
+__asm__("switch_stack:\n"
+        "    stp x29, x30, [sp, #-96]!\n"
+        "    stp x19, x20, [sp, #16]\n"
+        "    stp x21, x22, [sp, #32]\n"
+        "    stp x23, x24, [sp, #48]\n"
+        "    stp x25, x26, [sp, #64]\n"
+        "    stp x27, x28, [sp, #80]\n"
+        "    mov x9, sp\n"
+        "    str x9, [x0]\n"
+        "    ldr x9, [x1]\n"
+        "    mov sp, x9\n"
+        "    ldp x19, x20, [sp, #16]\n"
+        "    ldp x21, x22, [sp, #32]\n"
+        "    ldp x23, x24, [sp, #48]\n"
+        "    ldp x25, x26, [sp, #64]\n"
+        "    ldp x27, x28, [sp, #80]\n"
+        "    ldp x29, x30, [sp], #96\n"
+        "    ret\n");
+__attribute__((noinline)) static void other_side(void)
+{
+    int own[6];
+    set_all(own, 6);
+    for (;;) {
+        cell = &own[3];
+        switch_stack(&stacks[1], &stacks[0]);
+        own[5 * one]++;
+    }
+}
+static int idiom(void)
+{
+    int mine[6];
+    void **top = (void **)(stack + sizeof stack - 96);
+    top[1] = (void *)other_side;
+    stacks[1] = top;
+    set_all(mine, 6);
+    int sum = 0;
+    for (int i = 0; i < 5; i++) {
+        switch_stack(&stacks[0], &stacks[1]);
+        sum += *(int *)cell + mine[i * one];
+    }
+    return sum;
+}
+#elif IDIOM == 23 /* Digits from the end of a buffer. */
+__attribute__((noinline)) static char *digits_of(char *end, unsigned number)
+{
+    *--end = 0;
+    do
+        *--end = (char)('0' + number % 10);
+    while (number /= 10);
+    return end;
+}
+static int idiom(void)
+{
+    char before[8], buffer[12], behind[8];
+    fill(before, 8), fill(behind, 8);
+    char *text = digits_of(buffer + sizeof buffer, 4096u * (unsigned)one);
+    char *p = buffer + sizeof buffer;
+    *--p = 0;
+    for (int i = 0; i < 5; i++)
+        *--p = (char)('a' + i);
+    return text[one] + *p + before[7] + behind[7 * one];
+}
+#elif IDIOM == 24 /* A variable's address beside numbers that are like it. */
+static int idiom(void)
+{
+    int local[4];
+    set_all(local, 4);
+    uintptr_t number = (uintptr_t)local;
+    number ^= number >> 9;
+    static char buckets[61];
+    buckets[number % 61]++;
+    uintptr_t low = (uintptr_t)&local[1] & ~(uintptr_t)3;
+    return *(int *)low + buckets[(uintptr_t)local % 61];
+}
+#endif
+
+int main(void)
+{
+    sink = idiom();
+    return 0;
+}
