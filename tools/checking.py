@@ -4,8 +4,8 @@
     checking.py [--write | --check]
 
 Each bug is compiled by clang at -O0 as a tenant, which mte_run runs with tags alone, with --exact
-and with --check=all,places; and for this machine, where it runs under AddressSanitizer and Valgrind's
-memcheck.
+and with --check=all,places; and for this machine, where it runs under AddressSanitizer and
+Valgrind's memcheck.
 Without an option the table is printed; --write puts it into the page; --check compares the columns
 of mte_run with the page's, and those of the other tools that are here.
 """

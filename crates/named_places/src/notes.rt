@@ -120,9 +120,9 @@ impl NamedPlaces {
         Ok(())
     }
 
-    /// Notes that SP was made of a register by a constant, or of itself, where it may have been left
-    /// for another stack: not where the register was made of SP by the function that runs. Of the
-    /// frames there nothing is known.
+    /// Notes that SP was made of a register by a constant, or of itself, where it may have been
+    /// left for another stack: not where the register was made of SP by the function that runs. Of
+    /// the frames there nothing is known.
     fn note_stack(&mut self, shadow: &Shadow, rn: u8) {
         if rn == STACK_POINTER || rn == FRAME_POINTER || self.marks.is_fresh(rn) {
             return;
