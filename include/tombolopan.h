@@ -443,8 +443,8 @@ uint32_t tb_alone(const tb_terms *terms, uint8_t *output, size_t output_room, tb
  * tb_alone does. An act that faults or is none changes nothing, and those behind it are done; a
  * slice of a tenant that has ended does nothing. The machine ends with this call; it is a function
  * of `terms` and of the acts, so the same array with more acts behind it goes on where this one
- * ended. The slices of `terms` are not looked at. TB_REFUSED and TB_OUT_OF_MEMORY change nothing but
- * end->alone. It answers end->alone.code.
+ * ended. The slices of `terms` are not looked at. TB_REFUSED and TB_OUT_OF_MEMORY change nothing
+ * but end->alone. It answers end->alone.code.
  */
 uint32_t tb_machine_acts(const tb_terms *terms, tb_machine_act *acts, size_t count, uint8_t *output,
                          size_t output_room, tb_kept_call *calls, size_t call_room,
