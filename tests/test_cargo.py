@@ -27,8 +27,9 @@ def ran(folder: pathlib.Path, **extra: str) -> subprocess.CompletedProcess[str]:
             if name not in ("TOMBOLOPAN_LIB_DIR", "PKG_CONFIG_PATH")}
     return subprocess.run(
         [library.rust_program("cargo"), "run", "--offline", "--quiet", "--example", "first"],
-        text=True, check=False, cwd=folder / CRATE.relative_to(EMBED), env={**kept, **extra},
-        capture_output=True, timeout=300,
+        text=True, check=False,
+        cwd=folder / CRATE.relative_to(EMBED), env={**kept, **extra}, capture_output=True,
+        timeout=300,
     )
 
 
