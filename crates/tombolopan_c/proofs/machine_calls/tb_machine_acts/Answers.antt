@@ -17,11 +17,11 @@ returns-clause-acted c = elim c.match-new.branch [
         told = search rules;
       }
   | in-Err w ↦ record {
-      answer = Err w.in-Err.obstacle;
-      is = (search rules, search rules);
-      answers = search rules;
-      regs = search rules;
-      buffers = search rules;
-      told = search rules;
-    }
+    answer = Err w.in-Err.obstacle;
+    is = (search rules, search rules);
+    answers = search rules;
+    regs = search rules;
+    buffers = search rules;
+    told = search rules;
+  }
 ]
