@@ -106,33 +106,33 @@ impl Code {
             return Ok(());
         };
         let mut before: Option<StepText<'_>> = None;
-        let mut front = "";
+        let mut count: usize = 0;
         for (index, moment) in self.steps.iter().zip(moments.iter()) {
-            front = write_step(out, before, &moment.regs, front)?;
+            write_step(out, before, &moment.regs, count <= 1)?;
             before = Some(StepText {
                 index: *index,
                 moment,
                 after: &moment.regs,
             });
+            count = count.saturating_add(1);
         }
-        write_step(out, before, regs_at_end(report), front)?;
-        Ok(())
+        write_step(out, before, regs_at_end(report), count <= 1)
     }
 }
 
-/// Writes a step with the registers behind it, if there is one; what is in front of the next.
+/// Writes a step with the registers behind it, if there is one, and a comma in front of all but the
+/// first.
 fn write_step<W: Write>(
     out: &mut W,
     step: Option<StepText<'_>>,
     after: &Regs,
-    front: &'static str,
-) -> io::Result<&'static str> {
+    is_first: bool,
+) -> io::Result<()> {
     let Some(step) = step else {
-        return Ok(front);
+        return Ok(());
     };
-    let text = StepText { after, ..step };
-    write!(out, "{front}\n\"{text}\"")?;
-    Ok(",")
+    let (front, text) = (if is_first { "" } else { "," }, StepText { after, ..step });
+    write!(out, "{front}\n\"{text}\"")
 }
 
 /// Writes a word: its address, its text, and the place.

@@ -8,10 +8,10 @@ use crate::script::SCRIPT;
 use crate::style::STYLE;
 use mte_backtrace::{FrameAddresses, FrameNames};
 use mte_flat::Flat;
-use mte_report::Context;
+use mte_report::{Context, Report};
 use report_documents::Document;
 use run_book::BookEntry;
-use std::alloc::AllocError;
+use std::alloc::Global;
 use std::io;
 use std::io::Write;
 
@@ -36,35 +36,33 @@ impl<'a> HeapPage<'a> {
         self.0.write_json(out, memory)?;
         let entries = shown_calls(self.0.alloc, self.0.report.book)?;
         let code = Code::of(self.0.alloc, self.0.report)?;
-        self.write_events(out, entries.as_slice(), &code)?;
+        let mut frames = FrameAddresses::new(self.0.alloc);
+        push_frames(self.0, entries.as_slice(), &mut frames)?;
+        code.push_frames(&mut frames)?;
+        let (alloc, report) = (self.0.alloc, self.0.report);
+        let names = report.names.of_frames(alloc, &frames)?;
+        write_events(alloc, out, report, &names, entries.as_slice(), &code)?;
         write_rows(out, self.0, entries.as_slice(), memory)?;
         write!(out, "}}")
     }
+}
 
-    /// Writes the heap calls and the instructions.
-    fn write_events<W: Write>(
-        &self,
-        out: &mut W,
-        entries: &[BookEntry],
-        code: &Code,
-    ) -> io::Result<()> {
-        let names = self.names(entries, code)?;
-        let context = Context {
-            alloc: self.0.alloc,
-            report: self.0.report,
-            names: &names,
-        };
-        write_calls(out, &context, entries)?;
-        code.write(out, &context)
-    }
-
-    /// What the addresses of calls and instructions are called.
-    fn names(&self, entries: &[BookEntry], code: &Code) -> Result<FrameNames<'a>, AllocError> {
-        let mut frames = FrameAddresses::new(self.0.alloc);
-        push_frames(self.0, entries, &mut frames)?;
-        code.push_frames(&mut frames)?;
-        self.0.report.names.of_frames(self.0.alloc, &frames)
-    }
+/// Writes the heap calls and the instructions, by what their addresses are called.
+fn write_events<W: Write>(
+    alloc: Global,
+    out: &mut W,
+    report: &Report<'_>,
+    names: &FrameNames<'_>,
+    entries: &[BookEntry],
+    code: &Code,
+) -> io::Result<()> {
+    let context = Context {
+        alloc,
+        report,
+        names,
+    };
+    write_calls(out, &context, entries)?;
+    code.write(out, &context)
 }
 
 /// Writes JSON as it may be inside an element of a page: each `<` by its number.

@@ -96,12 +96,13 @@ pub(crate) fn write_rows<W: Write>(
         entries,
     )?;
     write!(out, "\"rows\":[")?;
-    let mut front = "";
+    let mut is_first = true;
     for start in rows.starts.keys() {
+        let front = if is_first { "" } else { "," };
         write!(out, "{front}\n[\"{start:#x}\",\"")?;
         write_tags(out, *start, memory)?;
         write!(out, "\"]")?;
-        front = ",";
+        is_first = false;
     }
     write!(out, "]")
 }
