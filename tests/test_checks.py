@@ -210,11 +210,10 @@ def test_undefined_values_that_nothing_depends_on(
         assert told.status == 0 and "check:" not in told.errors, (idiom, told.errors)
 
 
-@pytest.mark.parametrize("build", sorted(BUILDS))
+@pytest.mark.parametrize("build", sorted(build for build in BUILDS if build.endswith("-O0")))
 def test_variables(alone: pathlib.Path, tmp_path: pathlib.Path, build: str) -> None:
     """Accesses beyond variables and after their functions, and frees of them, by their names."""
-    bugs = PLACES if build.endswith("-O2") else {**PLACES, **PLAIN_PLACES}
-    for bug, (cause, distance, variable) in bugs.items():
+    for bug, (cause, distance, variable) in {**PLACES, **PLAIN_PLACES}.items():
         path = image(tmp_path, build, "place_bugs.c", f"BUG={bug}")
         told = check(alone, path, kinds="places")
         assert told.status == 137 and cause.format(distance, variable) in told.errors, (
