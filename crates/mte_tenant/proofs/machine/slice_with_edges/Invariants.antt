@@ -2,7 +2,7 @@ use Rattle.std.proofs.Common.{◌≡◌}
 use Rattle.a64_run.specs.OpCaches.{Knows}
 use Rattle.mte_svc.specs.Ready.{IsReady}
 use Rattle.mte_tenant.specs.Machines.{after_attempts, machine_of}
-use Rattle.mte_tenant.proofs.machine.slice.Given as goal
+use Rattle.mte_tenant.proofs.machine.slice_with_edges.Given as goal
 
 abbrev pub decreases-loop-left : goal.decreases-loop-left
 decreases-loop-left g l = l.left
