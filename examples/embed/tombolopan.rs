@@ -20,6 +20,7 @@ pub const TB_OUT_OF_MEMORY: u32 = 10;
 pub const TB_SCRIPT: u32 = 11;
 pub const TB_REFUSED: u32 = 12;
 pub const TB_STOPPED: u32 = 13;
+pub const TB_NO_MACHINE: u32 = 14;
 
 pub const TB_TRANSLATION: u32 = 1;
 pub const TB_PERMISSION: u32 = 2;
@@ -108,6 +109,7 @@ pub fn text(code: u32) -> &'static str {
         TB_SCRIPT => "faulty script line",
         TB_REFUSED => "tenant refused",
         TB_STOPPED => "stopped",
+        TB_NO_MACHINE => "no machine",
         _ => "unknown",
     }
 }

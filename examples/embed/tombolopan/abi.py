@@ -25,11 +25,13 @@ OUT_OF_MEMORY = 10
 SCRIPT = 11
 REFUSED = 12
 STOPPED = 13
+NO_MACHINE = 14
 CODES = {
     OK: "ok", FAULT: "fault", SVC: "svc", BREAKPOINT: "breakpoint", ILLEGAL: "illegal instruction",
     NOT_MAPPED: "page not mapped", ALREADY_MAPPED: "page already mapped", NO_ROOM: "no room",
     BAD_ARGUMENT: "bad argument", ABORT: "heap abort", OUT_OF_MEMORY: "out of memory",
     SCRIPT: "faulty script line", REFUSED: "tenant refused", STOPPED: "stopped",
+    NO_MACHINE: "no machine",
 }
 
 # tb_fault_kind
