@@ -1,6 +1,6 @@
 //! A plain tagged memory with a snapshot, to which it can be restored.
 
-ghost use Rattle.std.specs.Prelude.{◌≡◌, IfOk};
+ghost use Rattle.std.specs.Prelude.{◌≡◌, IfOk, OnOk, OnErr};
 
 use crate::flat::Flat;
 use crate::pages::Pages;
@@ -37,6 +37,19 @@ impl SnapshotMemory {
         let saved = memory.pages.copy_unmarked(alloc)?;
         let pages = saved.copy(alloc)?;
         Ok(SnapshotMemory { pages, saved })
+    }
+
+    /// Makes the snapshot that of the memory now. Where memory is refused, nothing changes.
+    pub fn save(&mut self, alloc: Global) -> Result<(), AllocError>
+        ensures saved { OnOk result (self.new.saved ≡ self.old.now) }
+        ensures err { OnErr result (self.new.saved ≡ self.old.saved) }
+        ensures now { self.new.now ≡ self.old.now }
+    {
+        let saved = self.pages.copy_unmarked(alloc)?;
+        let pages = saved.copy(alloc)?;
+        self.pages = pages;
+        self.saved = saved;
+        Ok(())
     }
 
     /// Makes the memory that of the snapshot. It takes time for the pages that were written, mapped
