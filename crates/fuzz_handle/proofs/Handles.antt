@@ -1,5 +1,5 @@
 -- The machine value of a handle. Assumes `Logic`.
-use Rattle.std.proofs.Common.{◌≡◌, ℕ, List, [], ◌∷◌, ◌++◌, refl, subst, ap, ◌∙◌}
+use Rattle.std.proofs.Common.{◌≡◌, ℕ, List, [], ◌∷◌, ◌++◌, refl, subst}
 use seplogic.Ra.Ura.{Ura}
 use mir.Val.{Val, vstruct, of_list}
 use mir.Raw.{raw as bare}
@@ -7,8 +7,8 @@ use base.Fraction.{full_share}
 use base.Logic.{ent, guard, guard_i, via, fst∗, snd∗, never}
 use contract.Monad.{fact_use}
 use types.Logic.{Logic, sem}
-use types.Kit.{Item, Goal, Seq, Step, step, ‵, ◌$◌, fsplit, fjoin, fpick, fpack, move, drop, feq_i, feq_l, given, use1, learn}
-use denote.RattleType.{RattleType, Valss}
+use types.Kit.{Item, Goal, Seq, Step, step, ‵, ◌$◌, fsplit, fjoin, fpick, fpack, drop, feq_i, feq_l, given, use1, learn}
+use denote.RattleType.{Valss}
 use denote.Memory.{lone}
 use denote.RawPtr.{Ptr, RawPtr, Testable, block_ptr, null_ptr, ptr_val, in_a_block, lies_at}
 use denote.Steps.{nothing}
@@ -19,7 +19,7 @@ use Rattle.std.specs.Prelude.{Option, None, Some}
 use Rattle.std.specs.Box.Ownership.{box_owns}
 use Rattle.std.specs.contracts.impls.GlobalAllocator.TheImpl.{ghosts}
 use Rattle.std.proofs.GlobalToken.{dealloc_token-Testable}
-use Rattle.tenant_snapshot.specs.contracts.snapshot.Snapshot as machine
+use Rattle.tenant_snapshot.specs.contracts.tenant.SnapshotTenant as machine
 use Rattle.fuzz_handle.specs.Held.{heap, held_at}
 
 abbrev pub word : Ptr → Val

@@ -5,7 +5,7 @@ use denote.RawPtr.{Ptr, null_ptr}
 use Rattle.std.specs.declared.alloc.Global.{Global}
 use Rattle.std.specs.contracts.impls.GlobalAllocator.TheImpl.{ghosts}
 use Rattle.std.specs.Box.Ownership.{box_owns}
-use Rattle.tenant_snapshot.specs.contracts.snapshot.Snapshot.{the_row}
+use Rattle.tenant_snapshot.specs.contracts.tenant.SnapshotTenant.{the_row}
 
 -- each handle of the heap is alike
 abbrev pub heap : Global

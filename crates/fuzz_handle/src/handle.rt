@@ -1,7 +1,7 @@
 //! A pointer to a boxed machine, or null.
 
 ghost use Rattle.std.specs.Prelude.{◌≡◌, Option, Some, None, option_map};
-ghost use Rattle.tenant_snapshot.specs.declared.snapshot.Snapshot.{Snapshot as Machine};
+ghost use Rattle.tenant_snapshot.specs.declared.tenant.SnapshotTenant.{SnapshotTenant as Machine};
 ghost use Rattle.fuzz_handle.specs.Held.{held_at};
 
 use crate::loose_box::LooseBox;
@@ -9,7 +9,7 @@ use std::alloc::Global;
 use std::marker::Model;
 use std::mem::replace;
 use std::ptr::null_mut;
-use tenant_snapshot::Snapshot;
+use tenant_snapshot::SnapshotTenant;
 
 /// A boxed machine, or none: what C keeps between calls.
 #[repr(C)]
@@ -26,7 +26,7 @@ impl Model for FuzzHandle {
 
 impl FuzzHandle {
     /// Takes the machine out, if there is one; then there is none.
-    pub fn take(&mut self, alloc: Global) -> Option<Box<Snapshot>>
+    pub fn take(&mut self, alloc: Global) -> Option<Box<SnapshotTenant>>
         ensures taken { option_map (λ b. b.value) result ≡ self.old.value }
         ensures none { self.new.value ≡ None }
     {
@@ -34,7 +34,7 @@ impl FuzzHandle {
     }
 
     /// Keeps a machine. There is none before.
-    pub fn put(&mut self, machine: Box<Snapshot>)
+    pub fn put(&mut self, machine: Box<SnapshotTenant>)
         ensures { self.new.value ≡ Some machine.value }
     {
         *self = FuzzHandle::tight(LooseBox::of(machine));
@@ -48,7 +48,7 @@ impl FuzzHandle {
     }
 
     /// The machine, if there is one.
-    fn into_box(self, alloc: Global) -> Option<Box<Snapshot>>
+    fn into_box(self, alloc: Global) -> Option<Box<SnapshotTenant>>
         ensures { option_map (λ b. b.value) result ≡ self.value }
     {
         match self.loose(alloc) {
@@ -67,7 +67,7 @@ impl FuzzHandle {
     }
 
     /// What owns a machine, as a handle.
-    fn tight(machine: LooseBox<Snapshot, Global>) -> FuzzHandle
+    fn tight(machine: LooseBox<SnapshotTenant, Global>) -> FuzzHandle
         ensures { result.value ≡ Some machine.value }
     {
         let LooseBox { at, alloc: _ } = machine;
@@ -77,7 +77,7 @@ impl FuzzHandle {
     }
 
     /// What owns the machine, if there is one.
-    fn loose(self, alloc: Global) -> Option<LooseBox<Snapshot, Global>>
+    fn loose(self, alloc: Global) -> Option<LooseBox<SnapshotTenant, Global>>
         ensures { option_map (λ l. l.value) result ≡ self.value }
     {
         let FuzzHandle { machine } = self;
@@ -85,7 +85,7 @@ impl FuzzHandle {
             None
         } else {
             Some(LooseBox {
-                at: machine as *mut Snapshot,
+                at: machine as *mut SnapshotTenant,
                 alloc,
             })
         }

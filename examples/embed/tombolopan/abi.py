@@ -178,6 +178,17 @@ class _AloneEnd(ctypes.Structure):
     ]
 
 
+class _Fuzz(ctypes.Structure):
+    _fields_ = [("machine", c_void_p)]
+
+
+class _FuzzInput(ctypes.Structure):
+    _fields_ = [
+        ("input", c_void_p), ("input_length", c_size_t), ("slices", c_void_p),
+        ("slice_count", c_size_t), ("saturating", c_uint32), ("unused", c_uint32),
+    ]
+
+
 class _Page(ctypes.Structure):
     _fields_ = [
         ("number", c_uint64), ("mapped", c_uint32), ("attrs", c_uint32), ("bytes", c_uint8 * 4096),
@@ -272,6 +283,11 @@ _CALLS = {
     "tb_alone": [
         POINTER(_Terms), c_void_p, c_size_t, POINTER(_KeptCall), c_size_t, POINTER(_AloneEnd),
     ],
+    "tb_fuzz_new": [POINTER(_Terms), POINTER(_Fuzz), POINTER(_AloneEnd)],
+    "tb_fuzz_run": [
+        POINTER(_Fuzz), POINTER(_FuzzInput), c_void_p, c_size_t, POINTER(_AloneEnd),
+    ],
+    "tb_fuzz_free": [POINTER(_Fuzz)],
     "tb_machine_acts": [
         POINTER(_Terms), POINTER(_MachineAct), c_size_t, c_void_p, c_size_t, POINTER(_KeptCall),
         c_size_t, POINTER(_MachineEnd),
@@ -302,7 +318,7 @@ _CALLS = {
     "tb_disassemble": [c_uint32, c_uint64, c_void_p, c_size_t],
 }
 # What those answer that answer no number of 32 bits.
-_RESULTS = {"tb_memory_init": None}
+_RESULTS = {"tb_memory_init": None, "tb_fuzz_free": None}
 
 
 def _library_name() -> str:

@@ -4,7 +4,7 @@ use mir.Val.{Val, vptr, vcons, vnil}
 use base.Logic.{SProp, ent, emp, id⊢}
 use base.Fml.{ftrue}
 use prog.Wp.{WpFn}
-use types.Kit.{‵, raw, ◌⊛◌, at_ret, ◌$◌, ◌∵◌, !, qed, by, move, keep, drop, split, fsplit, fjoin, rewrite, suffices, use0, use1}
+use types.Kit.{‵, raw, ◌⊛◌, at_ret, ◌$◌, ◌∵◌, !, qed, by, move, keep, split, fsplit, fjoin, rewrite, suffices, use0, use1}
 use types.Run.{stop, fld, lit, of_opd, bin, no_more, and_then, first, branches, exec, returns, enter}
 use types.ByLocal.{alloc_all, pass_all, free_all, look_at, get, get_in, sets, sets_last, env}
 use types.Part.{agg, sub, whole}
@@ -28,10 +28,9 @@ use Rattle.std.proofs.option.Made.{Some-of, none_of}
 use Rattle.std.proofs.ResultValues.{and_tt}
 use Rattle.std.proofs.cell.Inside.{Good, one}
 use Rattle.std.proofs.raw_atomic.Walks.{proved_at, leaves}
-use Rattle.fuzz_handle.specs.Held.{held_at}
 use Rattle.fuzz_handle.proofs.Handles.{word, handle_out, either_held}
 use Rattle.fuzz_handle.proofs.LooseBoxes.{both, LooseBox, loose_good, loose_in}
-use Rattle.tenant_snapshot.specs.contracts.snapshot.Snapshot as machine
+use Rattle.tenant_snapshot.specs.contracts.tenant.SnapshotTenant as machine
 use Rattle.fuzz_handle.specs.contracts.handle.FuzzHandle as handle
 use Rattle.fuzz_handle.specs.contracts.handle.FuzzHandle.loose.{ended, clauses}
 use Rattle.fuzz_handle.specs.contracts.handle.FuzzHandle.loose.Key.{name as #self}

@@ -1,9 +1,9 @@
 -- `none` makes a null pointer, which owns nothing.
-use Rattle.std.proofs.Common.{◌≡◌, List, [], ◌∷◌, refl, lit<}
+use Rattle.std.proofs.Common.{◌≡◌, [], ◌∷◌, refl, lit<}
 use mir.Val.{Val}
 use base.Logic.{SProp, emp}
 use base.Fml.{ftrue}
-use types.Kit.{‵, raw, ◌⊛◌, ◌$◌, ◌∵◌, !, qed, by, keep, use0, feq_i, split, drop}
+use types.Kit.{‵, raw, ◌⊛◌, ◌$◌, ◌∵◌, !, qed, by, keep, use0, feq_i, drop}
 use types.Run.{lit, no_more, and_then, returns, enter}
 use types.ByLocal.{alloc_all, pass_all, free_all, look_at, sets}
 use types.Part.{agg}
@@ -11,8 +11,8 @@ use contract.Monad.{fact, fact_i}
 use contract.Running.{tables}
 use denote.RawPtr.{Ptr, null_ptr}
 use denote.Steps.{nothing}
-use denote.Triple.Walked.{Stays, walk_of}
-use Rattle.std.specs.Prelude.{Option, None}
+use denote.Triple.Walked.{walk_of}
+use Rattle.std.specs.Prelude.{None}
 use Rattle.std.proofs.raw_atomic.Walks.{proved_at, leaves}
 use Rattle.fuzz_handle.proofs.Handles.{word, handle_in}
 use Rattle.fuzz_handle.specs.contracts.handle.FuzzHandle.{the_row}

@@ -16,7 +16,7 @@ use denote.RawPtr.{block_ptr}
 use denote.Signature.{plain}
 use denote.Steps.{nothing}
 use denote.Triple.Walked.{Stays, stay_dropped, walk_of, Goes-dropped}
-use Rattle.std.specs.Prelude.{Option, Some}
+use Rattle.std.specs.Prelude.{Some}
 use Rattle.std.specs.contracts.alloc.Global as heap
 use Rattle.std.proofs.alloc.Global.TheLaws as heap_laws
 use Rattle.std.specs.contracts.impls.GlobalAllocator.TheImpl.{ghosts}
@@ -24,7 +24,7 @@ use Rattle.std.proofs.raw_atomic.Walks.{proved_at, leaves}
 use Rattle.fuzz_handle.specs.Held.{held_at}
 use Rattle.fuzz_handle.proofs.Handles.{word, handle_in}
 use Rattle.fuzz_handle.proofs.LooseBoxes.{both, LooseBox, loose_good, loose_out}
-use Rattle.tenant_snapshot.specs.contracts.snapshot.Snapshot as machine
+use Rattle.tenant_snapshot.specs.contracts.tenant.SnapshotTenant as machine
 use Rattle.fuzz_handle.specs.contracts.handle.FuzzHandle as handle
 use Rattle.fuzz_handle.specs.contracts.handle.FuzzHandle.tight.{ended, clauses}
 use Rattle.fuzz_handle.specs.contracts.handle.FuzzHandle.tight.Key.{name as #self}
