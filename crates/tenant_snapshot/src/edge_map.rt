@@ -1,5 +1,8 @@
 //! Counts of the branches that a run takes, in memory that a fuzzer lends.
 
+ghost use Rattle.std.specs.Prelude.{◌≡◌, length, is_some};
+ghost use Rattle.tenant_snapshot.specs.Maps.{is_map_length};
+
 use a64_run::Edges;
 
 /// The fewest counts of a map.
@@ -18,7 +21,9 @@ pub struct EdgeMap<'a> {
 impl<'a> EdgeMap<'a> {
     /// A map over lent counts, whose number is a power of two from MAP_MIN to MAP_MAX; `None` over
     /// any other.
-    pub fn new(counts: &'a mut [u8], saturating: bool) -> Option<EdgeMap<'a>> {
+    pub fn new(counts: &'a mut [u8], saturating: bool) -> Option<EdgeMap<'a>>
+        ensures { is_some result ≡ is_map_length (length counts.old) }
+    {
         if !counts.len().is_power_of_two() || counts.len() < MAP_MIN || counts.len() > MAP_MAX {
             return None;
         }
