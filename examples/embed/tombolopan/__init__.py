@@ -138,7 +138,7 @@ from .hooks import Block, Hooked, Instruction, TracedAccess, hook_block, hook_co
 from .machines import Machine
 from .memory import Memory, Region
 from .registers import Regs
-from .replays import Answer, Heap, Replay
+from .replays import Answer, Heap, LiveChunk, Replay
 from .runs import Stop, run, step
 from .sessions import Session, session
 from .tenants import HeapCall, Tenant, alone
@@ -150,8 +150,8 @@ __all__ = [
     "BAD_HEADERS", "BAD_NUMBER", "BAD_RESERVATION", "BREAKPOINT", "Block", "CALLOC", "CODES",
     "Code", "EXEC", "FAULT", "FAULT_KINDS", "FREE", "Fault", "FaultKind", "HEADER_CORRUPT",
     "HEAP_ABORTS", "Heap", "HeapAbort", "HeapAnswer", "HeapCall", "HeapOp", "Hooked", "ILLEGAL",
-    "INTERPRETER", "INVALID_STATE", "Instruction", "LOAD", "LOAD_TAG", "MALLOC", "MEMALIGN",
-    "MISALIGNED", "Machine",
+    "INTERPRETER", "INVALID_STATE", "Instruction", "LOAD", "LOAD_TAG", "LiveChunk", "MALLOC",
+    "MEMALIGN", "MISALIGNED", "Machine",
     "MappingError", "Memory", "NOT_AARCH64", "NOT_A_BLOCK", "NOT_ELF64", "NOT_EXEC",
     "NOT_MAPPED", "NO_ENTRY", "NO_ROOM", "NO_SUCH_FILE", "OK", "OUT_OF_MEMORY", "OVERLAP",
     "PC_ALIGNMENT", "PERMISSION", "READ", "REALLOC", "REFUSALS", "REFUSED", "RESERVATION_TOO_SMALL",
@@ -167,7 +167,7 @@ __all__ = [
 ]
 # Their names in tracebacks and in what is pickled.
 for _it in (Fault, MappingError, Refused, ScriptError, Memory, Region, Regs, Session, Answer,
-            Block, Instruction, TracedAccess):
+            LiveChunk, Block, Instruction, TracedAccess):
     _it.__module__ = __name__
 
 
