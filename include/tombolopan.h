@@ -6,9 +6,9 @@
  * All memory is the caller's and is lent to each call: files, an array of places for pages, the tag
  * state, the registers. The library keeps nothing between calls but the machine that tb_fuzz_new
  * makes and tb_fuzz_free frees (tb_fuzz), and only these, tb_fuzz_run, tb_session, tb_alone,
- * tb_machine_acts, tb_machine_pages, tb_heap_calls and tb_heap_replay allocate, the last six for
- * their own time. So the caller may read and write all that it lends between calls, copy it, or
- * place it in a file. Every content has a meaning:
+ * tb_machine_acts, tb_machine_pages, tb_heap_calls, tb_heap_replay, tb_heap_pages and tb_heap_live
+ * allocate, the last eight for their own time. So the caller may read and write all that it lends
+ * between calls, copy it, or place it in a file. Every content has a meaning:
  *
  * - A place with `mapped` 0 is free; zero bytes are free places and the synchronous mode.
  * - Of several places of one page the first counts.
@@ -312,6 +312,15 @@ typedef struct tb_heap_step {
     uint32_t second_of;
 } tb_heap_step;
 
+/* A chunk that is live behind heap calls. */
+typedef struct tb_live_chunk {
+    uint64_t address; /* its plain address */
+    uint64_t size;    /* how many bytes were asked for; of none 1 */
+    uint64_t call;    /* the number of the call that made it, from 1 on */
+    uint32_t tag;     /* the tag of its pointer */
+    uint32_t unused;  /* 0 */
+} tb_live_chunk;
+
 /*
  * Something that is done to a machine between its slices, or a slice. act, number, addr and value
  * are read, the rest is written.
@@ -605,6 +614,24 @@ uint32_t tb_heap_replay(const tb_heap_setup *setup, tb_heap_step *steps, size_t 
                         uint64_t *bad);
 
 /*
+ * Makes the calls of a list as tb_heap_replay does, and copies as many of the heap's pages as
+ * `pages` holds, each once, in no order. TB_OK where it holds all, TB_NO_ROOM where it does not:
+ * *mapped is how many there are. TB_BAD_ARGUMENT is that of tb_heap_replay, with *mapped 0.
+ * TB_OUT_OF_MEMORY, with *mapped 0, leaves `pages` as it was; the answers may be entered then.
+ */
+uint32_t tb_heap_pages(const tb_heap_setup *setup, tb_heap_step *steps, size_t count,
+                       tb_page_entry *pages, size_t room, uint64_t *mapped, uint64_t *bad);
+
+/*
+ * Copies as many of the chunks that are live behind a list's calls as `chunks` holds, by ascending
+ * addresses, by the answers that tb_heap_replay has entered in it. TB_OK where it holds all,
+ * TB_NO_ROOM where it does not: *live is how many there are. TB_OUT_OF_MEMORY, with *live 0, leaves
+ * `chunks` as it was.
+ */
+uint32_t tb_heap_live(const tb_heap_step *steps, size_t count, tb_live_chunk *chunks, size_t room,
+                      uint64_t *live);
+
+/*
  * tb_run_until that also enters instructions and accesses: of those that are asked for each
  * instruction that is fetched, before it is attempted, and each access that is completed, both from
  * the start of their arrays on, in order. What `step` says is the same in both. It stops with
@@ -805,6 +832,40 @@ static inline uint32_t tb_checked_heap_replay(const tb_heap_setup *setup, tb_hea
         !tb_are_apart(setup, sizeof *setup, bad, sizeof *bad))
         return TB_BAD_ARGUMENT;
     return tb_heap_replay(setup, steps, count, bad);
+}
+
+/* tb_heap_pages that answers TB_BAD_ARGUMENT in the same cases. */
+static inline uint32_t tb_checked_heap_pages(const tb_heap_setup *setup, tb_heap_step *steps,
+                                             size_t count, tb_page_entry *pages, size_t room,
+                                             uint64_t *mapped, uint64_t *bad) {
+    const void *its[5];
+    size_t sizes[5];
+    if (!tb_is_array(setup, 1, sizeof *setup, 4) || !tb_is_array(steps, count, sizeof *steps, 8) ||
+        !tb_is_array(pages, room, sizeof *pages, 8) || !tb_is_array(mapped, 1, 8, 8) ||
+        !tb_is_array(bad, 1, 8, 8))
+        return TB_BAD_ARGUMENT;
+    its[0] = setup, sizes[0] = sizeof *setup;
+    its[1] = steps, sizes[1] = count * sizeof *steps;
+    its[2] = pages, sizes[2] = room * sizeof *pages;
+    its[3] = mapped, sizes[3] = 8;
+    its[4] = bad, sizes[4] = 8;
+    for (int i = 0; i < 5; i++)
+        for (int k = i + 1; k < 5; k++)
+            if (!tb_are_apart(its[i], sizes[i], its[k], sizes[k]))
+                return TB_BAD_ARGUMENT;
+    return tb_heap_pages(setup, steps, count, pages, room, mapped, bad);
+}
+
+/* tb_heap_live that answers TB_BAD_ARGUMENT in the same cases. */
+static inline uint32_t tb_checked_heap_live(const tb_heap_step *steps, size_t count,
+                                            tb_live_chunk *chunks, size_t room, uint64_t *live) {
+    if (!tb_is_array(steps, count, sizeof *steps, 8) ||
+        !tb_is_array(chunks, room, sizeof *chunks, 8) || !tb_is_array(live, 1, 8, 8) ||
+        !tb_are_apart(steps, count * sizeof *steps, chunks, room * sizeof *chunks) ||
+        !tb_are_apart(steps, count * sizeof *steps, live, 8) ||
+        !tb_are_apart(chunks, room * sizeof *chunks, live, 8))
+        return TB_BAD_ARGUMENT;
+    return tb_heap_live(steps, count, chunks, room, live);
 }
 
 /*

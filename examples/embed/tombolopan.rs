@@ -435,6 +435,17 @@ pub struct MachineEnd {
     pub regs: Regs,
 }
 
+/// A chunk that is live behind heap calls.
+#[repr(C)]
+#[derive(Clone, Copy, Debug, Default)]
+pub struct LiveChunk {
+    pub address: u64,
+    pub size: u64,
+    pub call: u64,
+    pub tag: u32,
+    pub unused: u32,
+}
+
 /// A page that is mapped.
 #[repr(C)]
 #[derive(Clone, Copy, Debug, Default)]
@@ -617,6 +628,22 @@ unsafe extern "C" {
         steps: *mut HeapStep,
         count: usize,
         bad: *mut u64,
+    ) -> u32;
+    fn tb_heap_pages(
+        setup: *const HeapSetup,
+        steps: *mut HeapStep,
+        count: usize,
+        pages: *mut PageEntry,
+        room: usize,
+        mapped: *mut u64,
+        bad: *mut u64,
+    ) -> u32;
+    fn tb_heap_live(
+        steps: *const HeapStep,
+        count: usize,
+        chunks: *mut LiveChunk,
+        room: usize,
+        live: *mut u64,
     ) -> u32;
     fn tb_run_traced(
         pages: *mut Page,
@@ -1023,6 +1050,29 @@ pub fn heap_replay(setup: &HeapSetup, steps: &mut [HeapStep]) -> (u32, u64) {
     let mut bad = 0;
     let code = unsafe { tb_heap_replay(setup, steps.as_mut_ptr(), steps.len(), &mut bad) };
     (code, bad)
+}
+
+/// Makes the calls of a list as `heap_replay` does, and copies as many of the heap's pages as there
+/// is room for: the answer, how many there are, and the number of the first step that is none.
+pub fn heap_pages(
+    setup: &HeapSetup,
+    steps: &mut [HeapStep],
+    pages: &mut [PageEntry],
+) -> (u32, u64, u64) {
+    let (mut mapped, mut bad) = (0, 0);
+    let (made, count) = (steps.as_mut_ptr(), steps.len());
+    let (entries, room) = (pages.as_mut_ptr(), pages.len());
+    let code = unsafe { tb_heap_pages(setup, made, count, entries, room, &mut mapped, &mut bad) };
+    (code, mapped, bad)
+}
+
+/// Copies as many of the chunks that are live behind the calls of a list as there is room for, by
+/// the answers that `heap_replay` has entered: the answer, and how many there are.
+pub fn heap_live(steps: &[HeapStep], chunks: &mut [LiveChunk]) -> (u32, u64) {
+    let mut live = 0;
+    let (found, room) = (chunks.as_mut_ptr(), chunks.len());
+    let code = unsafe { tb_heap_live(steps.as_ptr(), steps.len(), found, room, &mut live) };
+    (code, live)
 }
 
 /// The text of an instruction word at an address; `None` where it is no instruction.

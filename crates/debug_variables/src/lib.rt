@@ -11,8 +11,6 @@ mod frame_table;
 mod object_table;
 mod search;
 mod sections;
-#[cfg(test)]
-mod tests;
 mod types;
 mod unit;
 mod value;

@@ -12,8 +12,6 @@ mod place;
 mod places;
 mod selection;
 mod table;
-#[cfg(test)]
-mod tests;
 
 pub use judgement::{PlaceMisuse, PlaceMisuseKind};
 pub use place::{PlaceKind, PlaceText};

@@ -6,6 +6,7 @@ use crate::places::NamedPlaces;
 use crate::table::PAGE;
 use a64_bits::plain;
 use a64_instr::Instr;
+use a64_registers::Regs;
 use pointer_provenance::Shadow;
 use shadow_memory::{Full, PointerOrigin, Step};
 use std::alloc::AllocError;
@@ -76,7 +77,7 @@ impl NamedPlaces {
         let origin = if is_page {
             PointerOrigin::of_place(PAGE)
         } else {
-            self.object_origin(plain(value_in(step, rd)))
+            self.object_origin(plain(value_in(step.after, rd)))
         };
         self.marks.make(rd);
         shadow.point(rd, origin);
@@ -95,7 +96,7 @@ impl NamedPlaces {
             return Ok(());
         }
         let origin = shadow.register(rd).pointer();
-        let addr = plain(value_in(step, rd));
+        let addr = plain(value_in(step.after, rd));
         if origin == PointerOrigin::STACK {
             if rd != FRAME_POINTER && !is_high {
                 self.marks.make(rd);
@@ -145,7 +146,7 @@ impl NamedPlaces {
         rd: u8,
         index: usize,
     ) -> Result<(), AllocError> {
-        let addr = plain(value_in(step, rd));
+        let addr = plain(value_in(step.after, rd));
         let Some(place) = self.table.get(index) else {
             return Ok(());
         };
@@ -241,7 +242,7 @@ impl NamedPlaces {
         if origin.place() == Some(PAGE) {
             shadow.point(rd, PointerOrigin::UNKNOWN);
         } else if origin == PointerOrigin::STACK && rd != FRAME_POINTER {
-            let addr = plain(value_in(step, rd));
+            let addr = plain(value_in(step.after, rd));
             shadow.point(rd, self.frame_origin(step, shadow, addr)?);
         }
         Ok(())
@@ -284,7 +285,7 @@ impl NamedPlaces {
     }
 }
 
-/// A numbered register after an instruction, 0 for 31.
-fn value_in(step: &Step<'_>, n: u8) -> u64 {
-    step.after.x.get(usize::from(n)).copied().unwrap_or(0)
+/// The value of a numbered register, 0 for 31.
+fn value_in(regs: &Regs, n: u8) -> u64 {
+    regs.x.get(usize::from(n)).copied().unwrap_or(0)
 }

@@ -10,8 +10,6 @@ mod judgement;
 mod reach;
 mod register_rules;
 mod shadow;
-#[cfg(test)]
-mod tests;
 
 pub use chunk_table::TracedChunk;
 pub use heap_calls::ChunkChange;

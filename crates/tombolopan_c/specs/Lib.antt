@@ -1,6 +1,7 @@
 pub mod LentPages
 pub mod HeapCalls
 pub mod HeapReplays
+pub mod LiveChunks
 pub mod LentMemory
 pub mod LentPlaces
 pub mod LentRegisters

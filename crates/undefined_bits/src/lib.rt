@@ -9,8 +9,6 @@ mod memory_rules;
 mod register_rules;
 mod services;
 mod state;
-#[cfg(test)]
-mod tests;
 
 pub use judgement::{UndefinedUse, UseKind};
 pub use services::ServiceArguments;

@@ -229,6 +229,13 @@ class _HeapStep(ctypes.Structure):
     _fields_ = [("call", _HeapCall), ("first_of", c_uint32), ("second_of", c_uint32)]
 
 
+class _LiveChunk(ctypes.Structure):
+    _fields_ = [
+        ("address", c_uint64), ("size", c_uint64), ("call", c_uint64), ("tag", c_uint32),
+        ("unused", c_uint32),
+    ]
+
+
 class _MachineAct(ctypes.Structure):
     _fields_ = [
         ("act", c_uint32), ("number", c_uint32), ("addr", c_uint64), ("value", c_uint64),
@@ -311,6 +318,13 @@ _CALLS = {
     ],
     "tb_heap_calls": [POINTER(_HeapSetup), POINTER(_HeapCall), c_size_t],
     "tb_heap_replay": [POINTER(_HeapSetup), POINTER(_HeapStep), c_size_t, POINTER(c_uint64)],
+    "tb_heap_pages": [
+        POINTER(_HeapSetup), POINTER(_HeapStep), c_size_t, POINTER(_PageEntry), c_size_t,
+        POINTER(c_uint64), POINTER(c_uint64),
+    ],
+    "tb_heap_live": [
+        POINTER(_HeapStep), c_size_t, POINTER(_LiveChunk), c_size_t, POINTER(c_uint64),
+    ],
     "tb_run_traced": [
         *_MEMORY, POINTER(_Regs), POINTER(_TraceRequest), POINTER(_TracedInstruction), c_size_t,
         POINTER(_TracedAccess), c_size_t, POINTER(_TraceReport),

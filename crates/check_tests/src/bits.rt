@@ -1,13 +1,11 @@
 //! Each call once, on one chunk. What follows from many instructions is held by
 //! `tests/test_checks.py`, over programs.
 
-use crate::judgement::UseKind;
-use crate::services::ServiceArguments;
-use crate::state::UndefinedBits;
 use a64_instr::Instr;
 use a64_registers::Regs;
 use shadow_memory::{AccessedBytes, RegisterAccess, Step};
 use std::test::Fail;
+use undefined_bits::{ServiceArguments, UndefinedBits, UseKind};
 
 /// Where a chunk begins.
 const CHUNK: u64 = 0x1200_0010;

@@ -1,6 +1,6 @@
 //! Which names are of functions that make and free chunks, and which of these belong together.
 
-use crate::function::HeapFunction;
+use heap_functions::HeapFunction;
 use std::test::Fail;
 
 #[test]

@@ -1,8 +1,8 @@
 //! Which operands an operation has no result for.
 
-use crate::fault::{ArithmeticFault, ArithmeticKind};
 use a64_instr::Instr;
 use a64_registers::Regs;
+use arithmetic_faults::{ArithmeticFault, ArithmeticKind};
 use std::test::Fail;
 
 #[test]

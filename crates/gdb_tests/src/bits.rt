@@ -1,9 +1,10 @@
 //! The undefined bits of results, and those of memory.
 
-use crate::bit_memory::BitMemory;
-use crate::bit_rules::{BitOperand, and, between, difference, or, product, sum};
-use crate::origin::{UndefinedOrigin, UndefinedPlace, UndefinedValue};
 use std::test::Fail;
+use undefined_values::{
+    BitMemory, BitOperand, UndefinedOrigin, UndefinedPlace, UndefinedValue, and, between,
+    difference, or, product, sum,
+};
 
 #[test]
 fn rules_of_bits(rt: HostRuntime) -> Result<(), Fail> {

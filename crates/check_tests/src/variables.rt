@@ -1,8 +1,6 @@
 //! What is found in files that are none. What compilers write is read by `tests/test_checks.py`.
 
-use crate::declaration::VariableName;
-use crate::frame_table::FrameVariables;
-use crate::object_table::ImageObjects;
+use debug_variables::{FrameVariables, ImageObjects, VariableName};
 use std::test::Fail;
 
 #[test]

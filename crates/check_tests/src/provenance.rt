@@ -1,12 +1,12 @@
 //! Each call once, on one chunk. What follows from many instructions is held by
 //! `tests/test_checks.py`, over programs.
 
-use crate::heap_calls::ChunkChange;
-use crate::judgement::MisuseKind;
-use crate::shadow::{Pointed, Shadow};
 use a64_instr::Instr;
 use a64_registers::Regs;
 use heap_functions::{HeapFunction, ReturnedChunk};
+use mte_flat::Flat;
+use mte_tags::TagMode;
+use pointer_provenance::{ChunkChange, MisuseKind, Pointed, ReachTable, Shadow};
 use shadow_memory::{AccessedBytes, PointerOrigin, RegisterAccess, Step};
 use std::test::Fail;
 
@@ -67,6 +67,9 @@ fn a_chunk_is_followed(rt: HostRuntime) -> Result<(), Fail> {
     })?;
     shadow.note_service(Some(BEHIND), &regs);
     assert!(rt; shadow.judge_free(CHUNK, None).is_none());
+    let mut memory = Flat::new(rt.alloc(), 1, TagMode::Sync)?;
+    let table = ReachTable::of(rt.alloc(), &shadow, &regs, &[], &mut memory)?;
+    assert!(rt; table.reachable() == 1 && table.lost(rt.alloc(), &shadow)?.is_empty());
     shadow.point(2, PointerOrigin::of_place(1));
     let mut marks = [false; 2];
     shadow.mark(Pointed::Places, &mut marks);

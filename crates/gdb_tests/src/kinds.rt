@@ -1,7 +1,6 @@
 //! What the words of an option and the lines of a file mean.
 
-use crate::kinds::{CheckKind, CheckKinds};
-use crate::suppressions::{LineFault, SuppressionFault, Suppressions};
+use check_kinds::{CheckKind, CheckKinds, LineFault, SuppressionFault, Suppressions};
 use obstacle::Obstacle;
 use std::alloc::AllocError;
 use std::test::Fail;

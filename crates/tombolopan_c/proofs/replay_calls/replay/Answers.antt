@@ -2,7 +2,7 @@ use Rattle.std.proofs.Common.{rules, ◌≡◌, ◌<◌, ◌∙◌, length, sym,
 use Rattle.tombolopan_c.specs.HeapCalls.{start_of}
 use Rattle.tombolopan_c.specs.HeapReplays.{Replay}
 use Rattle.tombolopan_c.proofs.HeapReplays.{replayed_start, replayed_more}
-use Rattle.tombolopan_c.proofs.replay_calls.tb_heap_replay.Goals as goal
+use Rattle.tombolopan_c.proofs.replay_calls.replay.Goals as goal
 
 pub loop-i-init : goal.loop-i-init
 loop-i-init c =

@@ -1,10 +1,9 @@
 //! Each call once, of an image without symbols. What is known of others is held by
 //! `tests/test_checks.py`, over programs.
 
-use crate::judgement::PlaceMisuseKind;
-use crate::places::NamedPlaces;
 use a64_instr::Instr;
 use a64_registers::Regs;
+use named_places::{NamedPlaces, PlaceMisuseKind};
 use pointer_provenance::Shadow;
 use shadow_memory::{AccessedBytes, PointerOrigin, RegisterAccess, Step};
 use std::test::Fail;
