@@ -6,7 +6,7 @@ import pathlib
 import pytest
 
 from tests.support import fuzzers
-from tests.support.embedding.built import in_python
+from tests.support.embedding.built import COMPILERS, DRIVERS, in_c, in_python, in_rust
 from tests.support.fuzzers import FUZZ, PLANTED
 from tests.support.growth import MEASURED
 from tests.support.instructions import call, move, program
@@ -17,6 +17,7 @@ from tests.test_python_package import PACKAGE, told
 # malloc(24); yield; read(x0, 16); exit with the first byte that was read.
 IMAGE = program(*call(3, 24), 0xAA0003E9, *call(9), 0xAA0903E0, move(1, 16), move(8, 2), 0xD4000001,
                 0x39400120, move(8, 0), 0xD4000001)
+EXIT = 2
 BEGIN = f"""
 import ctypes
 from tombolopan.abi import _library, _Fuzz, _FuzzInput, _AloneEnd
@@ -118,6 +119,29 @@ print("done")
 """) == "done\n"
 
 
+@pytest.mark.parametrize("variant", [*COMPILERS, "rust"])
+def test_from_c_and_rust(shared: pathlib.Path, variant: str) -> None:
+    """Machines that are made, run, made again, freed twice and run without: the same code, status,
+    steps and counts in C, C++ and Rust, also where sanitizers look on."""
+    image, is_rust = fuzzers.cards(shared), variant == "rust"
+    it = in_rust(shared, DRIVERS / "fuzzed.rs") if is_rust else in_c(
+        shared, variant, DRIVERS / "fuzzed.c")
+    ran = run([*it.words, image], extra=it.extra)
+    assert (ran.status, ran.errors) == (0, "")
+    lines = [[int(word) for word in line.split()[1:]] for line in ran.output.splitlines()]
+    # A new machine, a run without one, one that is refused, a map that may not be.
+    ok, none, refused, bad = 0, 14, 12, 8
+    codes = [none, refused, none, ok, ok, ok, ok, bad, bad, ok, ok, none, ok]
+    if is_rust:
+        codes = codes[1:11] + codes[12:]
+    assert [it[0] for it in lines] == codes and all(it[0] == it[1] for it in lines)
+    ended = [it for it in lines if it[2] == EXIT]
+    assert [it[4] for it in ended] == [0, 0, 1, 0]
+    # Steps and edges differ where the cards do, and a bad call counts nothing.
+    assert len({tuple(it[3:]) for it in ended}) == 4 and all(it[5] > 0 for it in ended)
+    assert all(it[5] == 0 for it in lines if it[0] != ok)
+
+
 def test_what_is_counted(shared: pathlib.Path) -> None:
     """Counts are those of the run alone, the same each time, and others for another way."""
     image = fuzzers.cards(shared)
@@ -182,8 +206,10 @@ print(hex(first.pc), first.steps)
     crash = tmp_path / "crash"
     crash.write_bytes(text)
     report = run([alone, "--input", crash, image], seconds=120)
-    assert cause in report.output and f"{int(said[0], 16):#x}" in report.output.replace(" ", " ")
-    assert report.output.count("cards.c:") >= (2 if bug == "overflow" else 3)
+    assert f"Cause: {cause} " in report.errors and f"{int(said[0], 16):#018x}" in report.errors
+    stacks = report.errors.split("Cause: ")
+    assert "read_card" in stacks[0] and "cards.c:" in stacks[0] and "allocated by" in stacks[1]
+    assert bug == "overflow" or "freed by" in stacks[1]
 
 
 def test_libfuzzer_finds_a_bug(shared: pathlib.Path, tmp_path: pathlib.Path) -> None:

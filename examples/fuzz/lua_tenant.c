@@ -1,4 +1,5 @@
-/* Lua as a tenant: it starts with its libraries and yields, then runs the input as a chunk. */
+/* Lua as a tenant: it starts with its libraries and yields, then runs the input as a chunk. It does
+   not close its state, which would take three times the steps of a short chunk. */
 #include <lauxlib.h>
 #include <lua.h>
 #include <lualib.h>
@@ -16,6 +17,5 @@ int main(void)
     int bad = luaL_loadbufferx(lua, text, count, "input", "t");
     if (!bad)
         bad = lua_pcall(lua, 0, 0, 0);
-    lua_close(lua);
     return bad;
 }

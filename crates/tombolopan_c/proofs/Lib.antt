@@ -8,3 +8,4 @@ mod LiveChunks
 mod Until
 mod Loads
 mod Traced
+mod Fuzzed
