@@ -36,12 +36,15 @@ STRUCTS = {
     "StatusReport": ("tb_status", "Status", "_Status"),
     "KeptCall": ("tb_kept_call", "KeptCall", "_KeptCall"),
     "AloneEnd": ("tb_alone_end", "AloneEnd", "_AloneEnd"),
+    "FuzzHandle": ("tb_fuzz", "RawFuzz", "_Fuzz"),
+    "LentFuzzInput": ("tb_fuzz_input", "RawFuzzInput", "_FuzzInput"),
 }
 CALLS = [
     "tb_version", "tb_build_info", "tb_session", "tb_alone", "tb_memory_init", "tb_map", "tb_unmap",
     "tb_read", "tb_write", "tb_load", "tb_load_tag", "tb_store_tags", "tb_step", "tb_run",
     "tb_run_until", "tb_heap_calls", "tb_heap_replay", "tb_run_traced", "tb_disassemble",
-    "tb_machine_acts", "tb_machine_pages", "tb_heap_pages", "tb_heap_live",
+    "tb_machine_acts", "tb_machine_pages", "tb_heap_pages", "tb_heap_live", "tb_fuzz_new",
+    "tb_fuzz_run", "tb_fuzz_free",
 ]
 FOLDERS = ("crates", "docs", "include", "examples", "tools")
 FIELD = r"(?<=^    pub )\w+: [^,\n]+(?=,)|(?<=^    )(?!pub )\w+: [^,\n]+(?=,)"

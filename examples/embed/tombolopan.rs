@@ -20,6 +20,7 @@ pub const TB_OUT_OF_MEMORY: u32 = 10;
 pub const TB_SCRIPT: u32 = 11;
 pub const TB_REFUSED: u32 = 12;
 pub const TB_STOPPED: u32 = 13;
+pub const TB_NO_MACHINE: u32 = 14;
 
 pub const TB_TRANSLATION: u32 = 1;
 pub const TB_PERMISSION: u32 = 2;
@@ -108,6 +109,7 @@ pub fn text(code: u32) -> &'static str {
         TB_SCRIPT => "faulty script line",
         TB_REFUSED => "tenant refused",
         TB_STOPPED => "stopped",
+        TB_NO_MACHINE => "no machine",
         _ => "unknown",
     }
 }
@@ -395,6 +397,22 @@ pub struct AloneEnd {
     pub refusal: u32,
 }
 
+/// A machine that is kept between calls.
+#[repr(C)]
+struct RawFuzz {
+    machine: *mut u8,
+}
+
+#[repr(C)]
+struct RawFuzzInput {
+    input: *const u8,
+    input_length: usize,
+    slices: *const u32,
+    slice_count: usize,
+    saturating: u32,
+    unused: u32,
+}
+
 /// Something that is done to a machine between its slices, or a slice.
 #[repr(C)]
 #[derive(Clone, Copy, Debug, Default)]
@@ -480,6 +498,7 @@ const _: () = assert!(size_of::<Bytes>() == 16 && size_of::<SessionEnd>() == 24)
 const _: () = assert!(size_of::<RawTerms>() == 72 && size_of::<AloneEnd>() == 88);
 const _: () = assert!(size_of::<MachineAct>() == 64 && size_of::<PageEntry>() == 16);
 const _: () = assert!(size_of::<MachineEnd>() == 360);
+const _: () = assert!(size_of::<RawFuzz>() == 8 && size_of::<RawFuzzInput>() == 40);
 
 unsafe extern "C" {
     safe fn tb_version() -> u32;
@@ -502,6 +521,15 @@ unsafe extern "C" {
         call_room: usize,
         end: *mut AloneEnd,
     ) -> u32;
+    fn tb_fuzz_new(terms: *const RawTerms, fuzz: *mut RawFuzz, end: *mut AloneEnd) -> u32;
+    fn tb_fuzz_run(
+        fuzz: *mut RawFuzz,
+        run: *const RawFuzzInput,
+        map: *mut u8,
+        map_length: usize,
+        end: *mut AloneEnd,
+    ) -> u32;
+    fn tb_fuzz_free(fuzz: *mut RawFuzz);
     fn tb_machine_acts(
         terms: *const RawTerms,
         acts: *mut MachineAct,
@@ -755,6 +783,46 @@ pub fn alone(
     let (bytes, room) = (output.as_mut_ptr(), output.len());
     unsafe { tb_alone(&raw, bytes, room, calls.as_mut_ptr(), calls.len(), &mut end) };
     end
+}
+
+/// A tenant's machine that is kept as it is behind its setup: each run begins there. It stays on its
+/// thread.
+pub struct Fuzz {
+    raw: RawFuzz,
+}
+
+impl Fuzz {
+    /// Admits a tenant, runs the slices of its setup, and keeps its machine; and how it stands.
+    /// The machine runs only where the code is TB_OK.
+    pub fn new(terms: &Terms<'_>, setup: &[u32]) -> (Fuzz, AloneEnd) {
+        let raw = terms.raw(setup);
+        let mut fuzz = Fuzz { raw: RawFuzz { machine: std::ptr::null_mut() } };
+        let mut end = AloneEnd::default();
+        unsafe { tb_fuzz_new(&raw, &mut fuzz.raw, &mut end) };
+        (fuzz, end)
+    }
+
+    /// Runs it from its setup on, with an input, and counts its edges in `map`, of a power of two of
+    /// counts from 256 to 65536; a count stays at 255.
+    pub fn run(&mut self, input: &[u8], slices: &[u32], map: &mut [u8]) -> AloneEnd {
+        let raw = RawFuzzInput {
+            input: input.as_ptr(),
+            input_length: input.len(),
+            slices: slices.as_ptr(),
+            slice_count: slices.len(),
+            saturating: 1,
+            unused: 0,
+        };
+        let mut end = AloneEnd::default();
+        unsafe { tb_fuzz_run(&mut self.raw, &raw, map.as_mut_ptr(), map.len(), &mut end) };
+        end
+    }
+}
+
+impl Drop for Fuzz {
+    fn drop(&mut self) {
+        unsafe { tb_fuzz_free(&mut self.raw) };
+    }
 }
 
 /// A memory with tags, of so many places for pages. A clone shares nothing.

@@ -12,4 +12,5 @@ pub mod LentTraces
 pub mod LentBuffers
 pub mod LentSessions
 pub mod LoneTenants
+pub mod LentFuzz
 pub mod LentMachines

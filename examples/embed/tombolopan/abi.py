@@ -25,11 +25,13 @@ OUT_OF_MEMORY = 10
 SCRIPT = 11
 REFUSED = 12
 STOPPED = 13
+NO_MACHINE = 14
 CODES = {
     OK: "ok", FAULT: "fault", SVC: "svc", BREAKPOINT: "breakpoint", ILLEGAL: "illegal instruction",
     NOT_MAPPED: "page not mapped", ALREADY_MAPPED: "page already mapped", NO_ROOM: "no room",
     BAD_ARGUMENT: "bad argument", ABORT: "heap abort", OUT_OF_MEMORY: "out of memory",
     SCRIPT: "faulty script line", REFUSED: "tenant refused", STOPPED: "stopped",
+    NO_MACHINE: "no machine",
 }
 
 # tb_fault_kind
@@ -176,6 +178,17 @@ class _AloneEnd(ctypes.Structure):
     ]
 
 
+class _Fuzz(ctypes.Structure):
+    _fields_ = [("machine", c_void_p)]
+
+
+class _FuzzInput(ctypes.Structure):
+    _fields_ = [
+        ("input", c_void_p), ("input_length", c_size_t), ("slices", c_void_p),
+        ("slice_count", c_size_t), ("saturating", c_uint32), ("unused", c_uint32),
+    ]
+
+
 class _Page(ctypes.Structure):
     _fields_ = [
         ("number", c_uint64), ("mapped", c_uint32), ("attrs", c_uint32), ("bytes", c_uint8 * 4096),
@@ -277,6 +290,11 @@ _CALLS = {
     "tb_alone": [
         POINTER(_Terms), c_void_p, c_size_t, POINTER(_KeptCall), c_size_t, POINTER(_AloneEnd),
     ],
+    "tb_fuzz_new": [POINTER(_Terms), POINTER(_Fuzz), POINTER(_AloneEnd)],
+    "tb_fuzz_run": [
+        POINTER(_Fuzz), POINTER(_FuzzInput), c_void_p, c_size_t, POINTER(_AloneEnd),
+    ],
+    "tb_fuzz_free": [POINTER(_Fuzz)],
     "tb_machine_acts": [
         POINTER(_Terms), POINTER(_MachineAct), c_size_t, c_void_p, c_size_t, POINTER(_KeptCall),
         c_size_t, POINTER(_MachineEnd),
@@ -314,7 +332,7 @@ _CALLS = {
     "tb_disassemble": [c_uint32, c_uint64, c_void_p, c_size_t],
 }
 # What those answer that answer no number of 32 bits.
-_RESULTS = {"tb_memory_init": None}
+_RESULTS = {"tb_memory_init": None, "tb_fuzz_free": None}
 
 
 def _library_name() -> str:
