@@ -282,10 +282,10 @@ typedef struct tb_alone_end {
 } tb_alone_end;
 
 /*
- * A tenant's machine that is kept between calls, or none where `machine` is null: {0} at first. What
- * `machine` points to is the library's. It is neither read nor copied, and it is changed by
- * tb_fuzz_new and tb_fuzz_free alone. A machine is of use to one thread at a time, the one that made
- * it; any number of threads may have machines of their own.
+ * A tenant's machine that is kept between calls, or none where `machine` is null: {0} at first.
+ * What `machine` points to is the library's. It is neither read nor copied, and it is changed by
+ * tb_fuzz_new and tb_fuzz_free alone. A machine is used by the thread that made it; any number of
+ * threads may have machines of their own.
  */
 typedef struct tb_fuzz {
     uint8_t *machine;
@@ -297,7 +297,7 @@ typedef struct tb_fuzz_input {
     size_t input_length;
     const uint32_t *slices; /* how many instructions each slice of the run attempts at most */
     size_t slice_count;
-    uint32_t saturating; /* any number but 0 keeps a count at 255; else 1 comes behind 255 */
+    uint32_t saturating; /* any number but 0 keeps a count at 255; else 0 comes behind it */
     uint32_t unused;
 } tb_fuzz_input;
 
@@ -484,9 +484,9 @@ uint32_t tb_fuzz_new(const tb_terms *terms, tb_fuzz *fuzz, tb_alone_end *end);
  * `run`: it does what the tenant would do that is started anew with that input and does the setup
  * with none read. Only pages that were written since are copied.
  * Each branch that is taken adds one to a count of `map`, whose place is a hash of the two
- * addresses; the map is otherwise left as it is. Where 255 is passed, `run` says what comes. The run
- * is the same whatever the map holds. The counts stay in `map`: clear it before a run if it is to
- * have that run's alone.
+ * addresses; the map is otherwise left as it is. What comes behind 255, `run` says. The run is the
+ * same whatever the map holds. The counts stay in `map`: clear it before a run if it is to have
+ * those of that run alone.
  * `end` has all steps, those of the setup too, as tb_alone tells them. TB_NO_MACHINE where `fuzz`
  * holds none. TB_BAD_ARGUMENT, where `map_length` is no power of two from 256 to 65536, and
  * TB_OUT_OF_MEMORY change nothing but `end`.

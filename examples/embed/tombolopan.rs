@@ -785,8 +785,8 @@ pub fn alone(
     end
 }
 
-/// A tenant's machine that is kept as it is behind its setup: each run begins there. It stays on its
-/// thread.
+/// A tenant's machine that is kept as it is behind its setup: each run begins there. It stays on
+/// its thread.
 pub struct Fuzz {
     raw: RawFuzz,
 }
@@ -802,8 +802,8 @@ impl Fuzz {
         (fuzz, end)
     }
 
-    /// Runs it from its setup on, with an input, and counts its edges in `map`, of a power of two of
-    /// counts from 256 to 65536; a count stays at 255.
+    /// Runs it from its setup on, with an input, and counts its edges in `map`, of a power of two
+    /// of counts from 256 to 65536; a count stays at 255.
     pub fn run(&mut self, input: &[u8], slices: &[u32], map: &mut [u8]) -> AloneEnd {
         let raw = RawFuzzInput {
             input: input.as_ptr(),

@@ -16,8 +16,8 @@
 void tenant_load(void);
 
 /*
- * Runs it with an input, and counts its edges in a map of a power of two of counts from 256 to 65536.
- * Whether it ended with a fault, an abort of the heap, an illegal word or a break.
+ * Runs it with an input, and counts its edges in a map, of a power of two of counts from 256 to
+ * 65536. Whether it ended with a fault, an abort of the heap, an illegal word or a break.
  */
 int tenant_run(const uint8_t *input, size_t length, uint8_t *map, size_t map_length,
                int saturating);

@@ -2,7 +2,7 @@
 
 ghost use Rattle.std.specs.Prelude.{◌≡◌, Option, Some, None, option_map};
 ghost use Rattle.tenant_snapshot.specs.declared.tenant.SnapshotTenant.{SnapshotTenant as Machine};
-ghost use Rattle.fuzz_handle.specs.Held.{held_at};
+ghost use Rattle.fuzz_handle.specs.Held.{held_at, coded_held};
 
 use crate::loose_box::LooseBox;
 use std::alloc::Global;
@@ -17,7 +17,7 @@ use tenant_snapshot::SnapshotTenant;
 pub struct FuzzHandle {
     machine: *mut u8,
     /// The machine.
-    pub ghost value: { Option Machine },
+    pub ghost value: { Option Machine } by { coded_held },
 }
 
 impl Model for FuzzHandle {

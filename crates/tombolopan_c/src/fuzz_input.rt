@@ -8,7 +8,7 @@ pub struct LentFuzzInput<'a> {
     pub input: &'a [u8],
     /// How many instructions each of the run's slices attempts at most.
     pub slices: &'a [u32],
-    /// Any number but 0 keeps a count at 255; else 1 comes behind 255.
+    /// Any number but 0 keeps a count at 255; else 0 comes behind it.
     pub saturating: u32,
     /// Not used.
     pub unused: u32,

@@ -1,4 +1,4 @@
-"""A tenant that sets itself up once and runs many times from there, each time with another input."""
+"""A tenant that sets itself up once and runs many times from there, with an input each time."""
 from __future__ import annotations
 
 import ctypes
