@@ -1,12 +1,14 @@
 /*
- * libtombolopan_c.a: sessions of several tenants, a tenant alone, a tagged memory as FEAT_MTE2 has
- * it, a step of an A64 core, a run of steps, and the calls of a heap with tags.
+ * libtombolopan_c.a: sessions of several tenants, a tenant alone, once or many times from one
+ * snapshot, a tagged memory as FEAT_MTE2 has it, a step of an A64 core, a run of steps, and the
+ * calls of a heap with tags.
  *
  * All memory is the caller's and is lent to each call: files, an array of places for pages, the tag
- * state, the registers. There is no handle. The library keeps nothing between calls, and only
- * tb_session, tb_alone, tb_machine_acts, tb_machine_pages, tb_heap_calls and tb_heap_replay
- * allocate, for their own time. So the caller may read and write all of it between calls, copy it,
- * or place it in a file. Every content has a meaning:
+ * state, the registers. The library keeps nothing between calls but the machine that tb_fuzz_new
+ * makes and tb_fuzz_free frees (tb_fuzz), and only these, tb_fuzz_run, tb_session, tb_alone,
+ * tb_machine_acts, tb_machine_pages, tb_heap_calls, tb_heap_replay, tb_heap_pages and tb_heap_live
+ * allocate, the last eight for their own time. So the caller may read and write all that it lends
+ * between calls, copy it, or place it in a file. Every content has a meaning:
  *
  * - A place with `mapped` 0 is free; zero bytes are free places and the synchronous mode.
  * - Of several places of one page the first counts.
@@ -58,7 +60,8 @@ enum tb_code {
     TB_OUT_OF_MEMORY = 10, /* an allocation failed */
     TB_SCRIPT = 11,        /* a line of the script is faulty */
     TB_REFUSED = 12,       /* the tenant is not admitted */
-    TB_STOPPED = 13        /* the PC came to one of the stops */
+    TB_STOPPED = 13,       /* the PC came to one of the stops */
+    TB_NO_MACHINE = 14     /* the handle holds no machine */
 };
 
 /* Why an access faulted; 0 is no fault. */
@@ -279,6 +282,26 @@ typedef struct tb_alone_end {
 } tb_alone_end;
 
 /*
+ * A tenant's machine that is kept between calls, or none where `machine` is null: {0} at first.
+ * What `machine` points to is the library's. It is neither read nor copied, and it is changed by
+ * tb_fuzz_new and tb_fuzz_free alone. A machine is used by the thread that made it; any number of
+ * threads may have machines of their own.
+ */
+typedef struct tb_fuzz {
+    uint8_t *machine;
+} tb_fuzz;
+
+/* What a run of such a machine begins with. */
+typedef struct tb_fuzz_input {
+    const uint8_t *input; /* the bytes that the tenant may read */
+    size_t input_length;
+    const uint32_t *slices; /* how many instructions each slice of the run attempts at most */
+    size_t slice_count;
+    uint32_t saturating; /* any number but 0 keeps a count at 255; else 0 comes behind it */
+    uint32_t unused;
+} tb_fuzz_input;
+
+/*
  * A heap call in a list, whose arguments may be the answers of earlier ones: `first_of` and
  * `second_of` are 0, or the number of an earlier call of the list, from 1 on, whose answer is added
  * to call.first or call.second, modulo 2^64.
@@ -288,6 +311,15 @@ typedef struct tb_heap_step {
     uint32_t first_of;
     uint32_t second_of;
 } tb_heap_step;
+
+/* A chunk that is live behind heap calls. */
+typedef struct tb_live_chunk {
+    uint64_t address; /* its plain address */
+    uint64_t size;    /* how many bytes were asked for; of none 1 */
+    uint64_t call;    /* the number of the call that made it, from 1 on */
+    uint32_t tag;     /* the tag of its pointer */
+    uint32_t unused;  /* 0 */
+} tb_live_chunk;
 
 /*
  * Something that is done to a machine between its slices, or a slice. act, number, addr and value
@@ -399,6 +431,8 @@ TB_ASSERT(sizeof(tb_alone_end) == 88 && offsetof(tb_alone_end, status) == 32);
 TB_ASSERT(sizeof(tb_machine_act) == 64 && offsetof(tb_machine_act, fault) == 40);
 TB_ASSERT(sizeof(tb_machine_end) == 360 && offsetof(tb_machine_end, regs) == 88);
 TB_ASSERT(sizeof(tb_page_entry) == 16 && offsetof(tb_page_entry, attrs) == 8);
+TB_ASSERT(sizeof(tb_fuzz) == 8);
+TB_ASSERT(sizeof(tb_fuzz_input) == 40 && offsetof(tb_fuzz_input, saturating) == 32);
 
 /* The version of these layouts and calls, TB_VERSION. */
 uint32_t tb_version(void);
@@ -435,6 +469,33 @@ uint32_t tb_session(uint32_t frames, const uint8_t *script, size_t script_length
  */
 uint32_t tb_alone(const tb_terms *terms, uint8_t *output, size_t output_room, tb_kept_call *calls,
                   size_t call_room, tb_alone_end *end);
+
+/*
+ * Admits a tenant alone, runs the slices of `terms`, which are its setup, and keeps the machine as
+ * it is then. A tenant that sets itself up and yields (service 9) stands behind its yield after a
+ * slice that is long enough. `end` tells how the tenant stands: end->status is TB_STATUS_RUNNING
+ * where it will go on. A machine that `fuzz` holds is freed first. TB_REFUSED and TB_OUT_OF_MEMORY
+ * leave `fuzz` without a machine. It takes some 5,000 bytes twice for each page of the reservation.
+ */
+uint32_t tb_fuzz_new(const tb_terms *terms, tb_fuzz *fuzz, tb_alone_end *end);
+
+/*
+ * Makes the machine what it was behind its setup, with another input, and runs it for the slices of
+ * `run`: it does what the tenant would do that is started anew with that input and does the setup
+ * with none read. Only pages that were written since are copied.
+ * Each branch that is taken adds one to a count of `map`, whose place is a hash of the two
+ * addresses; the map is otherwise left as it is. What comes behind 255, `run` says. The run is the
+ * same whatever the map holds. The counts stay in `map`: clear it before a run if it is to have
+ * those of that run alone.
+ * `end` has all steps, those of the setup too, as tb_alone tells them. TB_NO_MACHINE where `fuzz`
+ * holds none. TB_BAD_ARGUMENT, where `map_length` is no power of two from 256 to 65536, and
+ * TB_OUT_OF_MEMORY change nothing but `end`.
+ */
+uint32_t tb_fuzz_run(tb_fuzz *fuzz, const tb_fuzz_input *run, uint8_t *map, size_t map_length,
+                     tb_alone_end *end);
+
+/* Frees the machine, if there is one; then `fuzz` holds none. */
+void tb_fuzz_free(tb_fuzz *fuzz);
 
 /*
  * Admits a tenant alone, with its heap and its services, and does acts to its machine in order:
@@ -551,6 +612,24 @@ uint32_t tb_heap_calls(const tb_heap_setup *setup, tb_heap_call *calls, size_t c
  */
 uint32_t tb_heap_replay(const tb_heap_setup *setup, tb_heap_step *steps, size_t count,
                         uint64_t *bad);
+
+/*
+ * Makes the calls of a list as tb_heap_replay does, and copies as many of the heap's pages as
+ * `pages` holds, each once, in no order. TB_OK where it holds all, TB_NO_ROOM where it does not:
+ * *mapped is how many there are. TB_BAD_ARGUMENT is that of tb_heap_replay, with *mapped 0.
+ * TB_OUT_OF_MEMORY, with *mapped 0, leaves `pages` as it was; the answers may be entered then.
+ */
+uint32_t tb_heap_pages(const tb_heap_setup *setup, tb_heap_step *steps, size_t count,
+                       tb_page_entry *pages, size_t room, uint64_t *mapped, uint64_t *bad);
+
+/*
+ * Copies as many of the chunks that are live behind a list's calls as `chunks` holds, by ascending
+ * addresses, by the answers that tb_heap_replay has entered in it. TB_OK where it holds all,
+ * TB_NO_ROOM where it does not: *live is how many there are. TB_OUT_OF_MEMORY, with *live 0, leaves
+ * `chunks` as it was.
+ */
+uint32_t tb_heap_live(const tb_heap_step *steps, size_t count, tb_live_chunk *chunks, size_t room,
+                      uint64_t *live);
 
 /*
  * tb_run_until that also enters instructions and accesses: of those that are asked for each
@@ -755,6 +834,40 @@ static inline uint32_t tb_checked_heap_replay(const tb_heap_setup *setup, tb_hea
     return tb_heap_replay(setup, steps, count, bad);
 }
 
+/* tb_heap_pages that answers TB_BAD_ARGUMENT in the same cases. */
+static inline uint32_t tb_checked_heap_pages(const tb_heap_setup *setup, tb_heap_step *steps,
+                                             size_t count, tb_page_entry *pages, size_t room,
+                                             uint64_t *mapped, uint64_t *bad) {
+    const void *its[5];
+    size_t sizes[5];
+    if (!tb_is_array(setup, 1, sizeof *setup, 4) || !tb_is_array(steps, count, sizeof *steps, 8) ||
+        !tb_is_array(pages, room, sizeof *pages, 8) || !tb_is_array(mapped, 1, 8, 8) ||
+        !tb_is_array(bad, 1, 8, 8))
+        return TB_BAD_ARGUMENT;
+    its[0] = setup, sizes[0] = sizeof *setup;
+    its[1] = steps, sizes[1] = count * sizeof *steps;
+    its[2] = pages, sizes[2] = room * sizeof *pages;
+    its[3] = mapped, sizes[3] = 8;
+    its[4] = bad, sizes[4] = 8;
+    for (int i = 0; i < 5; i++)
+        for (int k = i + 1; k < 5; k++)
+            if (!tb_are_apart(its[i], sizes[i], its[k], sizes[k]))
+                return TB_BAD_ARGUMENT;
+    return tb_heap_pages(setup, steps, count, pages, room, mapped, bad);
+}
+
+/* tb_heap_live that answers TB_BAD_ARGUMENT in the same cases. */
+static inline uint32_t tb_checked_heap_live(const tb_heap_step *steps, size_t count,
+                                            tb_live_chunk *chunks, size_t room, uint64_t *live) {
+    if (!tb_is_array(steps, count, sizeof *steps, 8) ||
+        !tb_is_array(chunks, room, sizeof *chunks, 8) || !tb_is_array(live, 1, 8, 8) ||
+        !tb_are_apart(steps, count * sizeof *steps, chunks, room * sizeof *chunks) ||
+        !tb_are_apart(steps, count * sizeof *steps, live, 8) ||
+        !tb_are_apart(chunks, room * sizeof *chunks, live, 8))
+        return TB_BAD_ARGUMENT;
+    return tb_heap_live(steps, count, chunks, room, live);
+}
+
 /*
  * Whether what a tenant begins with may be lent, its arrays too, and has no byte in common with an
  * array that is written.
@@ -868,6 +981,7 @@ static inline const char *tb_text(uint32_t code) {
     case TB_SCRIPT: return "faulty script line";
     case TB_REFUSED: return "tenant refused";
     case TB_STOPPED: return "stopped";
+    case TB_NO_MACHINE: return "no machine";
     default: return "unknown";
     }
 }

@@ -22,6 +22,7 @@ STRUCTS = {
     "HeapSetup": ("tb_heap_setup", "HeapSetup", "_HeapSetup"),
     "LentHeapCall": ("tb_heap_call", "HeapCall", "_HeapCall"),
     "HeapStep": ("tb_heap_step", "HeapStep", "_HeapStep"),
+    "LiveChunk": ("tb_live_chunk", "LiveChunk", "_LiveChunk"),
     "MachineAct": ("tb_machine_act", "MachineAct", "_MachineAct"),
     "MachineEnd": ("tb_machine_end", "MachineEnd", "_MachineEnd"),
     "PageEntry": ("tb_page_entry", "PageEntry", "_PageEntry"),
@@ -35,12 +36,15 @@ STRUCTS = {
     "StatusReport": ("tb_status", "Status", "_Status"),
     "KeptCall": ("tb_kept_call", "KeptCall", "_KeptCall"),
     "AloneEnd": ("tb_alone_end", "AloneEnd", "_AloneEnd"),
+    "FuzzHandle": ("tb_fuzz", "RawFuzz", "_Fuzz"),
+    "LentFuzzInput": ("tb_fuzz_input", "RawFuzzInput", "_FuzzInput"),
 }
 CALLS = [
     "tb_version", "tb_build_info", "tb_session", "tb_alone", "tb_memory_init", "tb_map", "tb_unmap",
     "tb_read", "tb_write", "tb_load", "tb_load_tag", "tb_store_tags", "tb_step", "tb_run",
     "tb_run_until", "tb_heap_calls", "tb_heap_replay", "tb_run_traced", "tb_disassemble",
-    "tb_machine_acts", "tb_machine_pages",
+    "tb_machine_acts", "tb_machine_pages", "tb_heap_pages", "tb_heap_live", "tb_fuzz_new",
+    "tb_fuzz_run", "tb_fuzz_free",
 ]
 FOLDERS = ("crates", "docs", "include", "examples", "tools")
 FIELD = r"(?<=^    pub )\w+: [^,\n]+(?=,)|(?<=^    )(?!pub )\w+: [^,\n]+(?=,)"
@@ -115,7 +119,7 @@ def test_arguments_of_another_width(name: str) -> None:
               (HEADER, f"\nuint32_t {name}(")]
     if name not in ("tb_version", "tb_build_info", "tb_memory_init", "tb_alone", "tb_step",
                     "tb_heap_calls", "tb_heap_replay", "tb_run_traced", "tb_machine_acts",
-                    "tb_machine_pages"):
+                    "tb_machine_pages", "tb_heap_pages", "tb_heap_live"):
         for path, begin in places:
             assert not unnoticed(border.each_replaced(path, number, widened, begin, ")"))
 

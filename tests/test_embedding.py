@@ -39,7 +39,7 @@ GROUPS: dict[str, Callable[[], Iterator[Line]]] = {
     "heap calls": tenants.heap_calls,
     "machines": lambda: itertools.chain(machines.acts(), machines.edges(), machines.pages(),
                                         machines.hostile()),
-    "replays": heaps.replays,
+    "replays": lambda: itertools.chain(heaps.replays(), heaps.mapped(), heaps.live()),
     "traced runs": lambda: itertools.chain(watching.mixed(), watching.ends(), watching.tags()),
     "disassembly": watching.texts,
     "hostile": watching.hostile,
@@ -291,5 +291,5 @@ def test_each_call_is_made_from(language: str, file: str) -> None:
              if language in it.languages}
     assert names >= {"version", "session", "alone", "places", "map", "unmap", "read", "write",
                      "load", "load_tag", "store_tags", "step", "run", "until", "heap", "replay",
-                     "traced", "machine", "mapped"}
+                     "traced", "machine", "mapped", "heap_mapped", "live"}
     assert (DRIVERS / file).exists()

@@ -20,6 +20,7 @@ pub const TB_OUT_OF_MEMORY: u32 = 10;
 pub const TB_SCRIPT: u32 = 11;
 pub const TB_REFUSED: u32 = 12;
 pub const TB_STOPPED: u32 = 13;
+pub const TB_NO_MACHINE: u32 = 14;
 
 pub const TB_TRANSLATION: u32 = 1;
 pub const TB_PERMISSION: u32 = 2;
@@ -108,6 +109,7 @@ pub fn text(code: u32) -> &'static str {
         TB_SCRIPT => "faulty script line",
         TB_REFUSED => "tenant refused",
         TB_STOPPED => "stopped",
+        TB_NO_MACHINE => "no machine",
         _ => "unknown",
     }
 }
@@ -395,6 +397,22 @@ pub struct AloneEnd {
     pub refusal: u32,
 }
 
+/// A machine that is kept between calls.
+#[repr(C)]
+struct RawFuzz {
+    machine: *mut u8,
+}
+
+#[repr(C)]
+struct RawFuzzInput {
+    input: *const u8,
+    input_length: usize,
+    slices: *const u32,
+    slice_count: usize,
+    saturating: u32,
+    unused: u32,
+}
+
 /// Something that is done to a machine between its slices, or a slice.
 #[repr(C)]
 #[derive(Clone, Copy, Debug, Default)]
@@ -415,6 +433,17 @@ pub struct MachineAct {
 pub struct MachineEnd {
     pub alone: AloneEnd,
     pub regs: Regs,
+}
+
+/// A chunk that is live behind heap calls.
+#[repr(C)]
+#[derive(Clone, Copy, Debug, Default)]
+pub struct LiveChunk {
+    pub address: u64,
+    pub size: u64,
+    pub call: u64,
+    pub tag: u32,
+    pub unused: u32,
 }
 
 /// A page that is mapped.
@@ -469,6 +498,7 @@ const _: () = assert!(size_of::<Bytes>() == 16 && size_of::<SessionEnd>() == 24)
 const _: () = assert!(size_of::<RawTerms>() == 72 && size_of::<AloneEnd>() == 88);
 const _: () = assert!(size_of::<MachineAct>() == 64 && size_of::<PageEntry>() == 16);
 const _: () = assert!(size_of::<MachineEnd>() == 360);
+const _: () = assert!(size_of::<RawFuzz>() == 8 && size_of::<RawFuzzInput>() == 40);
 
 unsafe extern "C" {
     safe fn tb_version() -> u32;
@@ -491,6 +521,15 @@ unsafe extern "C" {
         call_room: usize,
         end: *mut AloneEnd,
     ) -> u32;
+    fn tb_fuzz_new(terms: *const RawTerms, fuzz: *mut RawFuzz, end: *mut AloneEnd) -> u32;
+    fn tb_fuzz_run(
+        fuzz: *mut RawFuzz,
+        run: *const RawFuzzInput,
+        map: *mut u8,
+        map_length: usize,
+        end: *mut AloneEnd,
+    ) -> u32;
+    fn tb_fuzz_free(fuzz: *mut RawFuzz);
     fn tb_machine_acts(
         terms: *const RawTerms,
         acts: *mut MachineAct,
@@ -589,6 +628,22 @@ unsafe extern "C" {
         steps: *mut HeapStep,
         count: usize,
         bad: *mut u64,
+    ) -> u32;
+    fn tb_heap_pages(
+        setup: *const HeapSetup,
+        steps: *mut HeapStep,
+        count: usize,
+        pages: *mut PageEntry,
+        room: usize,
+        mapped: *mut u64,
+        bad: *mut u64,
+    ) -> u32;
+    fn tb_heap_live(
+        steps: *const HeapStep,
+        count: usize,
+        chunks: *mut LiveChunk,
+        room: usize,
+        live: *mut u64,
     ) -> u32;
     fn tb_run_traced(
         pages: *mut Page,
@@ -728,6 +783,46 @@ pub fn alone(
     let (bytes, room) = (output.as_mut_ptr(), output.len());
     unsafe { tb_alone(&raw, bytes, room, calls.as_mut_ptr(), calls.len(), &mut end) };
     end
+}
+
+/// A tenant's machine that is kept as it is behind its setup: each run begins there. It stays on
+/// its thread.
+pub struct Fuzz {
+    raw: RawFuzz,
+}
+
+impl Fuzz {
+    /// Admits a tenant, runs the slices of its setup, and keeps its machine; and how it stands.
+    /// The machine runs only where the code is TB_OK.
+    pub fn new(terms: &Terms<'_>, setup: &[u32]) -> (Fuzz, AloneEnd) {
+        let raw = terms.raw(setup);
+        let mut fuzz = Fuzz { raw: RawFuzz { machine: std::ptr::null_mut() } };
+        let mut end = AloneEnd::default();
+        unsafe { tb_fuzz_new(&raw, &mut fuzz.raw, &mut end) };
+        (fuzz, end)
+    }
+
+    /// Runs it from its setup on, with an input, and counts its edges in `map`, of a power of two
+    /// of counts from 256 to 65536; a count stays at 255.
+    pub fn run(&mut self, input: &[u8], slices: &[u32], map: &mut [u8]) -> AloneEnd {
+        let raw = RawFuzzInput {
+            input: input.as_ptr(),
+            input_length: input.len(),
+            slices: slices.as_ptr(),
+            slice_count: slices.len(),
+            saturating: 1,
+            unused: 0,
+        };
+        let mut end = AloneEnd::default();
+        unsafe { tb_fuzz_run(&mut self.raw, &raw, map.as_mut_ptr(), map.len(), &mut end) };
+        end
+    }
+}
+
+impl Drop for Fuzz {
+    fn drop(&mut self) {
+        unsafe { tb_fuzz_free(&mut self.raw) };
+    }
 }
 
 /// A memory with tags, of so many places for pages. A clone shares nothing.
@@ -955,6 +1050,29 @@ pub fn heap_replay(setup: &HeapSetup, steps: &mut [HeapStep]) -> (u32, u64) {
     let mut bad = 0;
     let code = unsafe { tb_heap_replay(setup, steps.as_mut_ptr(), steps.len(), &mut bad) };
     (code, bad)
+}
+
+/// Makes the calls of a list as `heap_replay` does, and copies as many of the heap's pages as there
+/// is room for: the answer, how many there are, and the number of the first step that is none.
+pub fn heap_pages(
+    setup: &HeapSetup,
+    steps: &mut [HeapStep],
+    pages: &mut [PageEntry],
+) -> (u32, u64, u64) {
+    let (mut mapped, mut bad) = (0, 0);
+    let (made, count) = (steps.as_mut_ptr(), steps.len());
+    let (entries, room) = (pages.as_mut_ptr(), pages.len());
+    let code = unsafe { tb_heap_pages(setup, made, count, entries, room, &mut mapped, &mut bad) };
+    (code, mapped, bad)
+}
+
+/// Copies as many of the chunks that are live behind the calls of a list as there is room for, by
+/// the answers that `heap_replay` has entered: the answer, and how many there are.
+pub fn heap_live(steps: &[HeapStep], chunks: &mut [LiveChunk]) -> (u32, u64) {
+    let mut live = 0;
+    let (found, room) = (chunks.as_mut_ptr(), chunks.len());
+    let code = unsafe { tb_heap_live(steps.as_ptr(), steps.len(), found, room, &mut live) };
+    (code, live)
 }
 
 /// The text of an instruction word at an address; `None` where it is no instruction.

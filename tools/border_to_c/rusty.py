@@ -6,6 +6,8 @@ import re
 from .shapes import BorderError, Call, Kind, Place, Struct
 
 COMMENT = re.compile(r"//[^\n]*|/\*.*?\*/", re.S)
+# A field that no machine has.
+GHOST = re.compile(r"^ *(?:pub )?ghost \w+: \{[^}]*\},\n", re.M)
 CONSTANT = re.compile(r"^\s*pub const (\w+): (?:u\d+|usize|Attrs) = (?:Attrs\()?([^;)]+)\)?;", re.M)
 STRUCT = re.compile(r"#\[repr\(C\)\]\s*(?:#\[[^]]*\]\s*)*(?:pub )?struct (\w+)[^{]*\{(.*?)\}", re.S)
 EXPORT = re.compile(
@@ -66,7 +68,7 @@ def places(text: str) -> Struct:
 
 def structs(text: str) -> dict[str, Struct]:
     """The structs for C of a file by name."""
-    text = without_comments(text)
+    text = GHOST.sub("", without_comments(text))
     found = {name: places(body) for name, body in STRUCT.findall(text)}
     if len(found) != text.count("repr(C)"):
         raise BorderError(f"{text.count('repr(C)')} have repr(C), and {len(found)} are read")

@@ -1,5 +1,6 @@
 //! The tests, by what they are of.
 
+mod arithmetic;
 mod bits;
 mod decode;
 mod kept;
@@ -7,3 +8,4 @@ mod micro_ops;
 mod row_words;
 mod step;
 mod text;
+mod words;

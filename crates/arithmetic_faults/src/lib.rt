@@ -3,7 +3,5 @@
 #![tactic(auto)]
 
 mod fault;
-#[cfg(test)]
-mod tests;
 
 pub use fault::{ArithmeticFault, ArithmeticKind};

@@ -34,6 +34,8 @@ pub const SCRIPT: u32 = 11;
 pub const REFUSED: u32 = 12;
 /// The PC came to one of the stops.
 pub const STOPPED: u32 = 13;
+/// The handle holds no machine.
+pub const NO_MACHINE: u32 = 14;
 
 /// The line has not the form of an event.
 pub const SYNTAX: u32 = 1;
@@ -163,6 +165,7 @@ pub fn answers_in_digits()
     ensures script { SCRIPT ≡ 11 }
     ensures refused { REFUSED ≡ 12 }
     ensures stopped { STOPPED ≡ 13 }
+    ensures no_machine { NO_MACHINE ≡ 14 }
 {}
 
 /// What is wrong with a script in digits, as `tombolopan.h` has it.

@@ -4,8 +4,6 @@
 
 mod kinds;
 mod suppressions;
-#[cfg(test)]
-mod tests;
 
 pub use kinds::{CheckKind, CheckKinds};
 pub use suppressions::{LineFault, SuppressionFault, Suppressions};

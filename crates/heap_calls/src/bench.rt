@@ -60,6 +60,13 @@ impl HeapBench {
         Ok(HeapBench { heap, memory, rgsr })
     }
 
+    /// The memory, as it is now.
+    pub fn memory(&self) -> &Flat
+        ensures { result.now ≡ self.now.memory }
+    {
+        &self.memory
+    }
+
     /// Makes a call or an access, and returns its answer.
     pub fn answer(&mut self, op: &HeapOp) -> HeapAnswer
         ensures answer { result ≡ (after_operation self.old op.now).answer }

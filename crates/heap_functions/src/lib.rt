@@ -4,8 +4,6 @@
 
 mod function;
 mod table;
-#[cfg(test)]
-mod tests;
 mod watch;
 
 pub use function::HeapFunction;

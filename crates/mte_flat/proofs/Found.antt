@@ -1,5 +1,5 @@
 -- The slot that was found for a page, read and written.
-use Rattle.std.proofs.Common.{◌≡◌, ℕ, ◌%◌, ◌<◌, Bool, Option, Some, None, List, length, get_or, set, refl, sym, ap, ◌∙◌, subst}
+use Rattle.std.proofs.Common.{◌≡◌, ℕ, ◌%◌, ◌<◌, Bool, true, Option, Some, None, List, length, get_or, set, refl, sym, ap, ◌∙◌, subst}
 use Rattle.std.specs.Prelude.{IfSome, IsNone, option_map}
 use Rattle.std.proofs.lemmas.List.{get_or_default}
 use Rattle.std.specs.List.{All}
@@ -36,7 +36,7 @@ slot_changed n slots i old new h l e page small =
 
 -- a slot with a run of its bytes replaced
 pub slot_replaced : (n : Memory) (slots : List Slot) (i at : ℕ) (bs : List ℕ) (old new : Slot) → AreSlots slots → i < length slots → old ≡ get_or slots i no_slot
-    → new ≡ record old { bytes = with_bytes_run old.bytes (at % 4096) bs }
+    → new ≡ record old { bytes = with_bytes_run old.bytes (at % 4096) bs; written = true }
     → slots_memory n (set slots i new) ≡ with_page (slots_memory n slots) (get_or slots i no_slot).page (with_bytes_in (page_of (get_or slots i no_slot)) (at % 4096) bs)
 slot_replaced n slots i at bs old new h l e is =
     let tags : new.tags ≡ (get_or slots i no_slot).tags = ap (λ (t : Slot). t.tags) is ∙ ap (λ (t : Slot). t.tags) e in

@@ -1,3 +1,4 @@
 mod Places
 mod Found
 mod PageLists
+mod Unwritten

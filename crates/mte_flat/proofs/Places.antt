@@ -1,5 +1,5 @@
 -- What a list of slots has at a page.
-use Rattle.std.proofs.Common.{◌≡◌, ◌≢◌, ℕ, suc, zero, ◌+◌, ◌-◌, ◌^◌, ◌<◌, is_some, IsSome, cond, Option, Some, None, ◌⊎◌, List, [], ◌∷◌, ◌++◌, length, map, get_or, set, refl, sym, ap, ◌∙◌, inl, inr, arith, get_or-set_same, get_or-set_other, length-set}
+use Rattle.std.proofs.Common.{true, ◌≡◌, ◌≢◌, ℕ, suc, zero, ◌+◌, ◌-◌, ◌^◌, ◌<◌, is_some, IsSome, cond, Option, Some, None, ◌⊎◌, List, [], ◌∷◌, ◌++◌, length, map, get_or, set, refl, sym, ap, ◌∙◌, inl, inr, arith, get_or-set_same, get_or-set_other, length-set}
 use Rattle.std.proofs.lemmas.Bool.{cases_eq, cases_lt, cond-true, cond-false}
 use Rattle.std.proofs.lemmas.List.{map-append, get_or_default, get_or_append_left, get_or_at, length-append, length-take-le, get_or-take}
 use Rattle.std.specs.Ordering.{nat_cmp, eq_by_cmp}
@@ -180,8 +180,8 @@ slot_of_page n slots q h = elim (slot_or_none slots q) [
   | inr none ↦ let e : page_at (slots_memory n slots) q ≡ None = page_at-slots_none n slots q none in absurd (some_is_not_none (page_at (slots_memory n slots) q) h e)
 ]
 
-any_slot : Slot
-any_slot = record { page = 0; attrs = record { 0 = 0 }; bytes = []; tags = [] }
+pub any_slot : Slot
+any_slot = record { page = 0; attrs = record { 0 = 0 }; bytes = []; tags = []; written = true }
 
 pub mapped_low : (n : Memory) (slots : List Slot) (q : ℕ) → AreSlots slots → IsSome (page_at (slots_memory n slots) q) → q < 2 ^ 18
 mapped_low n slots q a h =

@@ -1,2 +1,3 @@
 pub mod Inner
 pub mod MappedPages
+pub mod Snapshots

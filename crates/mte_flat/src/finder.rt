@@ -49,6 +49,18 @@ impl Finder {
         })
     }
 
+    /// Takes over the slots of another.
+    pub(crate) fn restore(&mut self, saved: &Finder) {
+        self.code = saved.code;
+        self.last = saved.last;
+        self.places.clear();
+        for place in saved.places.as_slice() {
+            if self.places.len() < self.places.capacity() {
+                self.places.push_reserved(*place);
+            }
+        }
+    }
+
     /// The slot that was found last for a page of this hash.
     #[inline]
     pub(crate) fn last(&self, page: u64) -> usize {

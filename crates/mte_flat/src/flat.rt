@@ -13,7 +13,7 @@ use std::marker::Model;
 /// A tagged memory of its own.
 #[derive(Drop)]
 pub struct Flat {
-    pages: Pages,
+    pub(crate) pages: Pages,
 }
 
 impl Model for Flat {

@@ -6,6 +6,9 @@ mod flat;
 mod mapped;
 mod pages;
 mod slot;
+mod slots;
+mod snapshot;
 
 pub use flat::Flat;
 pub use mapped::MappedPage;
+pub use snapshot::SnapshotMemory;

@@ -7,11 +7,13 @@ ghost use Rattle.std.specs.Prelude.{length, slice_index_or, vec_len, vec_capacit
 ghost use Rattle.mte_tags.specs.Memory.{Memory, page_at, no_pages};
 ghost use Rattle.mte_tags.specs.Memory.{with_new_pages, without_pages, IsFree, ArePages};
 ghost use Rattle.mte_flat.specs.Inner.Slots.{slots_memory, AreSlots};
+ghost use Rattle.mte_flat.specs.Inner.Written.{KeepsUnwritten};
 ghost use Rattle.mte_flat.specs.MappedPages.{attrs_in, AreApart};
 
 use crate::finder::Finder;
 use crate::mapped::{MappedPage, mapped_slots};
 use crate::slot::{Slot, find, holds, new_slot};
+use crate::slots::{restore_slots, take_slot, unmarked_slots};
 use a64_bits::plain;
 use list_copy::copy_list;
 use mte_tags::{Attrs, NoPagesLeft, PageStore, Paged, TagMode, TagState, replace_bytes};
@@ -31,6 +33,7 @@ pub(crate) struct Pages {
 
 impl Pages {
     ghost use Rattle.mte_flat.specs.Inner.Places.{memory_of, IsPlace, number_in, page_in};
+    ghost use Rattle.mte_flat.specs.Inner.Since.{IsSince};
 
     /// No pages, with memory for `limit`.
     pub(crate) fn new(alloc: Global, limit: usize, mode: TagMode) -> Result<Pages, AllocError>
@@ -52,7 +55,8 @@ impl Pages {
 
     /// A copy of the pages, with memory for as many.
     pub(crate) fn copy(&self, alloc: Global) -> Result<Pages, AllocError>
-        ensures { IfOk result (λ pages. memory_of pages ≡ memory_of self.now) }
+        ensures memory { IfOk result (λ pages. memory_of pages ≡ memory_of self.now) }
+        ensures since { IfOk result (λ pages. IsSince self.now pages) }
     {
         let slots = copy_list(alloc, &self.slots)?;
         let finder = self.finder.copy(alloc)?;
@@ -62,6 +66,31 @@ impl Pages {
             finder,
             state: self.state,
         })
+    }
+
+    /// A copy of the pages in which none is marked as written.
+    pub(crate) fn copy_unmarked(&self, alloc: Global) -> Result<Pages, AllocError>
+        ensures { IfOk result (λ pages. memory_of pages ≡ memory_of self.now) }
+    {
+        let slots = unmarked_slots(alloc, self.limit, self.slots.as_slice())?;
+        let finder = self.finder.copy(alloc)?;
+        Ok(Pages {
+            limit: self.limit,
+            slots,
+            finder,
+            state: self.state,
+        })
+    }
+
+    /// Makes the pages those of before: only slots that are marked as written are copied.
+    pub(crate) fn restore(&mut self, saved: &Pages)
+        requires { IsSince saved.now self.old }
+        ensures memory { memory_of self.new ≡ memory_of saved.now }
+        ensures since { IsSince saved.now self.new }
+    {
+        self.state = saved.state;
+        self.finder.restore(&saved.finder);
+        restore_slots(&mut self.slots, saved.slots.as_slice());
     }
 
     /// The slot that was found last for the page of an address, where it holds that page and one
@@ -95,12 +124,12 @@ impl Pages {
 }
 
 impl PageStore for Pages {
-    ghost use Rattle.std.specs.Prelude.{⊤};
     ghost use Rattle.mte_flat.specs.Inner.Places.{memory_of, IsPlace, number_in, page_in};
+    ghost use Rattle.mte_flat.specs.Inner.Since.{IsSince, since_same, since_on};
 
     ghost memory = { memory_of };
 
-    ghost kept = { λ _ _. ⊤ };
+    ghost kept = { IsSince };
 
     ghost is_place = { IsPlace };
 
@@ -174,9 +203,9 @@ impl PageStore for Pages {
         self.slots[place].retag(first, count, tag, zero);
     }
 
-    ghost kept_same = { λ _. tt };
+    ghost kept_same = { since_same };
 
-    ghost kept_on = { λ _ _ _ _ _. tt };
+    ghost kept_on = { since_on };
 }
 
 /// The slot of a page whose instructions are fetched, where it is another than the last time.
@@ -203,6 +232,7 @@ fn map_slots(slots: &mut Vec<Slot>, finder: &mut Finder, page: u64, count: usize
         → slots_memory m slots.new.items
         ≡ with_new_pages (slots_memory m slots.old.items) page count attrs }
     ensures slots { AreSlots slots.new.items }
+    ensures kept { KeepsUnwritten slots.old.items slots.new.items }
     ensures len { vec_len slots.new ≡ vec_len slots.old + count }
     ensures capacity { vec_capacity slots.new ≡ vec_capacity slots.old }
 {
@@ -221,6 +251,7 @@ fn unmap_slots(slots: &mut Vec<Slot>, finder: &mut Finder, page: u64, count: usi
         → slots_memory m slots.new.items
         ≡ without_pages (slots_memory m slots.old.items) page count }
     ensures slots { AreSlots slots.new.items }
+    ensures kept { KeepsUnwritten slots.old.items slots.new.items }
     ensures len { vec_len slots.new ≤ vec_len slots.old }
     ensures capacity { vec_capacity slots.new ≡ vec_capacity slots.old }
 {
@@ -230,7 +261,7 @@ fn unmap_slots(slots: &mut Vec<Slot>, finder: &mut Finder, page: u64, count: usi
             return;
         };
         finder.take(gone);
-        slots.swap_remove(s);
+        take_slot(slots, s);
         if s < slots.len() {
             finder.put(slots[s].page, s);
         }

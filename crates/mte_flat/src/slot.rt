@@ -1,7 +1,7 @@
 //! The pages of the plain memory.
 
 ghost use Rattle.std.specs.Prelude.{◌≡◌, ◌≢◌, ℕ, ◌<◌, ◌≤◌, ◌+◌, ◌*◌, ◌%◌, ◌/◌, ◌^◌, ◌↔◌};
-ghost use Rattle.std.specs.Prelude.{Some, None, IfSome, IsNone, IsSome, IsTrue};
+ghost use Rattle.std.specs.Prelude.{Some, None, IfSome, IsNone, IsSome, IsTrue, true};
 ghost use Rattle.std.specs.Prelude.{length, slice_index_or};
 ghost use Rattle.std.specs.List.{All};
 ghost use Rattle.mte_tags.specs.Memory.{Memory, page_at, new_page};
@@ -19,12 +19,15 @@ pub struct Slot {
     pub(crate) bytes: [u8; 4096],
     pub(crate) tags: [u8; 256],
     pub(crate) attrs: Attrs,
+    /// Whether the slot may be another than in a snapshot of the memory.
+    pub(crate) written: bool,
 }
 
 /// A page of zero bytes and tag 0.
 pub(crate) fn new_slot(page: u64, attrs: Attrs) -> Slot
     ensures page { result.page ≡ page }
     ensures holds { page_of result ≡ new_page attrs.0 }
+    ensures written { result.written ≡ true }
     ensures small { All (λ t. t < 16) result.tags }
 {
     Slot {
@@ -32,6 +35,7 @@ pub(crate) fn new_slot(page: u64, attrs: Attrs) -> Slot
         bytes: [0; 4096],
         tags: [0; 256],
         attrs,
+        written: true,
     }
 }
 
@@ -98,8 +102,12 @@ impl Slot {
     pub(crate) fn copy_in(&mut self, at: u64, bytes: &[u8])
         requires { at % 4096 + length bytes.now ≤ 4096 }
         ensures { self.new
-            ≡ record self.old { bytes = with_bytes_run self.old.bytes (at % 4096) bytes.now } }
+            ≡ record self.old {
+              bytes = with_bytes_run self.old.bytes (at % 4096) bytes.now;
+              written = true;
+            } }
     {
+        self.written = true;
         copy_in(&mut self.bytes, at, bytes);
     }
 
@@ -114,9 +122,11 @@ impl Slot {
         ensures long { length self.old.bytes ≡ 4096 }
         ensures page { self.new.page ≡ self.old.page }
         ensures attrs { self.new.attrs ≡ self.old.attrs }
+        ensures written { self.new.written ≡ true }
         ensures holds { page_of self.new
             ≡ with_granule_tags (page_of self.old) first count tag zero }
     {
+        self.written = true;
         self.tags[first..first + count].fill(tag);
         if zero {
             self.bytes[16 * first..16 * first + 16 * count].fill(0);

@@ -12,7 +12,7 @@ pub use admission::{
     is_bad_reservation, live_limit_in_digits,
 };
 pub use alone::{Watch, admit_alone, attempt, slice_watched};
-pub use machine::{fill, halt, settle, slice, start_parts};
+pub use machine::{fill, halt, settle, slice, slice_with_edges, start_parts};
 pub use mte_svc::{Output, Record, Status, TenantParts};
 pub use refusal::{Refusal, Refused};
 pub use tenant_terms::Terms;

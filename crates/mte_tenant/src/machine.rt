@@ -18,7 +18,7 @@ ghost use Rattle.mte_tenant.specs.Machines.{after_slice, after_attempts, after_s
 ghost use Rattle.mte_tenant.specs.Machines.{after_outcome, after_stop, with_service};
 
 use crate::admission::Admission;
-use a64_run::{OpCache, known_words_stay, run_on_cache};
+use a64_run::{Edges, NoEdges, OpCache, known_words_stay, run_with_edges};
 use a64_step::{Outcome, Regs, steps_keep_pages};
 use address_map::{MAX_PAGES, PAGE_SIZE, STACK_END, STACK_PAGES, STACK_START};
 use mte_elf::{Plan, load};
@@ -82,8 +82,15 @@ pub fn fill<M: Paged>(plan: &Plan, image: &[u8], pages: u32, mode: TagMode, memo
 
 /// Lets a tenant attempt at most `steps` instructions while it is running and does not yield. It
 /// ends where its flag is set then. A table may serve any number of slices, of any tenants. A slice
-/// is one run of kept instructions, since no service changes a page without WRITE.
-pub fn slice<M: Paged>(ops: &mut OpCache, parts: &mut TenantParts, memory: &mut M, steps: u32)
+/// is one run of kept instructions, since no service changes a page without WRITE. What counts the
+/// branches that it takes changes nothing of it.
+pub fn slice_with_edges<M: Paged, E: Edges>(
+    ops: &mut OpCache,
+    parts: &mut TenantParts,
+    memory: &mut M,
+    edges: &mut E,
+    steps: u32,
+)
     requires ready { IsReady parts.old (M.Tagged.memory memory.old) }
     ensures machine { machine_of parts.new (M.Tagged.memory memory.new)
         ≡ after_slice steps (machine_of parts.old (M.Tagged.memory memory.old)) }
@@ -93,14 +100,33 @@ pub fn slice<M: Paged>(ops: &mut OpCache, parts: &mut TenantParts, memory: &mut 
     ops.begin_run();
     let mut left = u64::from(steps);
     while left > 0 && parts.is_running() {
-        left = run_on(ops, parts, memory, left);
+        left = run_on(ops, parts, memory, edges, left);
     }
     settle(parts, memory);
 }
 
+/// Lets a tenant attempt at most `steps` instructions while it is running and does not yield. It
+/// ends where its flag is set then. A table may serve any number of slices, of any tenants. A slice
+/// is one run of kept instructions, since no service changes a page without WRITE.
+pub fn slice<M: Paged>(ops: &mut OpCache, parts: &mut TenantParts, memory: &mut M, steps: u32)
+    requires ready { IsReady parts.old (M.Tagged.memory memory.old) }
+    ensures machine { machine_of parts.new (M.Tagged.memory memory.new)
+        ≡ after_slice steps (machine_of parts.old (M.Tagged.memory memory.old)) }
+    ensures ready { IsReady parts.new (M.Tagged.memory memory.new) }
+    ensures kept { M.Tagged.kept memory.old memory.new }
+{
+    slice_with_edges(ops, parts, memory, &mut NoEdges, steps);
+}
+
 /// Runs to the next service, fault or end, or for `left` instructions; returns how many the slice
 /// has left, 0 after a yield.
-fn run_on<M: Paged>(ops: &mut OpCache, parts: &mut TenantParts, memory: &mut M, left: u64) -> u64
+fn run_on<M: Paged, E: Edges>(
+    ops: &mut OpCache,
+    parts: &mut TenantParts,
+    memory: &mut M,
+    edges: &mut E,
+    left: u64,
+) -> u64
     requires some { 0 < left }
     requires known { Knows (M.Tagged.memory memory.old) ops.old }
     requires running { is_running parts.old.history.status ≡ true }
@@ -115,7 +141,7 @@ fn run_on<M: Paged>(ops: &mut OpCache, parts: &mut TenantParts, memory: &mut M, 
     steps_keep_pages();
     condition_of_calls();
     known_words_stay();
-    let stop = run_on_cache(ops, &mut parts.regs, memory, left);
+    let stop = run_with_edges(ops, &mut parts.regs, memory, edges, left);
     parts.history.steps = parts.history.steps.saturating_add(left - stop.left);
     parts.left = stop.left;
     match stop.outcome {

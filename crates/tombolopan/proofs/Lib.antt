@@ -1,1 +1,1 @@
-mod Slices
+pub mod Slices

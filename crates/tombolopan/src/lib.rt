@@ -7,7 +7,8 @@
 //!   (`OpCache`);
 //! - a heap with tags: `Heap` in a memory, `HeapBench` with one of its own;
 //! - ELF64 images: `plan`, `load`;
-//! - a tenant alone: `Lone`, `run_alone`; with a watch: `slice_watched`;
+//! - a tenant alone: `Lone`, `run_alone`; with a watch: `slice_watched`; brought back to a
+//!   snapshot: `SnapshotTenant`, whose branches an `EdgeMap` counts;
 //! - tenants over shared frames: `Host`;
 //! - sessions: `report`, `run_session` over any `Sink`, `run_both`.
 //!
@@ -43,3 +44,4 @@ pub use mte_tenant::{
 pub use obstacle::Obstacle;
 pub use scudo_heap::{Heap, HeapAbort, HeapCall, condition_of_calls};
 pub use session_report::report;
+pub use tenant_snapshot::{EdgeMap, Edges, NoEdges, SnapshotTenant};

@@ -4,6 +4,7 @@ mod Found
 mod Tags
 mod HeapLists
 mod HeapReplays
+mod LiveChunks
 mod Until
 mod Loads
 mod Traced

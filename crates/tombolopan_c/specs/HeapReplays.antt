@@ -1,10 +1,14 @@
 -- Heap calls in a list whose arguments may be answers of earlier calls of the list.
 use Rattle.std.specs.Prelude.{ℕ, zero, suc, ◌+◌, ◌-◌, ◌%◌, ◌^◌, ◌==◌, ◌&&◌, ◌||◌, Bool, not, nat_le}
-use Rattle.std.specs.Prelude.{List, [], ◌∷◌, Option, Some, None, is_some, slice_get, slice_set}
+use Rattle.std.specs.Prelude.{◌≡◌, List, [], ◌∷◌, length, Option, Some, None, is_some, slice_get, slice_set}
 use Rattle.std.specs.Prelude.{if◌then◌else◌}
 use Rattle.scudo_heap.specs.Placing.{World}
-use Rattle.tombolopan_c.specs.HeapCalls.{op_of, after_heap_call, with_bad_argument}
+use Rattle.machine_acts.specs.Pages.{IsPageMap}
+use Rattle.machine_acts.specs.declared.pages.PageEntry.{PageEntry}
+use Rattle.tombolopan_c.specs.HeapCalls.{op_of, after_heap_call, with_bad_argument, start_of}
+use Rattle.tombolopan_c.specs.LentBuffers.{filled}
 use Rattle.call_reports.specs.declared.codes.TheConstants.{OK, FREE, STORE}
+use Rattle.tombolopan_c.specs.declared.lent_heap.HeapSetup.{HeapSetup}
 use Rattle.tombolopan_c.specs.declared.lent_heap.LentHeapCall.{LentHeapCall}
 use Rattle.tombolopan_c.specs.declared.lent_step.HeapStep.{HeapStep}
 
@@ -100,3 +104,11 @@ unfoldable pub replayed : World → List HeapStep → ℕ → Replay
 replayed w steps zero = record { world = w; steps = steps }
 replayed w steps (suc k) =
     replay_cases (replayed w steps k) k (slice_get (replayed w steps k).steps k)
+
+-- The pages of a heap after all steps are in an array as far as it goes, and counted.
+pub record HasHeapPages (s : HeapSetup) (steps : List HeapStep) (old new : List PageEntry)
+    (count : ℕ) : Type 0 where
+  pub entries : List PageEntry
+  pub map : IsPageMap (replayed (start_of s) steps (length steps)).world.memory entries
+  pub told : new ≡ filled entries old
+  pub counted : count ≡ length entries

@@ -1,6 +1,7 @@
 pub mod LentPages
 pub mod HeapCalls
 pub mod HeapReplays
+pub mod LiveChunks
 pub mod LentMemory
 pub mod LentPlaces
 pub mod LentRegisters
@@ -11,4 +12,5 @@ pub mod LentTraces
 pub mod LentBuffers
 pub mod LentSessions
 pub mod LoneTenants
+pub mod LentFuzz
 pub mod LentMachines

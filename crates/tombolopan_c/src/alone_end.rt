@@ -2,6 +2,7 @@
 
 ghost use Rattle.std.specs.Prelude.{◌≡◌};
 ghost use Rattle.tombolopan_c.specs.LoneTenants.{image_code, refusal_code, end_without, told_end};
+ghost use Rattle.tombolopan_c.specs.LoneTenants.{without_tenant};
 
 use crate::status_report::StatusReport;
 use call_reports::{
@@ -71,6 +72,13 @@ impl AloneEnd {
             Obstacle::OutOfMemory => (OUT_OF_MEMORY, NO_REFUSAL),
             Obstacle::Refused(error) => (REFUSED, code_of_refusal(error)),
         };
+        AloneEnd::without_tenant(code, refusal)
+    }
+
+    /// The end where no tenant has run.
+    pub(crate) fn without_tenant(code: u32, refusal: u32) -> AloneEnd
+        ensures { result ≡ without_tenant code refusal }
+    {
         AloneEnd {
             steps: 0,
             output: 0,

@@ -1,13 +1,16 @@
 //! Sessions, a tenant alone, a tagged memory, a step, a run and a heap for programs in C: exports
-//! over memory that the caller lends to each call. Nothing is kept between calls, and only
-//! `tb_session`, `tb_alone`, `tb_machine_acts`, `tb_machine_pages`, `tb_heap_calls` and
-//! `tb_heap_replay` allocate.
+//! over memory that the caller lends to each call. Nothing is kept between calls but the machine
+//! that `tb_fuzz_new` makes and `tb_fuzz_free` frees, and only these, `tb_fuzz_run`, `tb_session`,
+//! `tb_alone`, `tb_machine_acts`, `tb_machine_pages`, `tb_heap_calls`, `tb_heap_replay`,
+//! `tb_heap_pages` and `tb_heap_live` allocate.
 #![tactic(auto)]
 
 mod alone_calls;
 mod alone_end;
 mod build_calls;
 mod find;
+mod fuzz_calls;
+mod fuzz_input;
 mod heap_lists;
 mod kept_calls;
 mod lent;
@@ -17,6 +20,7 @@ mod lent_page;
 mod lent_regs;
 mod lent_step;
 mod lent_terms;
+mod live_chunks;
 mod machine_calls;
 mod memory_calls;
 mod page_calls;
@@ -33,6 +37,8 @@ mod traces;
 pub use alone_calls::tb_alone;
 pub use alone_end::AloneEnd;
 pub use build_calls::tb_build_info;
+pub use fuzz_calls::{tb_fuzz_free, tb_fuzz_new, tb_fuzz_run};
+pub use fuzz_input::LentFuzzInput;
 pub use heap_lists::tb_heap_calls;
 pub use kept_calls::KeptCall;
 pub use lent::LentTagState;
@@ -42,10 +48,11 @@ pub use lent_page::LentPage;
 pub use lent_regs::LentRegs;
 pub use lent_step::HeapStep;
 pub use lent_terms::LentTerms;
+pub use live_chunks::{LiveChunk, tb_heap_live};
 pub use machine_calls::{MachineEnd, tb_machine_acts, tb_machine_pages};
 pub use memory_calls::{tb_load, tb_load_tag, tb_read, tb_store_tags, tb_write};
 pub use page_calls::{tb_map, tb_memory_init, tb_unmap, tb_version};
-pub use replay_calls::tb_heap_replay;
+pub use replay_calls::{tb_heap_pages, tb_heap_replay};
 pub use run_calls::{tb_run, tb_step};
 pub use run_until::tb_run_until;
 pub use session_calls::tb_session;

@@ -8,8 +8,6 @@ mod bit_page;
 mod bit_rules;
 mod condition;
 mod origin;
-#[cfg(test)]
-mod tests;
 
 pub use bit_memory::BitMemory;
 pub use bit_rules::{BitOperand, all_if, and, between, difference, from_lowest, or, product, sum};

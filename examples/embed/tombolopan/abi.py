@@ -25,11 +25,13 @@ OUT_OF_MEMORY = 10
 SCRIPT = 11
 REFUSED = 12
 STOPPED = 13
+NO_MACHINE = 14
 CODES = {
     OK: "ok", FAULT: "fault", SVC: "svc", BREAKPOINT: "breakpoint", ILLEGAL: "illegal instruction",
     NOT_MAPPED: "page not mapped", ALREADY_MAPPED: "page already mapped", NO_ROOM: "no room",
     BAD_ARGUMENT: "bad argument", ABORT: "heap abort", OUT_OF_MEMORY: "out of memory",
     SCRIPT: "faulty script line", REFUSED: "tenant refused", STOPPED: "stopped",
+    NO_MACHINE: "no machine",
 }
 
 # tb_fault_kind
@@ -176,6 +178,17 @@ class _AloneEnd(ctypes.Structure):
     ]
 
 
+class _Fuzz(ctypes.Structure):
+    _fields_ = [("machine", c_void_p)]
+
+
+class _FuzzInput(ctypes.Structure):
+    _fields_ = [
+        ("input", c_void_p), ("input_length", c_size_t), ("slices", c_void_p),
+        ("slice_count", c_size_t), ("saturating", c_uint32), ("unused", c_uint32),
+    ]
+
+
 class _Page(ctypes.Structure):
     _fields_ = [
         ("number", c_uint64), ("mapped", c_uint32), ("attrs", c_uint32), ("bytes", c_uint8 * 4096),
@@ -214,6 +227,13 @@ class _Regs(ctypes.Structure):
 
 class _HeapStep(ctypes.Structure):
     _fields_ = [("call", _HeapCall), ("first_of", c_uint32), ("second_of", c_uint32)]
+
+
+class _LiveChunk(ctypes.Structure):
+    _fields_ = [
+        ("address", c_uint64), ("size", c_uint64), ("call", c_uint64), ("tag", c_uint32),
+        ("unused", c_uint32),
+    ]
 
 
 class _MachineAct(ctypes.Structure):
@@ -270,6 +290,11 @@ _CALLS = {
     "tb_alone": [
         POINTER(_Terms), c_void_p, c_size_t, POINTER(_KeptCall), c_size_t, POINTER(_AloneEnd),
     ],
+    "tb_fuzz_new": [POINTER(_Terms), POINTER(_Fuzz), POINTER(_AloneEnd)],
+    "tb_fuzz_run": [
+        POINTER(_Fuzz), POINTER(_FuzzInput), c_void_p, c_size_t, POINTER(_AloneEnd),
+    ],
+    "tb_fuzz_free": [POINTER(_Fuzz)],
     "tb_machine_acts": [
         POINTER(_Terms), POINTER(_MachineAct), c_size_t, c_void_p, c_size_t, POINTER(_KeptCall),
         c_size_t, POINTER(_MachineEnd),
@@ -293,6 +318,13 @@ _CALLS = {
     ],
     "tb_heap_calls": [POINTER(_HeapSetup), POINTER(_HeapCall), c_size_t],
     "tb_heap_replay": [POINTER(_HeapSetup), POINTER(_HeapStep), c_size_t, POINTER(c_uint64)],
+    "tb_heap_pages": [
+        POINTER(_HeapSetup), POINTER(_HeapStep), c_size_t, POINTER(_PageEntry), c_size_t,
+        POINTER(c_uint64), POINTER(c_uint64),
+    ],
+    "tb_heap_live": [
+        POINTER(_HeapStep), c_size_t, POINTER(_LiveChunk), c_size_t, POINTER(c_uint64),
+    ],
     "tb_run_traced": [
         *_MEMORY, POINTER(_Regs), POINTER(_TraceRequest), POINTER(_TracedInstruction), c_size_t,
         POINTER(_TracedAccess), c_size_t, POINTER(_TraceReport),
@@ -300,7 +332,7 @@ _CALLS = {
     "tb_disassemble": [c_uint32, c_uint64, c_void_p, c_size_t],
 }
 # What those answer that answer no number of 32 bits.
-_RESULTS = {"tb_memory_init": None}
+_RESULTS = {"tb_memory_init": None, "tb_fuzz_free": None}
 
 
 def _library_name() -> str:

@@ -32,6 +32,7 @@ class Code(Word):
     SCRIPT = 11, "faulty script line"
     REFUSED = 12, "tenant refused"
     STOPPED = 13, "stopped"
+    NO_MACHINE = 14, "no machine"
 
 
 class FaultKind(Word):

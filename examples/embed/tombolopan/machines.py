@@ -9,16 +9,15 @@ from .abi import ACT_LOAD, ACT_LOAD_TAG, ACT_SET, ACT_SLICE, ACT_STORE
 from .abi import FAULT, NO_ROOM, OUT_OF_MEMORY, REFUSED
 from .abi import _KeptCall, _MachineAct, _MachineEnd, _PageEntry, _Regs, _Terms, _lend
 from .abi import _library
-from .enums import Attrs, Refusal, TenantStatus
+from .enums import Refusal, TenantStatus
 from .faults import Fault, Refused
-from .memory import Region
+from .memory import Region, _regions_of
 from .ranges import as_bytes, in_bits
 from .registers import Regs
 from .tenants import Tenant, tenant_of
 
 SP, PC = 31, 32
 _SIZE = 8
-_PAGE = 4096
 _PLAIN = (1 << 56) - 1
 # An act: what is done, the number, the address, the value.
 Act = tuple[int, int, int, int]
@@ -115,14 +114,7 @@ class Machine:
         )
         if code == OUT_OF_MEMORY:
             raise MemoryError
-        found: list[Region] = []
-        for number, attrs in sorted((it.number, it.attrs) for it in entries[: mapped.value]):
-            last = found[-1] if found else None
-            if last and last.address + last.length == number * _PAGE and last.attrs == attrs:
-                found[-1] = Region(last.address, last.length + _PAGE, last.attrs)
-            else:
-                found.append(Region(number * _PAGE, _PAGE, Attrs(attrs)))
-        return found
+        return _regions_of((it.number, it.attrs) for it in entries[: mapped.value])
 
     def _changes(self) -> list[Act]:
         """The registers that were changed since the last slice."""

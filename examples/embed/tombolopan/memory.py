@@ -35,6 +35,18 @@ class Region(NamedTuple):
         return f"Region({self.address:#x}, {self.length:#x}, {names or 0})"
 
 
+def _regions_of(pages: Iterable[tuple[int, int]]) -> list[Region]:
+    """The regions of pages, the lowest first; each page its number and its attributes."""
+    found: list[Region] = []
+    for number, attrs in sorted(pages):
+        last = found[-1] if found else None
+        if last and last.address + last.length == number * PAGE and last.attrs == attrs:
+            found[-1] = Region(last.address, last.length + PAGE, last.attrs)
+        else:
+            found.append(Region(number * PAGE, PAGE, Attrs(attrs)))
+    return found
+
+
 def _page_numbers(address: int, length: int) -> range:
     """The numbers of pages from an address on; both are multiples of 4096."""
     in_range("address", address, 0, 1 << 56)
@@ -158,14 +170,8 @@ class Memory:
 
     def regions(self) -> list[Region]:
         """What is mapped, by ascending addresses."""
-        found: list[Region] = []
-        for number in sorted(self._index):
-            attrs = Attrs(self._places[self._index[number]].attrs & 15)
-            if found and sum(found[-1][:2]) == number * PAGE and found[-1].attrs == attrs:
-                found[-1] = Region(found[-1].address, found[-1].length + PAGE, attrs)
-            else:
-                found.append(Region(number * PAGE, PAGE, attrs))
-        return found
+        return _regions_of((number, self._places[at].attrs & 15)
+                           for number, at in self._index.items())
 
     def read(self, address: int, length: int, check: bool = True) -> bytes:
         """Bytes of pages with READ, tags compared where `check` is set. Fault tells what failed."""

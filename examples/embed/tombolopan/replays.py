@@ -6,21 +6,21 @@ import struct
 from collections.abc import Iterable, Iterator, Sequence
 from ctypes import byref, c_uint64
 from dataclasses import dataclass
-from typing import Union, overload
+from typing import NamedTuple, Union, overload
 
-from .abi import CALLOC, FAULT, FREE, LOAD, LOAD_TAG, MALLOC, MEMALIGN, OK, OUT_OF_MEMORY, REALLOC
+from .abi import CALLOC, FAULT, FREE, LOAD, LOAD_TAG, MALLOC, MEMALIGN, OUT_OF_MEMORY, REALLOC
 from .abi import STORE, USABLE_SIZE
-from .abi import _HeapSetup, _HeapStep, _library
+from .abi import _HeapSetup, _HeapStep, _LiveChunk, _PageEntry, _library
 from .enums import Code
 from .faults import Fault
 from .heaps import HeapAnswer
+from .memory import Region, _regions_of
 from .ranges import in_bits, in_range
 
 # A step: its operation, its arguments, and the calls that they refer to.
 _STEP = struct.Struct("<I4xQQ8x24xII")
 # What is entered of one: its code and its answer.
 _ANSWER = struct.Struct("<4xI16xQ32x")
-_PLAIN = (1 << 56) - 1
 _MOST = (1 << 32) - 1
 
 
@@ -41,6 +41,24 @@ class Answer:
 Argument = Union[int, Answer]
 # What it makes, and its two arguments.
 Step = tuple[int, Argument, Argument]
+
+
+class LiveChunk(NamedTuple):
+    """A chunk that is live: its plain address, how many bytes were asked for (of none 1), the tag
+    of its pointer, and the number of the call that made it, from 1 on."""
+
+    address: int
+    size: int
+    tag: int
+    call: int
+
+    @property
+    def pointer(self) -> int:
+        """The pointer to it, the tag in bits 59 to 56."""
+        return self.tag << 56 | self.address
+
+    def __repr__(self) -> str:
+        return f"LiveChunk({self.address:#x}, {self.size}, tag {self.tag}, call {self.call})"
 
 
 class Replay(Sequence[HeapAnswer]):
@@ -81,34 +99,18 @@ class Replay(Sequence[HeapAnswer]):
         """The code of each call as a number."""
         return [code for code, _ in self._told()]
 
+    def chunks(self) -> list[LiveChunk]:
+        """The chunks that are live in the end, by ascending addresses."""
+        found, live = (_LiveChunk * max(self._count, 1))(), c_uint64()
+        code = _library.tb_heap_live(self._steps, self._count, found, self._count, byref(live))
+        if code == OUT_OF_MEMORY:
+            raise MemoryError
+        return [LiveChunk(it.address, it.size, it.tag, it.call) for it in found[: live.value]]
+
     def live(self) -> dict[int, int]:
         """The chunks that are live in the end: by the pointer, its tag in bits 59 to 56, the size
         that was asked for."""
-        found: dict[int, tuple[int, int]] = {}
-        for it in self._steps[: self._count]:
-            call = it.call
-            if call.code != OK or call.op not in _CHANGES:
-                continue
-            if call.op in (FREE, REALLOC) and (call.op == FREE or call.answer or not call.second):
-                found.pop(self._first_of(it) & _PLAIN, None)
-            if call.op != FREE and call.answer:
-                found[call.answer & _PLAIN] = (call.answer, _size_of(call))
-        return dict(found.values())
-
-    def _first_of(self, it: _HeapStep) -> int:
-        added: int = self._steps[it.first_of - 1].call.answer if it.first_of else 0
-        own: int = it.call.first
-        return (own + added) % (1 << 64)
-
-
-_CHANGES = (MALLOC, FREE, CALLOC, REALLOC, MEMALIGN)
-
-
-def _size_of(call: ctypes.Structure) -> int:
-    """How many bytes a call asks for; none is 1."""
-    if call.op == MALLOC:
-        return int(call.first) or 1
-    return int(call.first * call.second if call.op == CALLOC else call.second) or 1
+        return {it.pointer: it.size for it in self.chunks()}
 
 
 class Heap:
@@ -131,6 +133,10 @@ class Heap:
     >>> found = heap.replay([(MALLOC, 24, 0), (MALLOC, 8, 0), (FREE, Answer(1), 0)])
     >>> {hex(pointer): size for pointer, size in found.live().items()}
     {'0x100000011000010': 8}
+    >>> found.chunks()
+    [LiveChunk(0x11000010, 8, tag 1, call 2)]
+    >>> heap.regions()
+    [Region(0x12000000, 0x1000, READ|WRITE|TAGGED)]
     >>> heap.replay([(FREE, Answer(1), 0)])
     Traceback (most recent call last):
         ...
@@ -197,15 +203,40 @@ class Heap:
         where a step is none, before anything is made; one that takes the answer of a call that gave
         none, since it aborted or faulted, is a bad argument, and those behind it are made."""
         rows = self.steps if steps is None else list(steps)
-        in_range("the number of steps", len(rows), 0, _MOST)
-        made, bad = (_HeapStep * max(len(rows), 1))(), c_uint64()
-        _enter(memoryview(made).cast("B"), rows)
+        made, bad = _made(rows), c_uint64()
         code = _library.tb_heap_replay(byref(self._setup), made, len(rows), byref(bad))
-        if code == OUT_OF_MEMORY:
-            raise MemoryError
-        if bad.value:
-            raise ValueError(_why(rows, bad.value))
+        _refuse(code, rows, bad.value)
         return Replay(made, len(rows))
+
+    def regions(self, steps: Iterable[Step] | None = None) -> list[Region]:
+        """The pages that are mapped after the calls of a list, or of what was entered, the lowest
+        first: neighbours with the same attributes are one region. The calls are made as `replay`
+        makes them, on a heap of their own. ValueError where a step is none."""
+        rows = self.steps if steps is None else list(steps)
+        made, mapped, bad = _made(rows), c_uint64(), c_uint64()
+        room = int(self._setup.pages)
+        pages = (_PageEntry * room)()
+        code = _library.tb_heap_pages(
+            byref(self._setup), made, len(rows), pages, room, byref(mapped), byref(bad)
+        )
+        _refuse(code, rows, bad.value)
+        return _regions_of((it.number, it.attrs) for it in pages[: mapped.value])
+
+
+def _made(rows: Sequence[Step]) -> ctypes.Array[_HeapStep]:
+    """Steps as the library takes them."""
+    in_range("the number of steps", len(rows), 0, _MOST)
+    made = (_HeapStep * max(len(rows), 1))()
+    _enter(memoryview(made).cast("B"), rows)
+    return made
+
+
+def _refuse(code: int, rows: Sequence[Step], bad: int) -> None:
+    """Raises what the code of a replay says: no memory, or a step that is none."""
+    if code == OUT_OF_MEMORY:
+        raise MemoryError
+    if bad:
+        raise ValueError(_why(rows, bad))
 
 
 def _enter(view: memoryview, rows: Sequence[Step]) -> None:

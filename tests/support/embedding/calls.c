@@ -246,10 +246,7 @@ static void heap_calls(void) {
     free(calls);
 }
 
-static void heap_replay(void) {
-    const tb_heap_setup setup = read_setup();
-    const size_t count = (size_t)number();
-    uint64_t bad = 0xee;
+static tb_heap_step *read_steps(size_t count) {
     tb_heap_step *steps = (tb_heap_step *)take(count, sizeof(tb_heap_step));
     for (size_t i = 0; i < count; i++) {
         steps[i].call.op = (uint32_t)number();
@@ -258,6 +255,55 @@ static void heap_replay(void) {
         steps[i].first_of = (uint32_t)number();
         steps[i].second_of = (uint32_t)number();
     }
+    return steps;
+}
+
+static void heap_pages(bool is_checked) {
+    const tb_heap_setup setup = read_setup();
+    const size_t room = (size_t)number(), count = (size_t)number();
+    uint64_t mapped = 0xee, bad = 0xee, sum = 0;
+    tb_heap_step *steps = read_steps(count);
+    tb_page_entry *pages = (tb_page_entry *)take(room, sizeof(tb_page_entry));
+    tell(1, (uint64_t)(is_checked ? tb_checked_heap_pages(&setup, steps, count, pages, room,
+                                                          &mapped, &bad)
+                                  : tb_heap_pages(&setup, steps, count, pages, room, &mapped,
+                                                  &bad)));
+    for (size_t i = 0; i < room && i < mapped; i++)
+        sum += pages[i].number * 16 + pages[i].attrs;
+    tell(3, mapped, bad, sum);
+    for (size_t i = 0; i < count; i++)
+        tell(2, (uint64_t)steps[i].call.code, steps[i].call.answer);
+    free(steps);
+    free(pages);
+}
+
+static void tell_live(const tb_heap_step *steps, size_t count, size_t room, bool is_checked) {
+    uint64_t live = 0xee;
+    tb_live_chunk *chunks = (tb_live_chunk *)take(room, sizeof(tb_live_chunk));
+    tell(1, (uint64_t)(is_checked ? tb_checked_heap_live(steps, count, chunks, room, &live)
+                                  : tb_heap_live(steps, count, chunks, room, &live)));
+    tell(1, live);
+    for (size_t i = 0; i < room && i < live; i++)
+        tell(5, chunks[i].address, chunks[i].size, chunks[i].call, (uint64_t)chunks[i].tag,
+             (uint64_t)chunks[i].unused);
+    free(chunks);
+}
+
+static void heap_live(bool is_checked) {
+    const tb_heap_setup setup = read_setup();
+    const size_t room = (size_t)number(), count = (size_t)number();
+    uint64_t bad = 0xee;
+    tb_heap_step *steps = read_steps(count);
+    tell(1, (uint64_t)tb_heap_replay(&setup, steps, count, &bad));
+    tell_live(steps, count, room, is_checked);
+    free(steps);
+}
+
+static void heap_replay(void) {
+    const tb_heap_setup setup = read_setup();
+    const size_t count = (size_t)number();
+    uint64_t bad = 0xee;
+    tb_heap_step *steps = read_steps(count);
     tell(1, (uint64_t)tb_heap_replay(&setup, steps, count, &bad));
     tell(1, bad);
     for (size_t i = 0; i < count; i++) {
@@ -334,7 +380,9 @@ static void disassemble(void) {
 static void be_hostile(void) {
     tb_heap_setup setup = {1, 64, 0, 1, 0};
     tb_heap_step step[2];
-    uint64_t stops[2] = {0, 0}, bad = 0;
+    tb_page_entry entries[2];
+    tb_live_chunk live[2];
+    uint64_t stops[2] = {0, 0}, bad = 0, mapped = 0;
     uint8_t text[8];
     tb_traced_access data[2];
     tb_traced_instruction code[2];
@@ -352,6 +400,26 @@ static void be_hostile(void) {
     tell(3, (uint64_t)tb_checked_heap_replay(&setup, step, 1, (uint64_t *)(void *)step),
          (uint64_t)tb_checked_heap_replay((tb_heap_setup *)(void *)step, step, 1, &bad),
          (uint64_t)tb_checked_heap_replay(&setup, step, huge / 64, &bad));
+    printf(" |");
+#define HEAP_PAGES(s, t, n, p, r, m, b)                                                           \
+    tell(1, (uint64_t)tb_checked_heap_pages(s, t, n, p, r, m, b))
+    HEAP_PAGES(NULL, step, 1, entries, 2, &mapped, &bad);
+    HEAP_PAGES(&setup, NULL, 1, entries, 2, &mapped, &bad);
+    HEAP_PAGES(&setup, step, huge, entries, 2, &mapped, &bad);
+    HEAP_PAGES(&setup, step, 1, NULL, 0, &mapped, &bad);
+    HEAP_PAGES(&setup, step, 1, entries, huge, &mapped, &bad);
+    HEAP_PAGES(&setup, step, 1, entries, 2, NULL, &bad);
+    HEAP_PAGES(&setup, step, 1, entries, 2, &mapped, NULL);
+    HEAP_PAGES(&setup, step, 1, entries, 2, &mapped, &mapped);
+    HEAP_PAGES(&setup, step, 1, (tb_page_entry *)(void *)step, 2, &mapped, &bad);
+    HEAP_PAGES(&setup, step, 1, entries, 2, &entries[1].number, &bad);
+#undef HEAP_PAGES
+    tell(6, (uint64_t)tb_checked_heap_live(NULL, 1, live, 2, &mapped),
+         (uint64_t)tb_checked_heap_live(step, huge / 64, live, 2, &mapped),
+         (uint64_t)tb_checked_heap_live(step, 1, NULL, 0, &mapped),
+         (uint64_t)tb_checked_heap_live(step, 1, live, huge, &mapped),
+         (uint64_t)tb_checked_heap_live(step, 1, live, 2, NULL),
+         (uint64_t)tb_checked_heap_live(step, 1, live, 2, &live[1].call));
     printf(" |");
 #define TRACED(p, s, r, q, i, n, a, m, e)                                                         \
     tell(1, (uint64_t)tb_checked_run_traced(p, place_count, s, r, q, i, n, a, m, e))
@@ -683,6 +751,14 @@ static void answer(const char *what) {
         tell_texts();
     else if (strcmp(what, "replay") == 0)
         heap_replay();
+    else if (strcmp(what, "live") == 0)
+        heap_live(false);
+    else if (strcmp(what, "live_checked") == 0)
+        heap_live(true);
+    else if (strcmp(what, "heap_mapped") == 0)
+        heap_pages(false);
+    else if (strcmp(what, "heap_mapped_checked") == 0)
+        heap_pages(true);
     else if (strcmp(what, "traced") == 0)
         run_traced();
     else if (strcmp(what, "disassemble") == 0)

@@ -183,17 +183,37 @@ class Calls:
         """Calls of a heap that take answers of earlier ones."""
         setup = abi._HeapSetup(*(number(words) for _ in range(5)))
         count, bad = number(words), ctypes.c_uint64(0xEE)
-        steps = (abi._HeapStep * max(count, 1))()
-        for it in steps[:count]:
-            call = it.call
-            call.op, call.first, call.second = number(words), number(words), number(words)
-            it.first_of, it.second_of = number(words), number(words)
+        steps = steps_of(words, count)
         text = told(LIBRARY.tb_heap_replay(byref(setup), steps, count, byref(bad)), bad.value)
         for it in steps[:count]:
             call = it.call
             text += " |" + told(call.op, call.code, call.first, call.second, call.answer)
             text += fault_of(call.fault) + told(it.first_of, it.second_of)
         return text
+
+    def live(self, words: Words) -> str:
+        """The chunks that are live behind a heap's calls."""
+        setup = abi._HeapSetup(*(number(words) for _ in range(5)))
+        room, count = number(words), number(words)
+        steps, chunks = steps_of(words, count), (abi._LiveChunk * max(room, 1))()
+        bad, found = ctypes.c_uint64(0xEE), ctypes.c_uint64(0xEE)
+        text = told(LIBRARY.tb_heap_replay(byref(setup), steps, count, byref(bad)))
+        text += told(LIBRARY.tb_heap_live(steps, count, chunks, room, byref(found)), found.value)
+        return text + "".join(told(it.address, it.size, it.call, it.tag, it.unused)
+                              for it in chunks[: min(room, found.value)])
+
+    def heap_mapped(self, words: Words) -> str:
+        """The pages of a heap after its calls."""
+        setup = abi._HeapSetup(*(number(words) for _ in range(5)))
+        room, count = number(words), number(words)
+        steps, pages = steps_of(words, count), (abi._PageEntry * max(room, 1))()
+        found, bad = ctypes.c_uint64(0xEE), ctypes.c_uint64(0xEE)
+        code = LIBRARY.tb_heap_pages(
+            byref(setup), steps, count, pages, room, byref(found), byref(bad)
+        )
+        some = pages[: min(room, found.value)]
+        text = told(code, found.value, bad.value, sum(it.number * 16 + it.attrs for it in some))
+        return text + "".join(told(it.call.code, it.call.answer) for it in steps[:count])
 
     def traced(self, words: Words) -> str:
         """A run whose instructions and accesses are entered."""
@@ -302,6 +322,16 @@ def terms_of(words: Words) -> tuple[Any, object]:
         pages, out, asynchronous, 0,
     )
     return terms, (held, none)
+
+
+def steps_of(words: Words, count: int) -> Any:
+    """Steps of a replay."""
+    steps = (abi._HeapStep * max(count, 1))()
+    for it in steps[:count]:
+        call = it.call
+        call.op, call.first, call.second = number(words), number(words), number(words)
+        it.first_of, it.second_of = number(words), number(words)
+    return steps
 
 
 def acts_of(words: Words) -> tuple[Any, int]:

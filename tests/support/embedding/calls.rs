@@ -186,6 +186,8 @@ impl Calls {
             "trace" => self.trace(words),
             "traced" => self.traced(words),
             "replay" => replay(words),
+            "heap_mapped" => heap_mapped(words),
+            "live" => live_of(words),
             "peek" => told(&[self.memory.peek(number(words), number(words) as u32)]),
             "place" => self.place(words),
             "heap" => heap(words),
@@ -199,16 +201,47 @@ impl Calls {
     }
 }
 
-fn replay(words: &mut SplitWhitespace<'_>) -> String {
-    let setup = setup(words);
-    let mut steps: Vec<HeapStep> = (0..number(words))
+fn steps_of(words: &mut SplitWhitespace<'_>) -> Vec<HeapStep> {
+    (0..number(words))
         .map(|_| {
             let op = number(words) as u32;
             let (first, second) = (number(words), number(words));
             let call = HeapCall { op, first, second, ..HeapCall::default() };
             HeapStep { call, first_of: number(words) as u32, second_of: number(words) as u32 }
         })
-        .collect();
+        .collect()
+}
+
+fn live_of(words: &mut SplitWhitespace<'_>) -> String {
+    let setup = setup(words);
+    let mut chunks = vec![LiveChunk::default(); number(words) as usize];
+    let mut steps = steps_of(words);
+    let (code, _) = heap_replay(&setup, &mut steps);
+    let (answer, live) = heap_live(&steps, &mut chunks);
+    let mut text = told(&[code.into(), answer.into(), live]);
+    for it in &chunks[..chunks.len().min(live as usize)] {
+        text += &told(&[it.address, it.size, it.call, it.tag.into(), it.unused.into()]);
+    }
+    text
+}
+
+fn heap_mapped(words: &mut SplitWhitespace<'_>) -> String {
+    let setup = setup(words);
+    let mut pages = vec![PageEntry::default(); number(words) as usize];
+    let mut steps = steps_of(words);
+    let (code, mapped, bad) = heap_pages(&setup, &mut steps, &mut pages);
+    let told_pages = &pages[..pages.len().min(mapped as usize)];
+    let sum = told_pages.iter().map(|it| it.number * 16 + u64::from(it.attrs)).sum();
+    let mut text = told(&[code.into(), mapped, bad, sum]);
+    for HeapStep { call, .. } in &steps {
+        text += &told(&[call.code.into(), call.answer]);
+    }
+    text
+}
+
+fn replay(words: &mut SplitWhitespace<'_>) -> String {
+    let setup = setup(words);
+    let mut steps = steps_of(words);
     let (code, bad) = heap_replay(&setup, &mut steps);
     let mut text = told(&[code.into(), bad]);
     for HeapStep { call, first_of, second_of } in &steps {

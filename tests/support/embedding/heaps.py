@@ -2,8 +2,10 @@
 
 from collections.abc import Iterator
 
-from tests.support.embedding.lines import NO_FAULT, Line, line, words
-from tests.support.embedding.memory import BAD_ARGUMENT, FAULT, OK, TAG_CHECK, TRANSLATION
+from tests.support.embedding.lines import ALL, C, NO_FAULT, Line, line, words
+from tests.support.embedding.memory import (
+    BAD_ARGUMENT, FAULT, NO_ROOM, OK, TAG_CHECK, TRANSLATION,
+)
 
 MALLOC, FREE, CALLOC, REALLOC, MEMALIGN, USABLE_SIZE, LOAD, STORE, LOAD_TAG = range(1, 10)
 ABORT = 9
@@ -139,6 +141,52 @@ def replays() -> Iterator[Line]:
     yield line("replay 1 0 0 1 0 1 1 24 0 0 0", BAD_ARGUMENT, 0, "|", 1, 0, 24, 0, 0, *NO_FAULT,
                0, 0)
     yield line("replay 1 4097 0 1 0 0", BAD_ARGUMENT, 0)
+
+
+def mapped() -> Iterator[Line]:
+    """Which pages a heap has mapped: none, the first of a class, and those of a large chunk."""
+    tagged, it = 11, chunk(Generator(1).draw(0))
+    small = (CLASS_2 // 4096) * 16 + tagged
+    for name, languages in (("heap_mapped", ALL), ("heap_mapped_checked", C)):
+        for text, answer in (
+            ("1 64 0 1 0 4 0", (OK, 0, 0, 0)),
+            ("1 64 0 1 0 4 1 1 24 0 0 0", (OK, 1, 0, small, OK, it)),
+            ("1 64 0 1 0 0 1 1 24 0 0 0", (NO_ROOM, 1, 0, 0, OK, it)),
+            ("1 64 0 1 0 0 0", (OK, 0, 0, 0)),
+            ("1 64 0 1 0 4 2 1 24 0 0 0 2 0 0 1 0", (OK, 1, 0, small, OK, it, OK, 0)),
+            ("1 64 0 1 0 4 1 2 0 0 1 0", (BAD_ARGUMENT, 0, 1, 0, 0, 0)),
+            ("1 4097 0 1 0 4 1 1 24 0 0 0", (BAD_ARGUMENT, 0, 0, 0, 0, 0)),
+        ):
+            yield line(f"{name} {text}", *answer, languages=languages)
+
+
+def live() -> Iterator[Line]:
+    """Which chunks are live: made and not freed, moved, resized, of no bytes, and one that a call
+    takes from another."""
+    tags, setup = Generator(1), "1 64 0 1 0"
+    first, second = tags.draw(0), tags.draw(1)
+    one, malloc = (CLASS_2 + 16, 24, 1, first, 0), "1 24 0 0 0"
+    two = (CLASS_2 + 64 + 16, 20, 2, second, 0)
+    rows: tuple[tuple[int, tuple[str, ...], tuple[int, ...]], ...] = (
+        (4, (), (OK, 0)),
+        (4, (malloc,), (OK, 1, *one)),
+        (0, (malloc,), (NO_ROOM, 1)),
+        (1, (malloc, "3 4 5 0 0"), (NO_ROOM, 2, *one)),
+        (2, (malloc, "3 4 5 0 0"), (OK, 2, *one, *two)),
+        (2, (malloc, "2 0 0 1 0"), (OK, 0)),
+        (2, (malloc, "2 0 0 1 0", "2 0 0 1 0"), (OK, 0)),
+        (2, (malloc, "2 8 0 1 0"), (OK, 1, *one)),
+        (2, (malloc, "4 0 0 1 0"), (OK, 0)),
+        (2, (malloc, "4 0 0xffffffffffffffff 1 0"), (OK, 1, *one)),
+        (2, (malloc, "4 0 30 1 0"), (OK, 1, CLASS_2 + 16, 30, 2, first, 0)),
+        (2, (malloc, "6 0 0 1 0", "1 0 0 2 0"),
+         (OK, 2, *one, CLASS_2 + 64 + 16, 24, 3, second, 0)),
+        (2, ("1 0xffffffffffffffff 0 0 0",), (OK, 0)),
+    )
+    for name, languages in (("live", ALL), ("live_checked", C)):
+        for room, steps, answer in rows:
+            text = f"{name} {setup} {room} {len(steps)} {' '.join(steps)}".rstrip()
+            yield line(text, OK, *answer, languages=languages)
 
 
 def headers() -> dict[int, Line]:

@@ -142,5 +142,5 @@ def hostile() -> Iterator[Line]:
     """Null, huge, misaligned and overlapping arguments, and ranges that are empty."""
     yield line("places 1 0", 0, 0)
     bad = BAD_ARGUMENT
-    yield line("hostile", bad, bad, "|", *[bad] * 7, "|", *[bad] * 15, "|", 1, 0, 1, 0, 0, 0, 0,
-               languages=C)
+    yield line("hostile", bad, bad, "|", *[bad] * 7, "|", *[bad] * 16, "|", *[bad] * 15, "|", 1, 0,
+               1, 0, 0, 0, 0, languages=C)

@@ -1,6 +1,6 @@
 -- For the code's own clauses, views and invariants.
 -- The places of the plain memory: its slots.
-use Rattle.std.specs.Prelude.{ℕ, ◌<◌, [], get_or, length}
+use Rattle.std.specs.Prelude.{ℕ, ◌<◌, [], get_or, length, true}
 use Rattle.std.specs.FinMap as map
 use Rattle.mte_tags.specs.Memory.{Memory, Page}
 use Rattle.mte_flat.specs.Inner.Slots.{page_of, slots_memory}
@@ -17,7 +17,7 @@ memory_of p = slots_memory (beside_pages p) p.slots.items
 
 -- for where no place is
 abbrev pub no_slot : Slot
-no_slot = record { page = 0; bytes = []; tags = []; attrs = record { 0 = 0 } }
+no_slot = record { page = 0; bytes = []; tags = []; attrs = record { 0 = 0 }; written = true }
 
 -- The slot with an index.
 abbrev pub slot_in : Pages → ℕ → Slot

@@ -1,8 +1,10 @@
-use Rattle.std.proofs.Common.{◌≡◌, ◌∙◌, ◌<◌, ◌^◌, ◌+◌, ◌-◌, sym, ap, subst, arith, None}
+use Rattle.std.proofs.Common.{[], ◌∷◌, ◌++◌, ◌≡◌, ◌∙◌, ◌<◌, ◌^◌, ◌+◌, ◌-◌, sym, ap, subst, arith, None}
 use Rattle.mte_tags.specs.Memory.{Memory, page_at, with_page, with_new_pages, new_page}
 use Rattle.mte_flat.specs.Inner.Slots.{slots_memory, page_of, AreSlots}
 use Rattle.mte_tags.proofs.Pages.{page_at-with_page_other}
 use Rattle.mte_tags.proofs.PageLaws.{with_new_pages-step}
+use Rattle.mte_flat.specs.Inner.Written.{KeepsUnwritten, unwritten_on}
+use Rattle.mte_flat.proofs.Unwritten.{unwritten_push}
 use Rattle.mte_flat.proofs.Places.{AreSlots-push, slots_memory-push, any_memory}
 use Rattle.mte_flat.proofs.pages.map_slots.Goals as goal
 
@@ -24,6 +26,7 @@ loop-i-preserved c =
       len = omega (arith, c.push_reserved.ensures.len);
       capacity = c.push_reserved.ensures.capacity ∙ c.loop-i.invariant.capacity;
       slots = subst AreSlots (sym pushed) (AreSlots-push any_memory items slot (free any_memory) low c.new_slot-slot.ensures.small c.loop-i.invariant.slots);
+      kept = subst (KeepsUnwritten c.args.slots.now.items) (sym pushed) (unwritten_on c.args.slots.now.items items (items ++ slot ∷ []) c.loop-i.invariant.kept (unwritten_push items slot c.new_slot-slot.ensures.written));
       free = λ n k l u. ap (λ m. page_at m (c.args.page + k)) (new n) ∙ page_at-with_page_other (slots_memory n items) q (new_page c.args.attrs.0) (c.args.page + k) (omega arith) ∙ c.loop-i.invariant.free n k (omega arith) (omega arith);
       memory = λ n.
           ap (λ m. with_new_pages m (c.args.page + (c.loop-i.i + 1)) (c.args.count - (c.loop-i.i + 1)) c.args.attrs) (new n)

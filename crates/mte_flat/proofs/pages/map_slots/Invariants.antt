@@ -1,6 +1,7 @@
 use Rattle.std.proofs.Common.{◌≡◌, ℕ, ◌<◌, ◌≤◌, ◌+◌, ◌-◌, vec_len, vec_capacity, None}
 use Rattle.mte_tags.specs.Memory.{Memory, page_at, with_new_pages}
 use Rattle.mte_flat.specs.Inner.Slots.{slots_memory, AreSlots}
+use Rattle.mte_flat.specs.Inner.Written.{KeepsUnwritten}
 use Rattle.mte_flat.proofs.pages.map_slots.Given as goal
 
 abbrev pub invariant-loop-i : goal.invariant-loop-i
@@ -8,6 +9,7 @@ invariant-loop-i l = record {
   len : vec_len l.slots ≡ vec_len l.initial.slots + l.i;
   capacity : vec_capacity l.slots ≡ vec_capacity l.initial.slots;
   slots : AreSlots l.slots.items;
+  kept : KeepsUnwritten l.initial.slots.items l.slots.items;
   free : (n : Memory) (k : ℕ) → l.i ≤ k → k < l.count → page_at (slots_memory n l.slots.items) (l.page + k) ≡ None;
   memory : (n : Memory) → with_new_pages (slots_memory n l.slots.items) (l.page + l.i) (l.count - l.i) l.attrs ≡ with_new_pages (slots_memory n l.initial.slots.items) l.page l.count l.attrs;
 }

@@ -4,7 +4,8 @@ use Rattle.mte_flat.specs.Inner.Slots.{slots_memory, AreSlots}
 use Rattle.mte_flat.specs.declared.slot.Slot.{Slot}
 use Rattle.mte_tags.proofs.Pages.{page_at-without_page_other}
 use Rattle.mte_tags.proofs.PageLaws.{without_pages-step}
-use Rattle.mte_flat.proofs.Places.{any_memory, mapped_low, some_is_not_none, AreSlots-swap_remove, slots_memory-swap_remove}
+use Rattle.mte_flat.specs.Inner.Written.{unwritten_on}
+use Rattle.mte_flat.proofs.Places.{any_memory, any_slot, mapped_low, some_is_not_none}
 use Rattle.mte_flat.proofs.pages.unmap_slots.Goals as goal
 
 pub overflow_add-gone : goal.overflow_add-gone
@@ -27,15 +28,14 @@ loop-i-preserved c =
     let s = c.in-Some.s in
     let there : s < length items = rw (sym c.deref.ensures.value) found.0 in
     let page : (d : Slot) → (get_or items s d).page ≡ q = λ d. ap (λ xs. (get_or xs s d).page) (sym c.deref.ensures.value) ∙ found.1 d in
-    let d = c.swap_remove.result in
-    let removed = c.swap_remove.ensures.items in
-    let new = λ (n : Memory). ap (slots_memory n) removed ∙ slots_memory-swap_remove n items s q d c.loop-i.invariant.slots there (page d) in
+    let new = λ (n : Memory). c.take_slot.ensures.memory n any_slot ∙ ap (without_page (slots_memory n items)) (page any_slot) in
     let next : c.args.page + (c.loop-i.i + 1) ≡ q + 1 = omega arith in
     let less : c.args.count - (c.loop-i.i + 1) ≡ c.args.count - c.loop-i.i - 1 = omega arith in
     record {
-      len = omega (arith, c.swap_remove.ensures.len);
-      capacity = c.swap_remove.ensures.capacity ∙ c.loop-i.invariant.capacity;
-      slots = subst AreSlots (sym removed) (AreSlots-swap_remove items s d there c.loop-i.invariant.slots);
+      len = omega (arith, c.take_slot.ensures.len, c.loop-i.invariant.len);
+      capacity = c.take_slot.ensures.capacity ∙ c.loop-i.invariant.capacity;
+      slots = c.take_slot.ensures.slots;
+      kept = unwritten_on c.args.slots.now.items items c.take_slot.new.slots.items c.loop-i.invariant.kept c.take_slot.ensures.kept;
       mapped = λ n k l u. subst IsSome (sym (ap (λ m. page_at m (c.args.page + k)) (new n) ∙ page_at-without_page_other (slots_memory n items) q (c.args.page + k) (λ e. omega arith))) (c.loop-i.invariant.mapped n k (omega arith) (omega arith));
       memory = λ n.
           ap (λ m. without_pages m (c.args.page + (c.loop-i.i + 1)) (c.args.count - (c.loop-i.i + 1))) (new n)

@@ -1,0 +1,125 @@
+//! A tenant alone with a snapshot of its machine.
+
+ghost use Rattle.std.specs.Prelude.{◌≡◌, [], None, IfOk, IfErr, OnOk, OnErr, IsErrOf, false};
+ghost use Rattle.obstacle.specs.Obstacles.{IfRefused};
+ghost use Rattle.mte_svc.specs.Ready.{IsReady};
+ghost use Rattle.mte_tenant.specs.Admissions.{start_in};
+ghost use Rattle.mte_tenant.specs.Ledger.{is_bad, admission_refusal, charge_of};
+
+use a64_run::{Edges, OpCache};
+use mte_flat::{Flat, SnapshotMemory};
+use mte_svc::{Input, TenantParts};
+use mte_tenant::{Admission, AdmitError, admit_alone, is_bad_reservation, slice_with_edges};
+use obstacle::Obstacle;
+use std::alloc::{AllocError, Global};
+
+/// A tenant's machine, as the definition has it, and a snapshot of it. Its table of kept
+/// instructions stays when it is restored.
+#[derive(Drop)]
+pub struct SnapshotTenant {
+    /// All but its memory: its record, registers, heap and input.
+    pub parts: TenantParts,
+    /// Its memory, with that of the snapshot.
+    pub memory: SnapshotMemory,
+    /// The snapshot but for its memory.
+    pub saved: TenantParts,
+    words: OpCache,
+    ghost ready: { IsReady parts memory.now },
+    ghost saved_ready: { IsReady saved memory.saved },
+}
+
+impl SnapshotTenant {
+    ghost use Rattle.mte_tenant.specs.Machines.{machine_of, start_of, after_slice};
+    ghost use Rattle.tenant_snapshot.specs.Snapshots.{with_input};
+
+    /// A tenant at its first instruction, which is its snapshot too, or why it is refused. Only
+    /// `OutOfMemory`, where an allocation failed, can come in place of the refusals from `Image`
+    /// on.
+    #[tactic(auto, unfolding(mte_tenant::specs::Ledger::admission_refusal))]
+    pub fn new(
+        alloc: Global,
+        admission: &Admission<'_>,
+    ) -> Result<SnapshotTenant, Obstacle<AdmitError>>
+        ensures machine { IfOk result (λ t. machine_of t.parts t.memory.now
+            ≡ start_of admission.now.id (start_in admission.now)) }
+        ensures saved { IfOk result (λ t. machine_of t.saved t.memory.saved
+            ≡ start_of admission.now.id (start_in admission.now)) }
+        ensures accepted { OnOk result (admission_refusal (charge_of admission.now.terms.pages) []
+            admission.now.id (start_in admission.now) ≡ None) }
+        ensures refused { IfErr result (λ o. IfRefused o (λ e.
+            admission_refusal (charge_of admission.now.terms.pages) []
+            admission.now.id (start_in admission.now) ≡ Some e)) }
+        ensures memory { IsErrOf result Obstacle.OutOfMemory
+            → is_bad admission.now.terms ≡ false }
+    {
+        if is_bad_reservation(admission) {
+            return Err(Obstacle::Refused(AdmitError::BadReservation));
+        }
+        let words = OpCache::new(alloc)?;
+        let mut flat = Flat::new(alloc, admission.terms.pages as usize, admission.terms.mode)?;
+        let parts = admit_alone(alloc, admission, &mut flat)?;
+        let saved = parts.copy(alloc)?;
+        let memory = SnapshotMemory::new(alloc, &flat)?;
+        Ok(SnapshotTenant {
+            parts,
+            memory,
+            saved,
+            words,
+        })
+    }
+
+    /// A slice of at most `steps` instructions, whatever counts the branches that it takes.
+    pub fn slice<E: Edges>(&mut self, edges: &mut E, steps: u32)
+        ensures machine { machine_of self.new.parts self.new.memory.now
+            ≡ after_slice steps (machine_of self.old.parts self.old.memory.now) }
+        ensures saved { machine_of self.new.saved self.new.memory.saved
+            ≡ machine_of self.old.saved self.old.memory.saved }
+    {
+        slice_with_edges(
+            &mut self.words,
+            &mut self.parts,
+            &mut self.memory,
+            edges,
+            steps,
+        );
+    }
+
+    /// Makes the snapshot that of the machine now. Where memory is refused, nothing changes.
+    pub fn save(&mut self, alloc: Global) -> Result<(), AllocError>
+        ensures machine { machine_of self.new.parts self.new.memory.now
+            ≡ machine_of self.old.parts self.old.memory.now }
+        ensures saved { OnOk result (machine_of self.new.saved self.new.memory.saved
+            ≡ machine_of self.old.parts self.old.memory.now) }
+        ensures err { OnErr result (machine_of self.new.saved self.new.memory.saved
+            ≡ machine_of self.old.saved self.old.memory.saved) }
+    {
+        let saved = self.parts.copy(alloc)?;
+        self.memory.save(alloc)?;
+        self.saved = saved;
+        Ok(())
+    }
+
+    /// Makes the machine that of the snapshot, with these bytes as what it may read. Where memory
+    /// is refused, nothing changes.
+    pub fn restore(&mut self, alloc: Global, input: &[u8]) -> Result<(), AllocError>
+        ensures machine { OnOk result (machine_of self.new.parts self.new.memory.now
+            ≡ with_input (machine_of self.old.saved self.old.memory.saved) input.now) }
+        ensures err { OnErr result (machine_of self.new.parts self.new.memory.now
+            ≡ machine_of self.old.parts self.old.memory.now) }
+        ensures saved { machine_of self.new.saved self.new.memory.saved
+            ≡ machine_of self.old.saved self.old.memory.saved }
+    {
+        let history = self.saved.history.copy(alloc)?;
+        let heap = self.saved.heap.copy(alloc)?;
+        let input = Input::new(alloc, input)?;
+        self.memory.restore();
+        self.parts = TenantParts {
+            history,
+            regs: self.saved.regs,
+            heap,
+            input,
+            left: self.saved.left,
+        };
+        Ok(())
+    }
+}

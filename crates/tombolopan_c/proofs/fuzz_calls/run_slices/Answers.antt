@@ -1,0 +1,16 @@
+use Rattle.std.proofs.Common.{◌∙◌, sym}
+use Rattle.tombolopan.proofs.Slices.{slices_next, slices_done}
+use Rattle.tombolopan_c.proofs.fuzz_calls.run_slices.Goals as goal
+
+pub loop-steps-preserved : goal.loop-steps-preserved
+loop-steps-preserved c = (
+  slices_next _ _ c.args.slices.now c.loop-steps.steps-index 0 c.loop-steps-test.true c.slice.ensures-machine
+      ∙ c.loop-steps.invariant.0,
+  c.slice.ensures-saved ∙ c.loop-steps.invariant.1,
+)
+
+pub returns : goal.returns
+returns c = (
+  sym (slices_done _ c.args.slices.now c.loop-steps.steps-index c.loop-steps-test.false) ∙ c.loop-steps.invariant.0,
+  c.loop-steps.invariant.1,
+)

@@ -1,0 +1,66 @@
+-- A machine that is kept between calls: its setup, and its runs.
+use Rattle.std.specs.Prelude.{◌≡◌, ◌⊎◌, ℕ, Bool, true, false, Option, Some, None}
+use Rattle.obstacle.specs.Obstacles.{IfRefused}
+use Rattle.obstacle.specs.declared.Obstacle.{Obstacle}
+use Rattle.obstacle.specs.declared.Obstacle.TheVariants as obstacle
+use Rattle.mte_tenant.specs.declared.admission.AdmitError.{AdmitError}
+use Rattle.mte_tenant.specs.Ledger.{is_bad}
+use Rattle.mte_tenant.specs.Machines.{Machine, machine_of, start_of}
+use Rattle.tenant_snapshot.specs.Maps.{is_map_length}
+use Rattle.tenant_snapshot.specs.Snapshots.{with_input}
+use Rattle.tenant_snapshot.specs.declared.tenant.SnapshotTenant.{SnapshotTenant}
+use Rattle.tombolopan.specs.Alone.{after_slices, refusal_alone}
+use Rattle.call_reports.specs.declared.codes.TheConstants as code
+use Rattle.tombolopan_c.specs.LoneTenants.{lent_start, end_without, told_end, without_tenant}
+use Rattle.tombolopan_c.specs.declared.alone_end.AloneEnd.{AloneEnd}
+use Rattle.tombolopan_c.specs.declared.fuzz_input.LentFuzzInput.{LentFuzzInput}
+use Rattle.tombolopan_c.specs.declared.lent_terms.LentTerms.{LentTerms}
+
+-- The machine as it is now.
+abbrev pub now_of : SnapshotTenant → Machine
+now_of s = machine_of s.parts s.memory.now
+
+-- The machine to which it is restored.
+abbrev pub saved_of : SnapshotTenant → Machine
+saved_of s = machine_of s.saved s.memory.saved
+
+-- ---- the setup
+
+-- The machine behind the setup of a tenant that is admitted.
+abbrev pub set_up : LentTerms → Machine
+set_up t = after_slices (start_of 0 (lent_start t)) t.slices.now
+
+-- What a setup leaves in the handle, and what is told of it. Want of memory never comes in place of
+-- a refusal of the reservation.
+abbrev pub HasSaved : LentTerms → Option SnapshotTenant → AloneEnd → Type 0
+HasSaved t (Some s) e =
+    (refusal_alone 0 (lent_start t) ≡ None) × (now_of s ≡ set_up t) × (saved_of s ≡ set_up t)
+    × (e ≡ told_end code.OK (set_up t).parts.history)
+HasSaved t None e =
+    (o : Obstacle AdmitError) × IfRefused o (λ r. refusal_alone 0 (lent_start t) ≡ Some r)
+    × (o ≡ obstacle.OutOfMemory → is_bad (lent_start t).terms ≡ false) × (e ≡ end_without o)
+
+-- ---- a run
+
+-- The machine behind a run: that of the setup with another input, after the run's slices.
+abbrev pub after_run : LentFuzzInput → Machine → Machine
+after_run r saved = after_slices (with_input saved r.input.now) r.slices.now
+
+-- What a run makes of the machine, and what is told of it; the test says whether the map has a
+-- length that it may have.
+abbrev pub HasAnswered :
+    LentFuzzInput → Bool → SnapshotTenant → SnapshotTenant → AloneEnd → Type 0
+HasAnswered r true old new e =
+    ((now_of new ≡ after_run r (saved_of old)) × (e ≡ told_end code.OK new.parts.history))
+    ⊎ ((now_of new ≡ now_of old) × (e ≡ without_tenant code.OUT_OF_MEMORY code.NO_REFUSAL))
+HasAnswered r false old new e =
+    (now_of new ≡ now_of old) × (e ≡ without_tenant code.BAD_ARGUMENT code.NO_REFUSAL)
+
+-- What a run makes of the handle. The snapshot stays.
+abbrev pub HasRun :
+    LentFuzzInput → ℕ → Option SnapshotTenant → Option SnapshotTenant → AloneEnd → Type 0
+HasRun r counts None new e =
+    (new ≡ None) × (e ≡ without_tenant code.NO_MACHINE code.NO_REFUSAL)
+HasRun r counts (Some old) new e =
+    (s : SnapshotTenant) × (new ≡ Some s) × (saved_of s ≡ saved_of old)
+    × HasAnswered r (is_map_length counts) old s e

@@ -1,0 +1,129 @@
+"""A tenant that sets itself up once and runs many times from there, with an input each time."""
+from __future__ import annotations
+
+import ctypes
+from collections.abc import Sequence
+from ctypes import byref, c_uint8, c_uint32
+from dataclasses import dataclass
+
+from .abi import BAD_ARGUMENT, NO_MACHINE, OUT_OF_MEMORY, REFUSED
+from .abi import _AloneEnd, _Fuzz, _FuzzInput, _lend, _library, _Terms
+from .enums import Refusal, TenantStatus
+from .faults import Fault, Refused
+from .ranges import all_in_bits, as_bytes, in_bits
+
+
+@dataclass(frozen=True)
+class FuzzRun:
+    """How a tenant ended: `status`, `number`, `pc`, `pointer` and `fault` as Tenant has them,
+    `steps` with those of the setup, how many bytes it wrote and how many heap calls it made."""
+
+    status: TenantStatus
+    number: int
+    pc: int
+    pointer: int
+    fault: Fault | None
+    steps: int
+    written: int
+    heap: int
+
+    @property
+    def is_crash(self) -> bool:
+        """Whether it ended with a fault, an abort of the heap, an illegal word or a break."""
+        return self.status not in (TenantStatus.RUNNING, TenantStatus.EXIT)
+
+
+class Fuzz:
+    """A tenant's machine that is kept as it is behind its setup. Each run begins there with an
+    input of its own, and is the same as that of a tenant which starts anew.
+
+    `setup` has the slices of the setup: the first one ends where the tenant yields. `edges` is how
+    many counts of taken branches there are, a power of two from 256 to 65536; the counts of a run
+    stay until the next one. Refused tells why the tenant is not admitted. A machine is of use to
+    one thread at a time, the one that made it. `close` frees it, as the end of a `with` does.
+
+    >>> from tombolopan import example
+    >>> with Fuzz(example("hi.elf"), setup=[2], pages=5, room=16, edges=256) as fuzz:
+    ...     print(fuzz.start.status, fuzz.start.steps)
+    ...     for text in b"one", b"another":
+    ...         run = fuzz.run(text, slices=[100])
+    ...         print(run.status, run.number, run.steps, run.written, run.is_crash)
+    ...     print(len(fuzz.counts), sum(fuzz.counts))
+    running 2
+    exit 0 8 2 False
+    exit 0 8 2 False
+    256 0
+    """
+
+    def __init__(
+        self,
+        image: bytes,
+        setup: Sequence[int] = (1 << 20,),
+        seed: int = 1,
+        pages: int = 256,
+        room: int = 65536,
+        asynchronous: bool = False,
+        edges: int = 4096,
+    ) -> None:
+        self._machine = _Fuzz()
+        self._map = (c_uint8 * in_bits("edges", edges, 32))()
+        cuts = (c_uint32 * max(len(setup), 1))(*all_in_bits("setup", setup, 32))
+        program, given = _lend(as_bytes("image", image)), _lend(b"")
+        terms = _Terms(
+            program.bytes, program.length, given.bytes, given.length, ctypes.addressof(cuts),
+            len(setup), in_bits("seed", seed, 64), in_bits("pages", pages, 32),
+            in_bits("room", room, 32), asynchronous, 0,
+        )
+        end = _AloneEnd()
+        _library.tb_fuzz_new(byref(terms), byref(self._machine), byref(end))
+        self.start = _run_of(end)
+
+    @property
+    def counts(self) -> bytes:
+        """How often each hash of an edge came in the last run, 255 at most."""
+        return bytes(self._map)
+
+    def run(self, input: bytes, slices: Sequence[int] = (1 << 20,)) -> FuzzRun:
+        """Runs it from its setup on, with an input."""
+        given = _lend(as_bytes("input", input))
+        cuts = (c_uint32 * max(len(slices), 1))(*all_in_bits("slices", slices, 32))
+        wanted = _FuzzInput(
+            given.bytes, given.length, ctypes.addressof(cuts), len(slices), True, 0
+        )
+        ctypes.memset(self._map, 0, len(self._map))
+        end = _AloneEnd()
+        _library.tb_fuzz_run(
+            byref(self._machine), byref(wanted), self._map, len(self._map), byref(end)
+        )
+        return _run_of(end)
+
+    def close(self) -> None:
+        """Frees the machine, once; a run fails then."""
+        _library.tb_fuzz_free(byref(self._machine))
+
+    def __enter__(self) -> Fuzz:
+        return self
+
+    def __exit__(self, *_: object) -> None:
+        self.close()
+
+    def __del__(self) -> None:
+        if hasattr(self, "_machine"):
+            self.close()
+
+
+def _run_of(end: _AloneEnd) -> FuzzRun:
+    """A run by what the library says of it, or why there is none."""
+    if end.code == OUT_OF_MEMORY:
+        raise MemoryError
+    if end.code == REFUSED:
+        raise Refused(Refusal.of(end.refusal))
+    if end.code == NO_MACHINE:
+        raise ValueError("the machine is closed")
+    if end.code == BAD_ARGUMENT:
+        raise ValueError("edges is a power of two from 256 to 65536")
+    status = end.status
+    return FuzzRun(
+        TenantStatus.of(status.status), status.number, status.pc, status.pointer,
+        Fault.of(status.fault) if status.fault.kind else None, end.steps, end.output, end.calls,
+    )

@@ -1,0 +1,133 @@
+#!/usr/bin/env python3
+"""Builds tenants to be fuzzed, and the fuzzers.
+
+    build.py FOLDER [--library LIBRARY.a] [--tenant cards|expat|lua]... [--fuzzer libfuzzer|afl]...
+
+FOLDER gets NAME.elf of each tenant, the programs libfuzzer and afl, and for each tenant a corpus
+and a dictionary. Without --tenant it is cards, without --fuzzer each one whose compiler is there.
+LIBRARY is crates/tombolopan_c/out/libtombolopan_c.a, which tools/build.sh makes. expat and lua are
+built from Debian's sources by ../libc/tenant-cc. Needed (Debian): clang, lld, libclang-rt-14-dev,
+afl++; for expat and lua llvm, apt and the network too.
+"""
+import argparse
+import pathlib
+import shutil
+import subprocess
+import sys
+from collections.abc import Sequence
+from typing import NoReturn
+
+HERE = pathlib.Path(__file__).resolve().parent
+ROOT = HERE.parents[1]
+sys.path.insert(0, str(HERE.parent))
+import debian_source  # noqa: E402
+
+LIBRARY = ROOT / "crates/tombolopan_c/out/libtombolopan_c.a"
+TENANT_CC = HERE.parent / "libc/tenant-cc"
+BARE = ["clang", "--target=aarch64-linux-gnu", "-fuse-ld=lld", "-ffreestanding", "-nostdlib",
+        "-static", "-mgeneral-regs-only"]
+EXPAT = ["xmlparse", "xmlrole", "xmltok"]
+LUA = ("lapi lauxlib lbaselib lcode lcorolib lctype ldblib ldebug ldo ldump lfunc lgc linit liolib "
+       "llex lmathlib lmem loadlib lobject lopcodes loslib lparser lstate lstring lstrlib ltable "
+       "ltablib ltm lundump lutf8lib lvm lzio").split()
+Words = Sequence["str | pathlib.Path"]
+
+
+def leave(text: str) -> NoReturn:
+    """Says why nothing is built."""
+    sys.exit(f"build.py: {text}")
+
+
+def run(words: Words) -> None:
+    """Runs a command; ends where it fails."""
+    ran = subprocess.run([str(it) for it in words], stdout=subprocess.PIPE,
+                         stderr=subprocess.STDOUT, text=True, check=False)
+    if ran.returncode:
+        leave(f"{' '.join(map(str, words))}\n{ran.stdout[-3000:]}")
+
+
+def cards(folder: pathlib.Path) -> None:
+    """The reader of cards."""
+    files = [HERE.parent / "c/start.c", HERE / "cards_tenant.c", HERE / "cards.c"]
+    run([*BARE, "-O2", "-g", "-Wall", "-Wextra", "-o", folder / "cards.elf", *files])
+
+
+def tenant(folder: pathlib.Path, name: str, flags: Words, files: Words) -> None:
+    """A tenant of the C library of tenants."""
+    run([sys.executable, TENANT_CC, "-O2", "-g", "-w", *flags, "-o", folder / f"{name}.elf",
+         HERE / f"{name}_tenant.c", *files])
+
+
+def source(folder: pathlib.Path, package: str) -> pathlib.Path:
+    """The source of a package of Debian, which the folder keeps."""
+    try:
+        return debian_source.fetch(folder / "sources", package)
+    except debian_source.NotFetched as error:
+        leave(str(error))
+
+
+def expat(folder: pathlib.Path) -> None:
+    """Expat's parser."""
+    lib = source(folder, "expat") / "expat/lib"
+    flags: Words = [f"-I{HERE}/../../tools/speed/real", f"-I{lib}"]
+    tenant(folder, "expat", flags, [lib / f"{it}.c" for it in EXPAT])
+
+
+def lua(folder: pathlib.Path) -> None:
+    """Lua's interpreter."""
+    src = source(folder, "lua5.4") / "src"
+    tenant(folder, "lua", [f"-I{src}", "--stack=262144"], [src / f"{it}.c" for it in LUA])
+
+
+TENANTS = {"cards": cards, "expat": expat, "lua": lua}
+
+
+def libfuzzer(folder: pathlib.Path, linked: Words) -> None:
+    """The tenant's edges are the extra counters of libFuzzer."""
+    run(["clang", "-O2", "-g", "-fsanitize=fuzzer", f"-I{ROOT}/include", "-o", folder / "libfuzzer",
+         HERE / "libfuzzer.c", HERE / "kept_tenant.c", *linked])
+
+
+def afl(folder: pathlib.Path, linked: Words) -> None:
+    """The tenant's edges are AFL++'s map: only its own loop is instrumented."""
+    plain = []
+    for name in ("afl_map", "kept_tenant"):
+        plain.append(folder / f"{name}.o")
+        run(["clang", "-O2", f"-I{ROOT}/include", "-c", "-o", plain[-1], HERE / f"{name}.c"])
+    run(["env", "AFL_QUIET=1", "AFL_LLVM_INSTRUMENT=CLASSIC", "afl-clang-fast", "-O2", "-o",
+         folder / "afl", HERE / "afl.c", *plain, *linked])
+
+
+FUZZERS = {"libfuzzer": (libfuzzer, "clang"), "afl": (afl, "afl-clang-fast")}
+
+
+def heap() -> pathlib.Path:
+    """The archive by which the library calls malloc and free."""
+    page = subprocess.run(["rt", "doc"], stdout=subprocess.PIPE, text=True, check=True).stdout
+    return pathlib.Path(page.splitlines()[0]).resolve().parent / "c/liblibc_c.a"
+
+
+def main() -> None:
+    """The command line."""
+    parser = argparse.ArgumentParser(usage=__doc__)
+    parser.add_argument("folder", type=pathlib.Path)
+    parser.add_argument("--library", type=pathlib.Path, default=LIBRARY)
+    parser.add_argument("--tenant", action="append", choices=TENANTS)
+    parser.add_argument("--fuzzer", action="append", choices=FUZZERS)
+    wanted = parser.parse_args()
+    if not wanted.library.is_file():
+        leave(f"{wanted.library} is not there: tools/build.sh [--unproved] --only "
+              "libtombolopan_c.a")
+    folder = wanted.folder.resolve()
+    folder.mkdir(parents=True, exist_ok=True)
+    for name in wanted.tenant or ["cards"]:
+        TENANTS[name](folder)
+        shutil.copytree(HERE / "corpus" / name, folder / f"{name}.corpus", dirs_exist_ok=True)
+        shutil.copyfile(HERE / f"{name}.dict", folder / f"{name}.dict")
+    linked = [wanted.library, heap()]
+    for name in wanted.fuzzer or [it for it, (_, tool) in FUZZERS.items() if shutil.which(tool)]:
+        FUZZERS[name][0](folder, linked)
+
+
+if __name__ == "__main__":
+    main()

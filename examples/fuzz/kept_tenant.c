@@ -1,0 +1,67 @@
+#include "kept_tenant.h"
+
+#include <stdio.h>
+#include <stdlib.h>
+#include <tombolopan.h>
+
+static tb_fuzz tenant;
+static uint32_t steps;
+
+static _Noreturn void give_up(const char *what, const char *why)
+{
+    fprintf(stderr, "%s: %s\n", what, why);
+    exit(1);
+}
+
+static unsigned long long number(const char *name, int base, unsigned long long usual)
+{
+    const char *text = getenv(name);
+    return text ? strtoull(text, NULL, base) : usual;
+}
+
+static uint8_t *read_file(const char *name, size_t *length)
+{
+    FILE *file = fopen(name, "rb");
+    long size = -1;
+    if (file && fseek(file, 0, SEEK_END) == 0)
+        size = ftell(file);
+    uint8_t *bytes = size < 0 ? NULL : malloc((size_t)size + 1);
+    if (!bytes || fseek(file, 0, SEEK_SET) || fread(bytes, 1, (size_t)size, file) != (size_t)size)
+        give_up(name, "not read");
+    fclose(file);
+    *length = (size_t)size;
+    return bytes;
+}
+
+void tenant_load(void)
+{
+    static const uint8_t no_input[1];
+    const char *name = getenv("TENANT");
+    uint32_t setup = (uint32_t)number("SETUP", 10, 10000000);
+    size_t length;
+    tb_alone_end end;
+    if (!name)
+        give_up("TENANT", "names the image");
+    uint8_t *image = read_file(name, &length);
+    tb_terms terms = {image, length, no_input, 0, &setup, 1, number("SEED", 16, 1),
+                      (uint32_t)number("PAGES", 10, 256), 65536, 0, 0};
+    if (tb_fuzz_new(&terms, &tenant, &end) != TB_OK)
+        give_up(name, end.code == TB_REFUSED ? tb_refusal_name(end.refusal) : tb_text(end.code));
+    if (end.status.status != TB_STATUS_RUNNING)
+        give_up(name, "ends in its setup");
+    if (end.steps == setup)
+        give_up(name, "does not yield in its setup (SETUP)");
+    steps = (uint32_t)number("STEPS", 10, 1000000);
+    free(image);
+}
+
+int tenant_run(const uint8_t *input, size_t length, uint8_t *map, size_t map_length,
+               int saturating)
+{
+    static const uint8_t no_input[1];
+    tb_alone_end end;
+    tb_fuzz_input run = {length ? input : no_input, length, &steps, 1, (uint32_t)saturating, 0};
+    if (tb_fuzz_run(&tenant, &run, map, map_length, &end) != TB_OK)
+        give_up("tb_fuzz_run", tb_text(end.code));
+    return end.status.status >= TB_STATUS_FAULT;
+}

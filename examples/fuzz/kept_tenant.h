@@ -1,0 +1,25 @@
+/* A tenant that a fuzzer runs many times, in this process. */
+#ifndef KEPT_TENANT_H
+#define KEPT_TENANT_H
+
+#include <stddef.h>
+#include <stdint.h>
+
+/*
+ * Loads the image that the variable TENANT names, and lets it set itself up: it runs until it
+ * yields, or for SETUP steps (10,000,000). Else the process ends, and standard error says why.
+ *
+ *     SEED     the seed of its tags and its heap, in hexadecimal (1)
+ *     PAGES    its reservation (256)
+ *     STEPS    how many instructions a run attempts at most (1,000,000)
+ */
+void tenant_load(void);
+
+/*
+ * Runs it with an input, and counts its edges in a map, of a power of two of counts from 256 to
+ * 65536. Whether it ended with a fault, an abort of the heap, an illegal word or a break.
+ */
+int tenant_run(const uint8_t *input, size_t length, uint8_t *map, size_t map_length,
+               int saturating);
+
+#endif

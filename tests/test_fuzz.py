@@ -1,0 +1,225 @@
+"""Fuzzing tenants: runs from a snapshot, beside tenants that start anew; crashes that replay; and a
+short campaign of each fuzzer."""
+
+import pathlib
+
+import pytest
+
+from tests.support import fuzzers
+from tests.support.embedding.built import in_python
+from tests.support.fuzzers import FUZZ, PLANTED
+from tests.support.growth import MEASURED
+from tests.support.instructions import call, move, program
+from tests.support.running import Word, run
+from tests.support.tools import give_up, need
+from tests.test_python_package import PACKAGE, told
+
+# malloc(24); yield; read(x0, 16); exit with the first byte that was read.
+IMAGE = program(*call(3, 24), 0xAA0003E9, *call(9), 0xAA0903E0, move(1, 16), move(8, 2), 0xD4000001,
+                0x39400120, move(8, 0), 0xD4000001)
+BEGIN = f"""
+import ctypes
+from tombolopan.abi import _library, _Fuzz, _FuzzInput, _AloneEnd
+image = bytes.fromhex('{IMAGE.hex()}')
+fuzz = Fuzz(image, pages=64, room=16)
+"""
+
+
+def test_runs_begin_behind_the_setup(shared: pathlib.Path) -> None:
+    """The setup is done once, each run has its own input, and nothing of the last one is left."""
+    assert told(shared, BEGIN + """
+assert (fuzz.start.status, fuzz.start.steps, fuzz.start.heap) == (TenantStatus.RUNNING, 6, 1)
+for text in (b"A", b"", b"BC", b"A", bytes(range(255, 0, -1))):
+    run = fuzz.run(text)
+    fresh = alone(image, text, slices=[1 << 20] * 2, pages=64, room=16)
+    assert (run.status, run.number, run.steps) == (TenantStatus.EXIT, fresh.number, fresh.steps)
+    assert run.number == (text[0] if text else 0) and not run.is_crash
+cut = fuzz.run(b"A", slices=[2, 1])
+assert (cut.status, cut.steps) == (TenantStatus.RUNNING, 9)
+assert fuzz.run(b"A", slices=[]).steps == 6
+print("done")
+""") == "done\n"
+
+
+def test_arguments_out_of_range(shared: pathlib.Path) -> None:
+    """A machine that is not there, maps of other lengths, a tenant that is refused: a code each,
+    and nothing changed."""
+    assert told(shared, BEGIN + """
+end, none = _AloneEnd(), _Fuzz()
+text, cuts = ctypes.create_string_buffer(b"A"), (ctypes.c_uint32 * 1)(100)
+given = _FuzzInput(ctypes.addressof(text), 1, ctypes.addressof(cuts), 1, 0, 0)
+
+def run(machine, length):
+    counts = (ctypes.c_uint8 * max(length, 1))(*[7] * max(length, 1))
+    code = _library.tb_fuzz_run(ctypes.byref(machine), ctypes.byref(given), counts, length,
+                                ctypes.byref(end))
+    assert end.code == code and (code == OK or bytes(counts) == bytes([7]) * len(counts))
+    return code
+
+assert run(none, 256) == NO_MACHINE and end.status.status == 0 and not none.machine
+assert [run(fuzz._machine, it) for it in (0, 1, 128, 255, 257, 300, 4095, 65535, 65537, 131072)] \\
+    == [BAD_ARGUMENT] * 10
+assert [run(fuzz._machine, 1 << it) for it in range(8, 17)] == [OK] * 9
+assert end.status.number == ord("A")
+for terms in (dict(pages=0), dict(pages=4097), dict(room=65537), dict(pages=2)):
+    try:
+        Fuzz(image, **terms)
+    except Refused as error:
+        print(error.kind)
+try:
+    Fuzz(image[:60])
+except Refused as error:
+    print(error.kind)
+_library.tb_fuzz_free(ctypes.byref(none))
+fuzz.close()
+fuzz.close()
+try:
+    fuzz.run(b"")
+except ValueError as error:
+    print(error)
+for edges in (0, 255, 1000):
+    try:
+        Fuzz(image, edges=edges).run(b"")
+    except ValueError as error:
+        print(error)
+""") == ("BadReservation\nBadReservation\nBadReservation\nReservationTooSmall\nShort\n"
+         "the machine is closed\n" + "edges is a power of two from 256 to 65536\n" * 3)
+
+
+def test_a_machine_that_is_made_again(shared: pathlib.Path) -> None:
+    """A handle that holds a machine gets another one, and holds none where that is refused."""
+    assert told(shared, BEGIN + """
+from tombolopan.abi import _Terms
+end = _AloneEnd()
+held, cuts = ctypes.create_string_buffer(image, len(image)), (ctypes.c_uint32 * 1)(100)
+
+def make(pages):
+    terms = _Terms(ctypes.addressof(held), len(image), ctypes.addressof(held), 0,
+                   ctypes.addressof(cuts), 1, 1, pages, 16, 0, 0)
+    code = _library.tb_fuzz_new(ctypes.byref(terms), ctypes.byref(fuzz._machine),
+                                ctypes.byref(end))
+    return code, end.refusal, bool(fuzz._machine.machine)
+
+assert make(64) == make(8) == (OK, 0, True)
+assert fuzz.run(b"Z").number == ord("Z")
+code, refusal, holds = make(0)
+assert (code, holds) == (REFUSED, False) and refusal != 0
+print("done")
+""") == "done\n"
+
+
+def test_a_tenant_that_ends_in_its_setup(shared: pathlib.Path) -> None:
+    """Its runs do nothing, and tell the same end."""
+    assert told(shared, BEGIN + """
+over = Fuzz(image, setup=[1 << 20] * 2, pages=64, room=16)
+assert over.start.status == TenantStatus.EXIT
+assert over.run(b"A") == over.run(b"B") == over.start and sum(over.counts) == 0
+print("done")
+""") == "done\n"
+
+
+def test_what_is_counted(shared: pathlib.Path) -> None:
+    """Counts are those of the run alone, the same each time, and others for another way."""
+    image = fuzzers.cards(shared)
+    assert told(shared, f"""
+import pathlib
+fuzz = Fuzz(pathlib.Path({str(image)!r}).read_bytes())
+found = dict()
+for text in (b"", b"CARD", b"CARDN\\3abc", b"CARDD\\2" + b"12", b"CARD"):
+    runs = [(fuzz.run(text), fuzz.counts) for _ in range(3)]
+    assert runs[0] == runs[1] == runs[2]
+    found[text] = fuzz.counts
+assert len(set(found.values())) == 4 and all(map(sum, found.values()))
+long = b"CARDQ" + bytes([255]) + bytes(255)
+fuzz.run(long * 1)
+print(max(fuzz.counts) == 255)
+""") == "True\n"
+
+
+def test_runs_are_those_of_fresh_tenants(shared: pathlib.Path) -> None:
+    """Some thousand runs from a snapshot: each ends as the tenant does that starts anew, and the
+    process does not grow."""
+    extra = in_python(shared, PACKAGE).extra
+    words: list[Word] = ["python3", "-B", FUZZ / "compare_fresh.py", fuzzers.witness(shared),
+                         "2000"]
+    ran = run(words, extra=extra, seconds=300)
+    assert (ran.status, ran.errors) == (0, "")
+    assert ran.output.startswith("2000 runs are those of fresh tenants (exit ")
+
+
+def test_no_memory_is_kept(shared: pathlib.Path) -> None:
+    """Thousands of machines that are made and freed, and runs that map pages."""
+    image = fuzzers.witness(shared)
+    assert told(shared, f"""
+import pathlib
+image = pathlib.Path({str(image)!r}).read_bytes()
+drawn = random.Random(2)
+
+def turn():
+    with Fuzz(image, pages=64) as fuzz:
+        fuzz.run(drawn.randbytes(60), slices=[3000])
+""" + MEASURED) == "\n"
+
+
+@pytest.mark.parametrize("bug", sorted(PLANTED))
+def test_crashes_replay_and_are_explained(
+    shared: pathlib.Path, alone: pathlib.Path, tmp_path: pathlib.Path, bug: str
+) -> None:
+    """A thousand runs of a crash are alike, whatever ran between them; mte_run ends at the same
+    instruction and names the bug, with the stacks of the access, the call and the free."""
+    image, (text, cause) = fuzzers.cards(shared), PLANTED[bug]
+    said = told(shared, f"""
+import pathlib
+fuzz = Fuzz(pathlib.Path({str(image)!r}).read_bytes())
+crash, drawn = bytes.fromhex({text.hex()!r}), random.Random(3)
+first = fuzz.run(crash)
+assert first.is_crash
+for _ in range(1000):
+    fuzz.run(b"CARD" + drawn.randbytes(20))
+    assert fuzz.run(crash) == first
+print(hex(first.pc), first.steps)
+""").split()
+    crash = tmp_path / "crash"
+    crash.write_bytes(text)
+    report = run([alone, "--input", crash, image], seconds=120)
+    assert cause in report.output and f"{int(said[0], 16):#x}" in report.output.replace(" ", " ")
+    assert report.output.count("cards.c:") >= (2 if bug == "overflow" else 3)
+
+
+def test_libfuzzer_finds_a_bug(shared: pathlib.Path, tmp_path: pathlib.Path) -> None:
+    """LLVM's fuzzer over the cards, for half a minute at most, and its crash made smaller."""
+    need("clang", "ld.lld")
+    if "-fsanitize=fuzzer" and not list(pathlib.Path("/usr/lib").glob(
+            "llvm-*/lib/clang/*/lib/linux/libclang_rt.fuzzer-x86_64.a")):
+        give_up("missing: libclang_rt.fuzzer (tests/packages.txt has the Debian packages)")
+    folder = fuzzers.fuzzers(shared, "libfuzzer")
+    words: list[Word] = [
+        folder / "libfuzzer", "-seed=1", "-max_len=256", f"-dict={folder}/cards.dict",
+        "-max_total_time=30", f"-artifact_prefix={tmp_path}/", folder / "cards.corpus",
+    ]
+    ran = fuzzers.fuzz(folder, words, cwd=tmp_path)
+    found = sorted(tmp_path.glob("crash-*"))
+    assert ran.status != 0 and len(found) == 1, ran.errors[-2000:]
+    assert found[0].read_bytes().startswith(b"CARD")
+    again = fuzzers.fuzz(folder, [folder / "libfuzzer", found[0]], cwd=tmp_path)
+    assert again.status != 0 and "deadly signal" in again.errors
+
+
+def test_afl_finds_a_bug(shared: pathlib.Path, tmp_path: pathlib.Path) -> None:
+    """AFL++ over the cards, until a crash, for half a minute at most: it sees the tenant's edges,
+    keeps inputs for them, and finds a bug from a card that is near to one."""
+    need("clang", "ld.lld", "afl-fuzz", "afl-clang-fast")
+    folder = fuzzers.fuzzers(shared, "afl")
+    seeds = tmp_path / "seeds"
+    seeds.mkdir()
+    (seeds / "near").write_bytes(PLANTED["double free"][0].replace(b"{\0", b"}\0"))
+    words: list[Word] = [
+        "afl-fuzz", "-i", seeds, "-o", tmp_path / "found", "-x", folder / "cards.dict", "-V", "30",
+        "-t", "5000", "-s", "1", "--", folder / "afl",
+    ]
+    ran = fuzzers.fuzz(folder, words, cwd=tmp_path, AFL_BENCH_UNTIL_CRASH="1")
+    kept = tmp_path / "found" / "default"
+    assert (kept / "fuzzer_stats").exists(), ran.output[-2000:] + ran.errors[-2000:]
+    assert len(list((kept / "queue").glob("id:*"))) > 1
+    found = [it for it in (kept / "crashes").glob("id:*")]
+    assert found, (kept / "fuzzer_stats").read_text()
