@@ -83,8 +83,9 @@ PLAIN_PLACES = {
     3: (UNDER, "1 byte", "40-byte variable `buffer`"),
     7: (OVER, "0 bytes", "16-byte variable `more_of_image`"),
     19: (OVER, "0 bytes", "8-byte variable `number`"),
+    21: (OVER, "0 bytes", "400-byte variable `large`"),
 }
-PLACE_IDIOMS = range(1, 25)
+PLACE_IDIOMS = range(1, 27)
 ARITHMETIC = {
     1: "0x64 of 32 bits, divided by 0", 2: "0x1 of 64 bits, divided by 0",
     3: "0x1 of 32 bits, shifted by 40", 4: "0x1 of 64 bits, shifted by 64",
@@ -100,7 +101,8 @@ def image(shared: pathlib.Path, build: str, source: str, *defined: str) -> pathl
     def compile_image(path: pathlib.Path) -> None:
         for file in (SOURCES / source, EXAMPLES / "c" / "start.c", EXAMPLES / "c" / "tenant.h"):
             shutil.copy(file, path.parent)
-        options = [*FLAGS, "-fno-builtin", *(f"-D{it}" for it in defined)]
+        cpp = ["-fno-exceptions", "-fno-rtti"] if source.endswith(".cc") else []
+        options = [*FLAGS, "-fno-builtin", *cpp, *(f"-D{it}" for it in defined)]
         succeed([*words, *options, "-o", path.name, "./start.c", f"./{source}"], cwd=path.parent)
 
     name = "-".join([build, source.removesuffix(".c"), *defined])
@@ -233,6 +235,8 @@ def test_variables_that_are_not_told(
         told = check(alone, image(tmp_path, build, "place_idioms.c", f"IDIOM={idiom}"),
                      kinds="places")
         assert told.status == 0 and "check:" not in told.errors, (idiom, told.errors)
+    told = check(alone, image(tmp_path, build, "place_idioms.cc"), kinds="places")
+    assert told.status == 0 and "check:" not in told.errors, told.errors
     if not build.startswith("clang"):
         return
     for bug, words in ((1, ["--strip-debug"]), (8, ["--strip-all"])):

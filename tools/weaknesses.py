@@ -1,25 +1,31 @@
 #!/usr/bin/env python3
 """Small programs with one weakness each, by the families of CWE, and what `mte_run --check` says.
 
-    weaknesses.py [--run PROGRAM] [--only WORD] [--list]
+    weaknesses.py [--run PROGRAM] [--only WORD] [--sample STEP] [--list | --write]
 
 Each program is made of a place (the stack, the image, the heap), of a way by which its pointer
 travels, of a type and of a wrong use. It is compiled by clang and gcc at -O0 and at -O2, with the
-wrong use and without it: with it, `--check` has to name the family's cause; without it, it has to
-say nothing. PROGRAM is crates/mte_run/out/mte_run. WORD is a family, as 121, and --list only prints
-the programs' titles. Printed is a table by families, and each program that is not as it should be.
+wrong use and without it: with it, `--check` has to name the family's cause, and the line of the
+wrong use (or of a use behind it) has to be in the stack; without it, it has to say nothing. PROGRAM
+is crates/mte_run/out/mte_run. WORD is a family, as 121. Of each STEP programs one is taken, and
+compiled at -O0 alone; --list only prints the programs' titles. Printed is a table by families, and
+each program that is not as it should be; --write puts the table into docs/CHECKING.md. Status 1: a
+program is accused without the bug, or one of a sample is not told.
 """
 
 import argparse
 import itertools
 import pathlib
+import re
 import subprocess
+import sys
 import tempfile
 from collections.abc import Iterator
 from concurrent.futures import ThreadPoolExecutor
 from typing import NamedTuple
 
 ROOT = pathlib.Path(__file__).resolve().parent.parent
+PAGE = ROOT / "docs" / "CHECKING.md"
 SAMPLES = ROOT / "examples" / "c"
 RUN = ROOT / "crates" / "mte_run" / "out" / "mte_run"
 FLAGS = ("-w", "-g", "-ffreestanding", "-nostdlib", "-static", "-mgeneral-regs-only",
@@ -394,7 +400,8 @@ def programs() -> Iterator[Program]:
 class Verdict(NamedTuple):
     """What is said of a build of a program, with its bug and without."""
 
-    is_told: bool
+    is_found: bool
+    is_right: bool
     is_clean: bool
     words: str
 
@@ -405,6 +412,21 @@ def said_of(run: pathlib.Path, image: pathlib.Path, given: pathlib.Path) -> str:
              str(image)]
     ran = subprocess.run(words, capture_output=True, timeout=120, check=False)
     return ran.stderr.decode(errors="replace")
+
+
+def has_line(program: Program, said: str) -> bool:
+    """Whether a line that is wrong is in the stack: that of the access, or for chunks that are lost
+    that of the call. A wrong value may be used behind the line that makes it."""
+    lines = program.text.splitlines()
+    stack = re.split(r"\n  (?:allocated|freed) by ", said)[0] if "Cause" in said else said
+    numbers = [int(it) for it in re.findall(r" at program\.c:(\d+)", stack)]
+    wrong = [at for at, line in enumerate(lines, 1) if "WRONG(" in line and "#define" not in line]
+    return any(min(wrong) <= number <= max(wrong) + 2 for number in numbers)
+
+
+def causes_in(said: str) -> list[str]:
+    """The lines that name a cause, or chunks that are lost."""
+    return [line for line in said.splitlines() if "Cause" in line or "lost at" in line]
 
 
 def judged(run: pathlib.Path, program: Program, compiler: str, level: str) -> Verdict:
@@ -420,51 +442,81 @@ def judged(run: pathlib.Path, program: Program, compiler: str, level: str) -> Ve
                      str(SAMPLES / "start.c"), str(folder / "program.c"), "-o", str(image)]
             built = subprocess.run(words, capture_output=True, text=True, check=False)
             if built.returncode:
-                return Verdict(False, False, f"not compiled: {built.stderr[:400]}")
+                return Verdict(False, False, False, f"not compiled: {built.stderr[:400]}")
             told.append(said_of(run, image, folder / "input"))
-    causes = [line for line in told[0].splitlines() if "Cause" in line or "lost at" in line]
-    wrong = [line for line in told[1].splitlines() if "Cause" in line or "lost at" in line]
-    is_told = any(word in line for word in program.wanted for line in causes)
-    return Verdict(is_told, not wrong, "; ".join(causes or ["nothing"]) + "".join(
-        f"; without the bug: {line}" for line in wrong))
+    causes, wrong = causes_in(told[0]), causes_in(told[1])
+    is_right = any(word in line for word in program.wanted for line in causes)
+    said = "; ".join(causes or ["nothing"])
+    return Verdict(bool(causes), is_right and has_line(program, told[0]), not wrong,
+                   said + "".join(f"; without the bug: {line}" for line in wrong))
 
 
-def table(rows: dict[str, list[list[Verdict]]]) -> Iterator[str]:
-    """By families how many programs there are, and of how many each build is told."""
-    builds = [f"{compiler} {level}" for compiler in COMPILERS for level in LEVELS]
-    yield f"| CWE | programs | {' | '.join(builds)} |"
+def table(rows: dict[str, list[list[Verdict]]], builds: list[tuple[str, str]]) -> Iterator[str]:
+    """By families how many programs there are, and of how many each build is told, and how many of
+    these with the right cause and line."""
+    names = [f"{compiler} {level}" for compiler, level in builds]
+    yield f"| CWE | Programs | {' | '.join(names)} |"
     yield "|---|---|" + "---|" * len(builds)
-    sums = [0] * len(builds)
+    sums = [(0, 0)] * len(builds)
     for family, all_ in rows.items():
-        counts = [sum(it[at].is_told for it in all_) for at in range(len(builds))]
-        sums = [a + b for a, b in zip(sums, counts)]
-        yield f"| {family} | {len(all_)} | {' | '.join(str(it) for it in counts)} |"
+        counts = [(sum(it[at].is_found for it in all_), sum(it[at].is_right for it in all_))
+                  for at in range(len(builds))]
+        sums = [(a + c, b + d) for (a, b), (c, d) in zip(sums, counts)]
+        cells = " | ".join(f"{found}, {right}" for found, right in counts)
+        yield f"| {family} | {len(all_)} | {cells} |"
     total = sum(len(it) for it in rows.values())
-    yield f"| all | {total} | {' | '.join(str(it) for it in sums)} |"
+    yield f"| all | {total} | {' | '.join(f'{found}, {right}' for found, right in sums)} |"
+
+
+def judge_all(run: pathlib.Path, chosen: list[Program],
+              builds: list[tuple[str, str]]) -> dict[str, list[list[Verdict]]]:
+    """The verdicts of programs by their families; those that are not as they should be are
+    printed."""
+    rows: dict[str, list[list[Verdict]]] = {}
+    with ThreadPoolExecutor(2) as workers:
+        tries = [[workers.submit(judged, run, program, *build) for build in builds]
+                 for program in chosen]
+        for program, tried in zip(chosen, tries):
+            verdicts = [it.result() for it in tried]
+            rows.setdefault(program.family, []).append(verdicts)
+            for (compiler, level), verdict in zip(builds, verdicts):
+                if not (verdict.is_right and verdict.is_clean):
+                    print(f"{program.family}: {program.title}: {compiler} {level}: "
+                          f"{verdict.words}", flush=True)
+    return rows
+
+
+def write_table(lines: list[str]) -> None:
+    """Puts the table into the page, in the place of the one that is there."""
+    text = PAGE.read_text(encoding="utf-8")
+    held = re.search(r"^\| CWE \|.*\n(?:\|.*\n)*", text, re.M)
+    if not held:
+        sys.exit("weaknesses.py: the page has no such table")
+    PAGE.write_text(text.replace(held[0], "\n".join(lines) + "\n"), encoding="utf-8")
 
 
 def main() -> None:
     reader = argparse.ArgumentParser()
     reader.add_argument("--run", type=pathlib.Path, default=RUN)
     reader.add_argument("--only", default="")
+    reader.add_argument("--sample", type=int, default=0)
     reader.add_argument("--list", action="store_true")
+    reader.add_argument("--write", action="store_true")
     given = reader.parse_args()
     chosen = [it for it in programs() if it.family.startswith(given.only)]
+    chosen = chosen[::given.sample or 1]
     if given.list:
         print("\n".join(f"{it.family}: {it.title}" for it in chosen))
         return
-    builds = list(itertools.product(COMPILERS, LEVELS))
-    rows: dict[str, list[list[Verdict]]] = {}
-    with ThreadPoolExecutor(2) as workers:
-        for program in chosen:
-            tries = [workers.submit(judged, given.run, program, *build) for build in builds]
-            verdicts = [it.result() for it in tries]
-            rows.setdefault(program.family, []).append(verdicts)
-            for (compiler, level), verdict in zip(builds, verdicts):
-                if not (verdict.is_told and verdict.is_clean):
-                    print(f"{program.family}: {program.title}: {compiler} {level}: "
-                          f"{verdict.words}", flush=True)
-    print("\n".join(table(rows)))
+    builds = list(itertools.product(COMPILERS, LEVELS[:1] if given.sample else LEVELS))
+    rows = judge_all(given.run, chosen, builds)
+    lines = list(table(rows, builds))
+    print("\n".join(lines))
+    if given.write:
+        write_table(lines)
+    every = [verdict for all_ in rows.values() for verdicts in all_ for verdict in verdicts]
+    is_right = all(it.is_clean and (it.is_right or not given.sample) for it in every)
+    sys.exit(0 if is_right else 1)
 
 
 if __name__ == "__main__":

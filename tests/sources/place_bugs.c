@@ -57,6 +57,16 @@ __attribute__((noinline)) static void keep_deep_local(int depth)
     sink = depth;
 }
 
+__attribute__((noinline)) static long sum_many(long a, long b, long c, long d, long e, long f,
+                                               long g, long h, long i, long j, long k, long l,
+                                               long m, long n)
+{
+    char small[3], large[400];
+    fill(small, 3);
+    fill(large, 400 + one);
+    return a + b + c + d + e + f + g + h + i + j + k + l + m + n + large[one] + small[one];
+}
+
 static int bug(void)
 {
 #if BUG == 1 /* a write 1 past an array of 16 bytes of the stack, by an index */
@@ -134,6 +144,8 @@ static int bug(void)
 #elif BUG == 20 /* 24 bytes written out of 16 of the image, by a service */
     tenant_write(text_of_image, 24);
     return 0;
+#elif BUG == 21 /* 401 bytes set in 400 of a stack with arguments, by a function */
+    return (int)sum_many(1, 2, 3, 4, 5, 6, 7, 8, 9, 10, 11, 12, 13, one);
 #endif
 }
 

@@ -452,6 +452,34 @@ static int idiom(void)
     uintptr_t low = (uintptr_t)&local[1] & ~(uintptr_t)3;
     return *(int *)low + buckets[(uintptr_t)local % 61];
 }
+#elif IDIOM == 25 /* Variables from their ends on, whose addresses are made of one another's. */
+static int forward[16] = {1, 2, 3}, back[20] = {1}, behind[20] = {2};
+__attribute__((noinline)) static int next_of(int number)
+{
+    return number + one;
+}
+static int idiom(void)
+{
+    int sum = 0;
+    for (int *at = forward + 16; at-- > forward;)
+        sum += *at + next_of(2);
+    for (int *at = back + 20; at-- > back;)
+        sum += next_of(*at);
+    for (int *at = behind; at < behind + 20; at++)
+        sum += next_of(*at);
+    return sum;
+}
+#elif IDIOM == 26 /* The ends of small arrays, from which they are counted. */
+static char first_text[8] = "abcdefg", second_text[16] = "0123456789abcde";
+static int idiom(void)
+{
+    char small[8], large[16], *small_end = small + 8, *large_end = large + 16;
+    fill(small, 8), fill(large, 16);
+    int sum = (small + 8)[-one] + (large + 16)[-one] + (first_text + 8)[-one];
+    for (int i = 1; i <= 8; i++)
+        sum += small_end[-i] + large_end[-i - 8] + (second_text + 16)[-i * one];
+    return sum;
+}
 #endif
 
 int main(void)

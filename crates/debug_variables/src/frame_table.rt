@@ -83,6 +83,8 @@ pub struct FrameVariable {
     pub(crate) offset: u64,
     /// Its bytes.
     pub size: u64,
+    /// Whether it is one number or one pointer: no array, and not several variables.
+    pub is_single: bool,
     /// Its name; that of the largest of several.
     pub name: VariableName,
     /// Where it is declared, if that is known.
@@ -115,7 +117,8 @@ impl FrameVariable {
 pub struct FrameVariables {
     /// The lowest first.
     functions: Vec<FrameFunction>,
-    /// Those of one function together, the lowest first; none has a byte of another.
+    /// Those of one function and one base together, the lowest first; none has a byte of another of
+    /// these.
     variables: Vec<FrameVariable>,
     /// The lowest first.
     pub(crate) declared: Vec<DeclaredObject>,
@@ -128,6 +131,30 @@ pub struct DeclaredObject {
     pub(crate) addr: u64,
     /// Its line.
     pub(crate) declaration: Declaration,
+    /// Whether it is one number or one pointer.
+    pub(crate) is_single: bool,
+}
+
+/// What ends where a variable begins. A pointer to its start may be one to the end of that.
+#[derive(Clone, Copy, Debug, PartialEq, Eq)]
+pub enum Neighbor {
+    /// Nothing that is known.
+    Nothing,
+    /// One number or one pointer.
+    Single,
+    /// An array, a structure, or what is not known.
+    Other,
+}
+
+impl Neighbor {
+    /// A variable that is there.
+    pub fn of(is_single: bool) -> Neighbor {
+        if is_single {
+            Neighbor::Single
+        } else {
+            Neighbor::Other
+        }
+    }
 }
 
 impl FrameVariables {
@@ -198,11 +225,11 @@ impl FrameVariables {
         found
     }
 
-    /// The bytes of the variable of a function that ends at an address; 0 where none does.
-    pub fn size_before(&self, function: &FrameFunction, bases: &FrameBases, addr: u64) -> u64 {
+    /// What of a function's variables ends at an address.
+    pub fn neighbor(&self, function: &FrameFunction, bases: &FrameBases, addr: u64) -> Neighbor {
         match self.variable_at(function, bases, addr.wrapping_sub(1)) {
-            Some(placed) if placed.end == addr => placed.variable.size,
-            _ => 0,
+            Some(placed) if placed.end == addr => Neighbor::of(placed.variable.is_single),
+            _ => Neighbor::Nothing,
         }
     }
 
@@ -234,21 +261,32 @@ impl FrameVariables {
 
     /// Where the variable of the image at an address is declared, if that is known.
     pub fn declaration_at(&self, addr: u64) -> Option<Declaration> {
+        Some(self.declared_at(addr)?.declaration)
+    }
+
+    /// Whether the variable of the image at an address is known to be one number or one pointer.
+    pub fn is_single_at(&self, addr: u64) -> bool {
+        self.declared_at(addr)
+            .is_some_and(|object| object.is_single)
+    }
+
+    /// What is known of the variable of the image at an address.
+    fn declared_at(&self, addr: u64) -> Option<&DeclaredObject> {
         let at = self
             .declared
             .as_slice()
             .binary_search_by_key(&addr, |object| object.addr)
             .ok()?;
-        Some(self.declared.get(at)?.declaration)
+        self.declared.get(at)
     }
 }
 
-/// Variables in order, where those that share bytes are one.
+/// Variables in order, where those that share bytes are one, which are counted from the same base.
 fn joined(alloc: Global, sorted: &[FrameVariable]) -> Result<Vec<FrameVariable>, AllocError> {
     let mut all: Vec<FrameVariable> = Vec::with_capacity(alloc, sorted.len())?;
     for variable in sorted {
         match all.last_mut() {
-            Some(last) if last.function == variable.function && variable.place() < last.end() => {
+            Some(last) if variable.is_beside(last) && variable.place() < last.end() => {
                 *last = union_of(last, variable);
             }
             _ => all.push(*variable)?,
@@ -270,6 +308,7 @@ fn union_of(first: &FrameVariable, other: &FrameVariable) -> FrameVariable {
         base: first.base,
         offset: first.offset,
         size: end.saturating_sub(first.place()),
+        is_single: false,
         name: named.name,
         declaration: named.declaration,
     }

@@ -17,6 +17,6 @@ mod value;
 
 pub use declaration::{Declaration, VariableName};
 pub use frame_table::{
-    FrameBase, FrameBases, FrameFunction, FrameVariable, FrameVariables, PlacedVariable,
+    FrameBase, FrameBases, FrameFunction, FrameVariable, FrameVariables, Neighbor, PlacedVariable,
 };
 pub use object_table::{ImageObject, ImageObjects};

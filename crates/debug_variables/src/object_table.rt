@@ -97,13 +97,10 @@ impl ImageObjects {
         }
     }
 
-    /// The bytes of the one that ends at an address; 0 where none does.
-    pub fn size_before(&self, addr: u64) -> u64 {
-        let before = addr.checked_sub(1).and_then(|last| self.number_at(last));
-        match before.and_then(|number| self.objects.get(number)) {
-            Some(object) if object.end == addr => addr.saturating_sub(object.start),
-            _ => 0,
-        }
+    /// The one that ends at an address.
+    pub fn ending_at(&self, addr: u64) -> Option<&ImageObject> {
+        let number = self.number_at(addr.checked_sub(1)?)?;
+        self.objects.get(number).filter(|object| object.end == addr)
     }
 }
 

@@ -6,7 +6,7 @@ use crate::declaration::{Declaration, VariableName};
 use crate::entry::VariableEntry;
 use crate::frame_table::{DeclaredObject, FrameBase, FrameFunction, FrameVariable};
 use crate::sections::VariableSections;
-use crate::types::UnitTypes;
+use crate::types::{TypeSize, UnitTypes};
 use crate::unit::{SectionUnit, VariableUnit};
 use crate::value::{FieldValue, number};
 use debug_lines::Reader;
@@ -312,17 +312,14 @@ impl VariableSearch {
             return Ok(());
         };
         let entry = scope.whole(entry, &mut self.budget);
-        let size = entry
-            .type_
-            .entry()
-            .and_then(|at| scope.types.size(at, &mut self.budget));
-        match size {
-            Some(size) if size > 0 && self.variables.len() < MOST => {
+        match scope.size(&entry, &mut self.budget) {
+            Some(size) if size.bytes > 0 && self.variables.len() < MOST => {
                 self.variables.push(FrameVariable {
                     function,
                     base,
                     offset,
-                    size,
+                    size: size.bytes,
+                    is_single: size.is_single,
                     name: scope.name(&entry),
                     declaration: scope.declaration(&entry),
                 })?;
@@ -340,9 +337,14 @@ impl VariableSearch {
         addr: u64,
     ) -> Result<(), AllocError> {
         let entry = scope.whole(entry, &mut self.budget);
+        let size = scope.size(&entry, &mut self.budget);
         match scope.declaration(&entry) {
             Some(declaration) if self.declared.len() < MOST => {
-                self.declared.push(DeclaredObject { addr, declaration })?;
+                self.declared.push(DeclaredObject {
+                    addr,
+                    declaration,
+                    is_single: size.is_some_and(|size| size.is_single),
+                })?;
                 Ok(())
             }
             _ => Ok(()),
@@ -416,6 +418,11 @@ impl<'t, 's, 'a> UnitScope<'t, 's, 'a> {
             },
             None => *entry,
         }
+    }
+
+    /// What the type of a variable has, if that is known.
+    fn size(&self, entry: &VariableEntry<'a>, budget: &mut ReadingBudget) -> Option<TypeSize> {
+        self.types.size(entry.type_.entry()?, budget)
     }
 
     /// The entry that an entry refers to, which says more.

@@ -19,11 +19,26 @@ const POINTER: u64 = 8;
 /// DW_TAG_array_type.
 const ARRAY: u64 = 0x01;
 
+/// DW_TAG_base_type and DW_TAG_enumeration_type.
+const NUMBERS: [u64; 2] = [0x24, 0x04];
+
 /// DW_TAG_pointer_type, DW_TAG_reference_type, DW_TAG_rvalue_reference_type.
 const POINTERS: [u64; 3] = [0x0F, 0x10, 0x42];
 
+/// Those that have the bytes of another: DW_TAG_typedef, DW_TAG_const_type, DW_TAG_volatile_type,
+/// DW_TAG_restrict_type, DW_TAG_atomic_type.
+const OTHERS: [u64; 5] = [0x16, 0x26, 0x35, 0x37, 0x47];
+
 /// DW_TAG_subrange_type.
 const RANGE: u64 = 0x21;
+
+/// What a variable of a type has.
+#[derive(Clone, Copy)]
+pub struct TypeSize {
+    pub bytes: u64,
+    /// Whether it is one number or one pointer.
+    pub is_single: bool,
+}
 
 /// The types of a unit.
 #[derive(Clone, Copy)]
@@ -34,22 +49,25 @@ pub struct UnitTypes<'t, 'a> {
 
 impl<'t, 'a> UnitTypes<'t, 'a> {
     /// The bytes of the type at an offset of the unit, where they are known: not of an array whose
-    /// bounds are no numbers, and not more than 2^32.
-    pub fn size(&self, offset: u64, budget: &mut ReadingBudget) -> Option<u64> {
-        let (mut at, mut elements) = (offset, 1u64);
+    /// bounds are no numbers, nor of a pointer to a member, and not more than 2^32.
+    pub fn size(&self, offset: u64, budget: &mut ReadingBudget) -> Option<TypeSize> {
+        let (mut at, mut elements, mut is_array) = (offset, 1u64, false);
         for _ in 0..FOLLOWED {
             let mut entries = self.unit.entries_at(at)?;
             let abbreviation = self.table.of(number(&mut entries)?)?;
             let entry = VariableEntry::read(&abbreviation, &mut entries, budget)?;
-            if let Some(size) = entry.size.number() {
-                return product(elements, size);
-            }
-            if POINTERS.contains(&abbreviation.tag) {
-                return product(elements, POINTER);
+            if let Some(size) = own_size(abbreviation.tag, &entry) {
+                return Some(TypeSize {
+                    bytes: product(elements, size)?,
+                    is_single: !is_array && is_number(abbreviation.tag),
+                });
             }
             if abbreviation.tag == ARRAY {
                 let count = self.elements(entries, budget)?;
                 elements = product(elements, count)?;
+                is_array = true;
+            } else if !OTHERS.contains(&abbreviation.tag) {
+                return None;
             }
             at = entry.type_.entry()?;
         }
@@ -73,6 +91,19 @@ impl<'t, 'a> UnitTypes<'t, 'a> {
         }
         None
     }
+}
+
+/// The bytes of a type that says how many it has.
+fn own_size(tag: u64, entry: &VariableEntry<'_>) -> Option<u64> {
+    if POINTERS.contains(&tag) {
+        return Some(POINTER);
+    }
+    entry.size.number()
+}
+
+/// Whether a type is one of numbers or of pointers.
+fn is_number(tag: u64) -> bool {
+    NUMBERS.contains(&tag) || POINTERS.contains(&tag)
 }
 
 /// How many elements a dimension has.

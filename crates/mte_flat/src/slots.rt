@@ -4,7 +4,7 @@ ghost use Rattle.std.specs.Prelude.{◌≡◌, ◌<◌, ◌≤◌, ◌-◌, IfOk
 ghost use Rattle.std.specs.Prelude.{slice_index_or, vec_len, vec_capacity};
 ghost use Rattle.mte_tags.specs.Memory.{Memory, without_page};
 ghost use Rattle.mte_flat.specs.Inner.Slots.{slots_memory, AreSlots};
-ghost use Rattle.mte_flat.specs.Inner.Written.{KeepsUnwritten, without_mark};
+ghost use Rattle.mte_flat.specs.Inner.Written.{KeepsUnwritten, FitIn, without_mark};
 
 use crate::slot::Slot;
 use std::alloc::{AllocError, Global};
@@ -33,7 +33,7 @@ pub(crate) fn unmarked_slots(
     limit: usize,
     slots: &[Slot],
 ) -> Result<Vec<Slot>, AllocError>
-    requires { length slots.now ≤ limit }
+    requires { FitIn limit slots.now }
     ensures items { IfOk result (λ copies. copies.items ≡ map without_mark slots.now) }
     ensures len { IfOk result (λ copies. vec_len copies ≡ length slots.now) }
     ensures capacity { IfOk result (λ copies. limit ≤ vec_capacity copies) }
@@ -51,7 +51,7 @@ pub(crate) fn unmarked_slots(
 /// Makes slots those of before.
 pub(crate) fn restore_slots(slots: &mut Vec<Slot>, saved: &[Slot])
     requires kept { KeepsUnwritten saved.now slots.old.items }
-    requires room { length saved.now ≤ vec_capacity slots.old }
+    requires room { FitIn (vec_capacity slots.old) saved.now }
     ensures items { slots.new.items ≡ saved.now }
     ensures capacity { vec_capacity slots.new ≡ vec_capacity slots.old }
 {
@@ -63,7 +63,7 @@ pub(crate) fn restore_slots(slots: &mut Vec<Slot>, saved: &[Slot])
 /// Makes each slot that is marked as written the one of before.
 fn restore_written(slots: &mut [Slot], saved: &[Slot])
     requires kept { KeepsUnwritten saved.now slots.old }
-    requires few { length slots.old ≤ length saved.now }
+    requires few { FitIn (length saved.now) slots.old }
     ensures items { slots.new ≡ take (length slots.old) saved.now }
 {
     for i in 0..slots.len() {
@@ -76,8 +76,8 @@ fn restore_written(slots: &mut [Slot], saved: &[Slot])
 /// Appends the slots of before that are not there.
 fn append_rest(slots: &mut Vec<Slot>, saved: &[Slot])
     requires first { slots.old.items ≡ take (vec_len slots.old) saved.now }
-    requires few { vec_len slots.old ≤ length saved.now }
-    requires room { length saved.now ≤ vec_capacity slots.old }
+    requires few { FitIn (length saved.now) slots.old.items }
+    requires room { FitIn (vec_capacity slots.old) saved.now }
     ensures items { slots.new.items ≡ saved.now }
     ensures capacity { vec_capacity slots.new ≡ vec_capacity slots.old }
 {

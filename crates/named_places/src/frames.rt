@@ -1,5 +1,6 @@
 //! The frames of the functions that run.
 
+use crate::marks::RegisterMarks;
 use crate::table::PlaceTable;
 use std::alloc::{AllocError, Global};
 
@@ -20,6 +21,8 @@ pub(crate) struct CalledFrame {
     pub(crate) entry: u64,
     /// The newest of its places.
     pub(crate) first: Option<usize>,
+    /// The marks of its caller's registers.
+    marks: RegisterMarks,
 }
 
 /// The frames, the oldest first.
@@ -47,6 +50,7 @@ impl FrameStack {
         return_address: u64,
         sp: u64,
         entry: u64,
+        marks: RegisterMarks,
     ) -> Result<(), AllocError> {
         if self.frames.len() >= MOST {
             self.frames.clear();
@@ -56,6 +60,7 @@ impl FrameStack {
             sp,
             entry,
             first: None,
+            marks,
         })?;
         Ok(())
     }
@@ -86,16 +91,25 @@ impl FrameStack {
     }
 
     /// Enters a return to an address, where SP is at another: the function that was called with it
-    /// and all that it called have ended. A return that no call matches ends none.
-    pub(crate) fn return_to(&mut self, addr: u64, sp: u64, table: &mut PlaceTable) {
+    /// and all that it called have ended. A return that no call matches ends none. The marks that
+    /// the caller's registers had, none where the call isn't known.
+    pub(crate) fn return_to(
+        &mut self,
+        addr: u64,
+        sp: u64,
+        table: &mut PlaceTable,
+    ) -> RegisterMarks {
+        let mut marks = RegisterMarks::NONE;
         let Some(count) = self.matching(addr, sp) else {
-            return;
+            return marks;
         };
         for _ in count..self.frames.len() {
             if let Some(frame) = self.frames.pop() {
                 end_places(&frame, table);
+                marks = frame.marks;
             }
         }
+        marks
     }
 
     /// How many frames are left by a return to an address with an SP.

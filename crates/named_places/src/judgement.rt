@@ -6,11 +6,8 @@ use crate::places::NamedPlaces;
 use crate::table::PlaceTable;
 use a64_bits::plain;
 use address_map::{IMAGE_END, IMAGE_START, STACK_END, STACK_START};
-use debug_variables::VariableName;
+use debug_variables::{Neighbor, VariableName};
 use shadow_memory::{AccessedBytes, OriginKind, PointerOrigin, Step};
-
-/// The most bytes of a variable that is no array.
-const SCALAR: u64 = 8;
 
 /// What a pointer to a variable was used for that the variable does not allow.
 #[derive(Clone, Copy, Debug, PartialEq, Eq)]
@@ -72,7 +69,7 @@ impl NamedPlaces {
         let AddressParts { base, form } = parts;
         let is_exact = self.is_exact_at(step.before.pc);
         let (is_moved, is_fresh) = (self.marks.is_moved(base), self.marks.is_fresh(base));
-        let is_own = self.is_own(index, is_fresh);
+        let is_own = self.is_own(index, base);
         let is_above = match form {
             AddressForm::Indexed | AddressForm::Behind => true,
             AddressForm::Plain => is_moved,
@@ -89,9 +86,9 @@ impl NamedPlaces {
 
     /// Whether a pointer to a place was made by the function that runs, so that compilers may have
     /// made one to another place of it.
-    fn is_own(&self, index: usize, is_fresh: bool) -> bool {
+    fn is_own(&self, index: usize, base: u8) -> bool {
         match self.table.get(index) {
-            Some(place) if place.text.kind == PlaceKind::Object => is_fresh,
+            Some(place) if place.text.kind == PlaceKind::Object => self.marks.is_own(base),
             _ => self.is_of_top(index),
         }
     }
@@ -103,9 +100,9 @@ impl NamedPlaces {
             return false;
         };
         if is_indexed {
-            place.before <= SCALAR
+            place.before != Neighbor::Other
         } else {
-            place.is_exact && place.before == 0
+            place.is_exact && place.before == Neighbor::Nothing
         }
     }
 
@@ -153,7 +150,7 @@ impl NamedPlaces {
         }
         let strictness = Strictness {
             is_above: true,
-            is_below: place.is_exact && place.before == 0,
+            is_below: place.is_exact && place.before == Neighbor::Nothing,
             is_lenient: false,
         };
         self.judge_bytes(place, bytes, strictness)

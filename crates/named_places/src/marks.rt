@@ -1,13 +1,19 @@
 //! How the pointers in registers were made.
 
+/// The registers that a function may leave as they were, where compilers know it: all but those of
+/// its results. What is in one that it did not leave so is not used.
+const KEPT: u32 = 0x1fff_fffc;
+
 /// Of each numbered register, how the pointer in it was made, which is of a place that has a name.
 #[derive(Clone, Copy)]
 pub(crate) struct RegisterMarks {
     /// Those that were moved by more than constants.
     moved: u32,
-    /// Those that were made since the last call or return, and of registers alone.
+    /// Those that the function that runs has made, of registers alone.
     fresh: u32,
-    /// Those that are as they were at the last call.
+    /// Those that were loaded from its frame, where it may have put them once made.
+    reloaded: u32,
+    /// Those that are as they were when the function was called that runs.
     passed: u32,
 }
 
@@ -16,6 +22,7 @@ impl RegisterMarks {
     pub(crate) const NONE: RegisterMarks = RegisterMarks {
         moved: 0,
         fresh: 0,
+        reloaded: 0,
         passed: 0,
     };
 
@@ -24,28 +31,39 @@ impl RegisterMarks {
         self.moved & bit(n) != 0
     }
 
-    /// Whether a register was made since the last call or return, and of registers alone.
+    /// Whether a register was made by the function that runs, and of registers alone.
     pub(crate) fn is_fresh(&self, n: u8) -> bool {
         self.fresh & bit(n) != 0
     }
 
-    /// Whether a register is as it was at the last call, or a copy of such a one.
+    /// Whether a register may have been made by the function that runs.
+    pub(crate) fn is_own(&self, n: u8) -> bool {
+        (self.fresh | self.reloaded) & bit(n) != 0
+    }
+
+    /// Whether a register is as it was when the function was called that runs, or a copy of one.
     pub(crate) fn is_passed(&self, n: u8) -> bool {
         self.passed & bit(n) != 0
     }
 
     /// Enters that a register was made of SP or the counter by constants.
     pub(crate) fn make(&mut self, n: u8) {
-        self.moved &= !bit(n);
+        self.load(n);
         self.fresh |= bit(n);
-        self.passed &= !bit(n);
     }
 
     /// Enters that a register was loaded.
     pub(crate) fn load(&mut self, n: u8) {
         self.moved &= !bit(n);
         self.fresh &= !bit(n);
+        self.reloaded &= !bit(n);
         self.passed &= !bit(n);
+    }
+
+    /// Enters that a register was loaded from the frame of the function that runs.
+    pub(crate) fn reload(&mut self, n: u8) {
+        self.load(n);
+        self.reloaded |= bit(n);
     }
 
     /// Enters that a register was moved by more than constants.
@@ -56,30 +74,43 @@ impl RegisterMarks {
 
     /// Enters that a register is made of another.
     pub(crate) fn copy(&mut self, n: u8, from: u8) {
-        let (moved, fresh) = (self.is_moved(from), self.is_fresh(from));
         let passed = self.is_passed(from);
-        self.load(n);
+        let moved = self.is_moved(from);
+        self.combine(n, from, from);
         if passed {
             self.passed |= bit(n);
         }
-        if moved {
-            self.moved |= bit(n);
+        if !moved {
+            self.moved &= !bit(n);
         }
-        if fresh {
+    }
+
+    /// Enters that a register was made of two others, of which one is a pointer that is moved so.
+    pub(crate) fn combine(&mut self, n: u8, one: u8, other: u8) {
+        let is_fresh = self.is_fresh(one) || self.is_fresh(other);
+        let is_own = self.is_own(one) || self.is_own(other);
+        self.load(n);
+        self.moved |= bit(n);
+        if is_fresh {
             self.fresh |= bit(n);
+        } else if is_own {
+            self.reloaded |= bit(n);
         }
     }
 
     /// Enters a call: what is in registers is passed.
     pub(crate) fn call(&mut self) {
         self.fresh = 0;
+        self.reloaded = 0;
         self.passed = u32::MAX;
     }
 
-    /// Enters a return.
-    pub(crate) fn return_back(&mut self) {
-        self.fresh = 0;
-        self.passed = 0;
+    /// Enters a return, by the marks at the call.
+    pub(crate) fn return_back(&mut self, caller: &RegisterMarks) {
+        self.moved = (self.moved & !KEPT) | (caller.moved & KEPT);
+        self.fresh = caller.fresh & KEPT;
+        self.reloaded = caller.reloaded & KEPT;
+        self.passed = caller.passed & KEPT;
     }
 }
 

@@ -58,18 +58,18 @@ impl NamedPlaces {
 
     /// Notes a call.
     fn note_call(&mut self, step: &Step<'_>) -> Result<(), AllocError> {
-        let after = step.after;
+        let (after, marks) = (step.after, self.marks);
         self.marks.call();
-        self.frames
-            .call(plain(after.x[30]), plain(after.sp), plain(after.pc))
+        self.frames.call(plain(after.x[30]), plain(after.sp), plain(after.pc), marks)
     }
 
     /// Notes a return.
     fn note_return(&mut self, step: &Step<'_>) {
         let after = step.after;
-        self.marks.return_back();
-        self.frames
+        let caller = self
+            .frames
             .return_to(plain(after.pc), plain(after.sp), &mut self.table);
+        self.marks.return_back(&caller);
     }
 
     /// Notes an address that was made of the counter: of a page, or of what is there.
@@ -110,13 +110,35 @@ impl NamedPlaces {
                 self.marks.make(rd);
                 shadow.point(rd, self.object_origin(addr));
             }
-            Some(_) if rn == rd => self.marks.moves(rd),
+            Some(index) if rn == rd => self.note_move(step, shadow, added, index)?,
             Some(index) => {
                 self.marks.copy(rd, rn);
                 if !self.marks.is_moved(rn) {
                     self.note_other_variable(step, shadow, rd, index)?;
                 }
             }
+        }
+        Ok(())
+    }
+
+    /// Notes that a constant was added to a register in place: a pointer that the function made may
+    /// lead to another variable, as one that several have in common; any other is moved over its
+    /// own. Of two constants in a row the first may not lead out of it yet.
+    fn note_move(
+        &mut self,
+        step: &Step<'_>,
+        shadow: &mut Shadow,
+        added: AddedConstant,
+        index: usize,
+    ) -> Result<(), AllocError> {
+        let rd = added.rd;
+        let is_made = self.marks.is_own(rd) && !self.marks.is_moved(rd);
+        if is_made {
+            self.note_other_variable(step, shadow, rd, index)?;
+        }
+        let is_same = shadow.register(rd).pointer().place() == Some(index);
+        if is_same && !(is_made && added.is_high) {
+            self.marks.moves(rd);
         }
         Ok(())
     }
@@ -218,18 +240,19 @@ impl NamedPlaces {
                 rd,
                 ..
             } => self.marks.copy(rd, rm),
-            Instr::AddSubShift { rd, .. } | Instr::AddSubExt { rd, .. } => {
-                self.marks.moves(rd);
+            Instr::AddSubShift { rn, rm, rd, .. } | Instr::AddSubExt { rn, rm, rd, .. } => {
+                self.marks.combine(rd, rn, rm);
                 self.note_sum(step, shadow, rd)?;
             }
-            Instr::LogShift { rd, .. }
-            | Instr::LogImm { rd, .. }
-            | Instr::Bitfield { rd, .. }
-            | Instr::CondSel { rd, .. }
-            | Instr::MulAdd { rd, .. }
-            | Instr::MulAddLong { rd, .. }
-            | Instr::SubP { rd, .. }
-            | Instr::Irg { rd, .. } => self.marks.moves(rd),
+            Instr::LogShift { rn, rm, rd, .. }
+            | Instr::CondSel { rn, rm, rd, .. }
+            | Instr::SubP { rn, rm, rd, .. } => self.marks.combine(rd, rn, rm),
+            Instr::LogImm { rn, rd, .. }
+            | Instr::Bitfield { rn, rd, .. }
+            | Instr::Irg { rn, rd, .. } => self.marks.combine(rd, rn, rn),
+            Instr::MulAdd { ra, rd, .. } | Instr::MulAddLong { ra, rd, .. } => {
+                self.marks.combine(rd, ra, ra)
+            }
             _ => {}
         }
         Ok(())
@@ -257,12 +280,22 @@ impl NamedPlaces {
             self.note_write_back(step, shadow, parts)?;
         }
         if !access.bytes.is_write {
-            self.marks.load(access.first);
+            let is_of_frame = parts.base == STACK_POINTER || parts.base == FRAME_POINTER;
+            self.note_loaded(access.first, is_of_frame);
             if let Some(second) = access.second {
-                self.marks.load(second);
+                self.note_loaded(second, is_of_frame);
             }
         }
         Ok(())
+    }
+
+    /// Notes that a register was loaded, from the frame of the function that runs or not.
+    fn note_loaded(&mut self, n: u8, is_of_frame: bool) {
+        if is_of_frame {
+            self.marks.reload(n);
+        } else {
+            self.marks.load(n);
+        }
     }
 
     /// Notes that a base register was moved. The first move in front of an access leads to the

@@ -1,6 +1,6 @@
 //! A place that has a name: a variable, or the frame of a function.
 
-use debug_variables::{Declaration, FrameBases, VariableName};
+use debug_variables::{Declaration, FrameBases, Neighbor, VariableName};
 use std::fmt;
 
 /// What a place is.
@@ -76,8 +76,8 @@ pub(crate) struct NamedPlace {
     pub(crate) is_marked: bool,
     /// What the variables of its function are counted from.
     pub(crate) bases: FrameBases,
-    /// The bytes of the place that ends where it begins; 0 where none does.
-    pub(crate) before: u64,
+    /// What ends where it begins.
+    pub(crate) before: Neighbor,
     /// The next place of its frame.
     pub(crate) next: Option<usize>,
 }

@@ -5,7 +5,7 @@ use crate::place::{NO_BASES, NamedPlace, PlaceKind, PlaceText};
 use crate::places::NamedPlaces;
 use crate::table::PlaceTable;
 use a64_bits::plain;
-use debug_variables::{FrameBases, FrameFunction, PlacedVariable, VariableName};
+use debug_variables::{FrameBases, FrameFunction, Neighbor, PlacedVariable, VariableName};
 use pointer_provenance::Shadow;
 use shadow_memory::{PointerOrigin, Step};
 use std::alloc::AllocError;
@@ -123,7 +123,7 @@ impl NamedPlaces {
             is_unsure: false,
             is_marked: false,
             bases: NO_BASES,
-            before: 0,
+            before: Neighbor::Nothing,
             next: frame.first,
         }
     }
@@ -148,13 +148,13 @@ impl NamedPlaces {
             is_unsure: self.is_before_other(&running, &placed, addr),
             is_marked: false,
             bases: *bases,
-            before: self.variables.size_before(function, bases, placed.start),
+            before: self.variables.neighbor(function, bases, placed.start),
             next: frame.first,
         })
     }
 
-    /// Whether another variable begins where one ends, of which a pointer is so near that it may be
-    /// one in front of the other's first element.
+    /// Whether another variable of several elements begins behind one, of which a pointer is so
+    /// near that it may be one in front of the other's first element.
     fn is_before_other(
         &self,
         running: &RunningFunction,
@@ -162,8 +162,13 @@ impl NamedPlaces {
         addr: u64,
     ) -> bool {
         let RunningFunction { function, bases } = running;
-        let next = self.variables.variable_at(function, bases, placed.end);
-        placed.end.saturating_sub(addr) <= ELEMENT && next.is_some()
+        let last = addr.saturating_add(ELEMENT);
+        for start in placed.end..=last {
+            if let Some(next) = self.variables.variable_at(function, bases, start) {
+                return !next.variable.is_single;
+            }
+        }
+        false
     }
 
     /// The function that runs, where it is the one that the frame is of.
@@ -189,8 +194,9 @@ impl NamedPlaces {
         let Some(place) = self.table.get_mut(index) else {
             return PointerOrigin::UNKNOWN;
         };
-        let end = place.text.end;
-        if end.saturating_sub(addr) <= ELEMENT && self.objects.number_at(end).is_some() {
+        let next = self.objects.all().get(number.saturating_add(1));
+        let next = next.filter(|next| next.start <= addr.saturating_add(ELEMENT));
+        if next.is_some_and(|next| !self.variables.is_single_at(next.start)) {
             place.is_unsure = true;
         }
         PointerOrigin::of_place(index)

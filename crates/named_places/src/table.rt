@@ -1,7 +1,7 @@
 //! The places that pointers point to.
 
 use crate::place::{NO_BASES, NamedPlace, PlaceKind, PlaceText};
-use debug_variables::{FrameVariables, ImageObjects, VariableName};
+use debug_variables::{FrameVariables, ImageObjects, Neighbor, VariableName};
 use pointer_provenance::{Pointed, Shadow};
 use std::alloc::{AllocError, Global};
 
@@ -60,7 +60,7 @@ impl PlaceTable {
             });
             places.push(NamedPlace {
                 is_marked: object.is_marked,
-                before: objects.size_before(object.start),
+                before: neighbor(objects, variables, object.start),
                 ..place
             })?;
         }
@@ -133,6 +133,14 @@ impl PlaceTable {
     }
 }
 
+/// What of the image ends at an address.
+fn neighbor(objects: &ImageObjects, variables: &FrameVariables, addr: u64) -> Neighbor {
+    match objects.ending_at(addr) {
+        Some(object) => Neighbor::of(variables.is_single_at(object.start)),
+        None => Neighbor::Nothing,
+    }
+}
+
 /// A place that is there as long as the image.
 fn fixed_place(text: PlaceText) -> NamedPlace {
     NamedPlace {
@@ -142,7 +150,7 @@ fn fixed_place(text: PlaceText) -> NamedPlace {
         is_unsure: false,
         is_marked: false,
         bases: NO_BASES,
-        before: 0,
+        before: Neighbor::Nothing,
         next: None,
     }
 }

@@ -99,8 +99,8 @@ impl SnapshotTenant {
         Ok(())
     }
 
-    /// Makes the machine that of the snapshot, with these bytes as what it may read. Where memory is
-    /// refused, nothing changes.
+    /// Makes the machine that of the snapshot, with these bytes as what it may read. Where memory
+    /// is refused, nothing changes.
     pub fn restore(&mut self, alloc: Global, input: &[u8]) -> Result<(), AllocError>
         ensures machine { OnOk result (machine_of self.new.parts self.new.memory.now
             ≡ with_input (machine_of self.old.saved self.old.memory.saved) input.now) }

@@ -7,8 +7,8 @@
 //!   (`OpCache`);
 //! - a heap with tags: `Heap` in a memory, `HeapBench` with one of its own;
 //! - ELF64 images: `plan`, `load`;
-//! - a tenant alone: `Lone`, `run_alone`; with a watch: `slice_watched`; brought back to a snapshot:
-//!   `SnapshotTenant`, whose branches an `EdgeMap` counts;
+//! - a tenant alone: `Lone`, `run_alone`; with a watch: `slice_watched`; brought back to a
+//!   snapshot: `SnapshotTenant`, whose branches an `EdgeMap` counts;
 //! - tenants over shared frames: `Host`;
 //! - sessions: `report`, `run_session` over any `Sink`, `run_both`.
 //!

@@ -1,0 +1,114 @@
+// What correct programs of C++ do with pointers to variables, for a checker that must not object.
+#define _Noreturn
+extern "C" {
+#include "tenant.h"
+}
+
+static volatile int one = 1;
+static volatile int sink;
+
+struct Pair {
+    int first, second;
+};
+
+struct Three {
+    long all[3];
+};
+
+struct Numbers {
+    int all[4];
+    int get(int index) { return all[index]; }
+};
+
+struct Shape {
+    long width;
+    explicit Shape(long of) : width(of) {}
+    virtual long area() const { return width; }
+};
+
+struct Box : Shape {
+    long height;
+    Box(long of, long by) : Shape(of), height(by) {}
+    long area() const override { return Shape::area() * height; }
+};
+
+template <class T, int COUNT> struct Array {
+    T all[COUNT];
+    T *begin() { return all; }
+    T *end() { return all + COUNT; }
+    T &operator[](int index) { return all[index]; }
+};
+
+template <class T> [[gnu::noinline]] static T sum_of(T *from, T *to)
+{
+    T sum = 0;
+    while (from != to)
+        sum += *from++;
+    return sum;
+}
+
+[[gnu::noinline]] static void set(Pair *pair)
+{
+    for (unsigned i = 0; i < sizeof *pair; i++)
+        reinterpret_cast<volatile char *>(pair)[i] = 1;
+}
+
+[[gnu::noinline]] static Three made(long first)
+{
+    return {{first, first + 1, first + 2}};
+}
+
+// Names for the parts of what a function returned, of a copy, and of a variable.
+static long named_parts()
+{
+    auto [three] = made(one);
+    Pair pair;
+    set(&pair);
+    auto [left, right] = pair;
+    auto &[low, high] = pair;
+    return three[2] + left + right + low + high;
+}
+
+// Pointers to members, and pointers to these.
+[[gnu::noinline]] static int called(Numbers *of, int (Numbers::**get)(int), int (Numbers::*all)[4])
+{
+    return (of->**get)(2) + (of->*all)[one];
+}
+
+static int members()
+{
+    int (Numbers::*get)(int) = &Numbers::get;
+    int(Numbers::*all)[4] = &Numbers::all;
+    Numbers numbers = {{1, 2, 3, one}};
+    return called(&numbers, &get, all);
+}
+
+// A structure by its base, arrays by their ends, and a function that refers to variables.
+[[gnu::noinline]] static long area_of(const Shape &shape)
+{
+    return shape.area();
+}
+
+static Array<int, 6> of_image;
+
+static long structures()
+{
+    Array<int, 10> ints;
+    Array<long, 5> longs;
+    Box box(one, 3);
+    for (int &number : ints)
+        number = one;
+    for (long &number : longs)
+        number = 2;
+    auto both = [&](int index) { return ints[index] + longs[index % 5] + of_image[index % 6]; };
+    long sum = area_of(box);
+    for (int index = 0; index < 10; index++)
+        sum += both(index * one);
+    return sum + sum_of(ints.begin(), ints.end()) + sum_of(longs.begin(), longs.end());
+}
+
+extern "C" int main()
+{
+    sink = static_cast<int>(named_parts() + members() + structures());
+    return 0;
+}
