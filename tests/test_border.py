@@ -89,8 +89,8 @@ def test_all_structs_and_calls_are_here() -> None:
 def test_fields_that_are_exchanged(name: str) -> None:
     """Two fields of a struct exchanged, in the crate, in C, in Rust and in Python."""
     for language, field in enumerate((FIELD, C_FIELD, FIELD, PYTHON_FIELD)):
-        # A slice is one field of the crate, and two elsewhere.
-        if (language, name) != (0, "LentBytes"):
+        # A slice is one field of the crate, and two elsewhere; a handle has one field.
+        if (language, name) != (0, "LentBytes") and name != "FuzzHandle":
             assert not unnoticed(border.neighbours(*body_of(language, name), field))
 
 
@@ -99,7 +99,7 @@ def test_fields_of_another_width(name: str) -> None:
     """A number of a struct with another width, in the crate, in C, in Rust and in Python."""
     for language in range(4):
         path, begin, end = body_of(language, name)
-        if name not in ("LentBytes", "MachineEnd"):
+        if name not in ("LentBytes", "MachineEnd", "FuzzHandle"):
             assert not unnoticed(border.each_replaced(
                 path, r"\bu(\d+)\b|\buint(\d+)_t\b|\bc_uint(\d+)\b", widened, begin, end
             ))
@@ -119,7 +119,8 @@ def test_arguments_of_another_width(name: str) -> None:
               (HEADER, f"\nuint32_t {name}(")]
     if name not in ("tb_version", "tb_build_info", "tb_memory_init", "tb_alone", "tb_step",
                     "tb_heap_calls", "tb_heap_replay", "tb_run_traced", "tb_machine_acts",
-                    "tb_machine_pages", "tb_heap_pages", "tb_heap_live"):
+                    "tb_machine_pages", "tb_heap_pages", "tb_heap_live", "tb_fuzz_new",
+                    "tb_fuzz_run", "tb_fuzz_free"):
         for path, begin in places:
             assert not unnoticed(border.each_replaced(path, number, widened, begin, ")"))
 
@@ -127,7 +128,7 @@ def test_arguments_of_another_width(name: str) -> None:
 @pytest.mark.parametrize("name", CALLS)
 def test_arguments_that_are_exchanged(name: str) -> None:
     """Two arguments of a call exchanged, in the crate, in C and in Rust."""
-    if name == "tb_version":
+    if name in ("tb_version", "tb_fuzz_free"):
         return
     crate, argument = border.file_with(f"fn {name}("), r"\b\w+: [^,)]+"
     # A slice is one argument of the crate, and two elsewhere.

@@ -7,7 +7,7 @@ from .shapes import BorderError, Call, Kind, Place, Struct
 
 COMMENT = re.compile(r"//[^\n]*|/\*.*?\*/", re.S)
 # A field that no machine has.
-GHOST = re.compile(r"^ *(?:pub )?ghost \w+: \{[^}]*\},\n", re.M)
+GHOST = re.compile(r"^ *(?:pub )?ghost \w+: \{[^}]*\}(?: by \{[^}]*\})?,\n", re.M)
 CONSTANT = re.compile(r"^\s*pub const (\w+): (?:u\d+|usize|Attrs) = (?:Attrs\()?([^;)]+)\)?;", re.M)
 STRUCT = re.compile(r"#\[repr\(C\)\]\s*(?:#\[[^]]*\]\s*)*(?:pub )?struct (\w+)[^{]*\{(.*?)\}", re.S)
 EXPORT = re.compile(
