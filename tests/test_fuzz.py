@@ -7,7 +7,7 @@ import pytest
 
 from tests.support import fuzzers
 from tests.support.embedding.built import COMPILERS, DRIVERS, in_c, in_python, in_rust
-from tests.support.fuzzers import FUZZ, PLANTED
+from tests.support.fuzzers import ENTER, FUZZ, NAME, PLANTED, card, field
 from tests.support.growth import MEASURED
 from tests.support.instructions import call, move, program
 from tests.support.running import Word, run
@@ -200,22 +200,22 @@ first = fuzz.run(crash)
 assert first.is_crash
 for _ in range(1000):
     fuzz.run(b"CARD" + drawn.randbytes(20))
-    assert fuzz.run(crash) == first
+    assert repr(fuzz.run(crash)) == repr(first)
 print(hex(first.pc), first.steps)
 """).split()
     crash = tmp_path / "crash"
     crash.write_bytes(text)
     report = run([alone, "--input", crash, image], seconds=120)
-    assert f"Cause: {cause} " in report.errors and f"{int(said[0], 16):#018x}" in report.errors
-    stacks = report.errors.split("Cause: ")
-    assert "read_card" in stacks[0] and "cards.c:" in stacks[0] and "allocated by" in stacks[1]
-    assert bug == "overflow" or "freed by" in stacks[1]
+    found, _, told_cause = report.errors.partition("Cause: ")
+    assert f"{int(said[0], 16):#018x}" in found and "cards.c:" in found
+    assert cause in told_cause.splitlines()[0] and "allocated by" in told_cause
+    assert bug == "overflow" or "freed by" in told_cause
 
 
 def test_libfuzzer_finds_a_bug(shared: pathlib.Path, tmp_path: pathlib.Path) -> None:
     """LLVM's fuzzer over the cards, for half a minute at most, and its crash made smaller."""
     need("clang", "ld.lld")
-    if "-fsanitize=fuzzer" and not list(pathlib.Path("/usr/lib").glob(
+    if not list(pathlib.Path("/usr/lib").glob(
             "llvm-*/lib/clang/*/lib/linux/libclang_rt.fuzzer-x86_64.a")):
         give_up("missing: libclang_rt.fuzzer (tests/packages.txt has the Debian packages)")
     folder = fuzzers.fuzzers(shared, "libfuzzer")
@@ -238,10 +238,11 @@ def test_afl_finds_a_bug(shared: pathlib.Path, tmp_path: pathlib.Path) -> None:
     folder = fuzzers.fuzzers(shared, "afl")
     seeds = tmp_path / "seeds"
     seeds.mkdir()
-    (seeds / "near").write_bytes(PLANTED["double free"][0].replace(b"{\0", b"}\0"))
+    (seeds / "near").write_bytes(card(NAME, ENTER, field("}"), field("=")))
+    # With the deterministic stages, and a bound of a run that a busy machine keeps.
     words: list[Word] = [
-        "afl-fuzz", "-i", seeds, "-o", tmp_path / "found", "-x", folder / "cards.dict", "-V", "30",
-        "-t", "5000", "-s", "1", "--", folder / "afl",
+        "afl-fuzz", "-D", "-i", seeds, "-o", tmp_path / "found", "-x", folder / "cards.dict", "-V",
+        "30", "-t", "5000", "-s", "1", "--", folder / "afl",
     ]
     ran = fuzzers.fuzz(folder, words, cwd=tmp_path, AFL_BENCH_UNTIL_CRASH="1")
     kept = tmp_path / "found" / "default"

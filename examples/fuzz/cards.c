@@ -16,6 +16,8 @@ struct card {
     unsigned sum;
 };
 
+unsigned card_sum;
+
 static unsigned weights[256];
 
 void set_up(void)
@@ -129,6 +131,7 @@ int read_card(const unsigned char *bytes, size_t count)
         bad = enter_field(&card, bytes[at], bytes + at + 2, length);
         at += 2 + length;
     }
+    card_sum = card.sum;
     if (card.nick)
         tenant_free(card.nick);
     if (card.name)

@@ -15,6 +15,9 @@ enum {
     NO_MEMORY
 };
 
+/* The sum of the last card that was read. */
+extern unsigned card_sum;
+
 /* To be called once, before the first card. */
 void set_up(void);
 

@@ -6,7 +6,7 @@
 Each run of the tenant's machine is restored from behind its setup and given an input; then a tenant
 is admitted with that input and run alone. How they end has to be the same: status, code, PC, fault,
 steps, bytes written, heap calls. The tenant witness.c reads its registers, its memory, its tags and
-its heap and ends by what it has found. Inputs are of 0 to 300 bytes. Exit status 1: a run differs,
+its heap and ends by what it has found. Inputs are of 0 to 89 bytes. Exit status 1: a run differs,
 and its input is told. The package of Python is found as docs/EMBEDDING.md says.
 """
 import pathlib
@@ -31,7 +31,7 @@ def inputs(count: int, seed: int):  # type: ignore[no-untyped-def]
             at = drawn.randrange(len(last))
             last = last[:at] + bytes([drawn.randrange(256)]) + last[at + 1 :]
         else:
-            last = drawn.randbytes(drawn.randrange(300))
+            last = drawn.randbytes(drawn.randrange(90))
         yield last
 
 
