@@ -136,6 +136,14 @@ def test_a_product_that_wraps(alone: pathlib.Path, tmp_path: pathlib.Path, build
     assert re.search(r"Cause: \[check\]: Buffer Overflow, \d+ bytes right of a 4-byte", told)
 
 
+def test_the_first_wrong_byte(alone: pathlib.Path, tmp_path: pathlib.Path) -> None:
+    """Of an access that begins in a chunk of 22 bytes the byte is told that is past its end."""
+    told = check(alone, image(tmp_path, "clang-O0", "pointer_bugs.c", "BUG=31")).errors
+    byte = re.search(r"the byte at 0x(\w+) is past", told)
+    chunk = re.search(r"22-byte allocation at 0x(\w+)", told)
+    assert byte and chunk and int(byte[1], 16) - int(chunk[1], 16) % 2**56 == 22, told
+
+
 def test_chunks_are_given_up(alone: pathlib.Path, tmp_path: pathlib.Path) -> None:
     """More chunks are made and freed than are kept: one that is pointed to is known still."""
     told = check(alone, image(tmp_path, "clang-O0", "pointer_bugs.c", "BUG=33"))
