@@ -13,7 +13,7 @@ use crate::lent_terms::LentTerms;
 use call_reports::{BAD_ARGUMENT, NO_MACHINE, NO_REFUSAL, OK, OUT_OF_MEMORY};
 use fuzz_handle::FuzzHandle;
 use std::alloc::Global;
-use tenant_snapshot::{EdgeMap, Edges, NoEdges, SnapshotTenant};
+use tenant_snapshot::{EdgeMap, Edges, SnapshotTenant};
 
 /// Admits a tenant alone, runs the slices of `terms`, and keeps the machine as it is then; a
 /// machine that the handle held is freed first. OK; REFUSED and OUT_OF_MEMORY leave a handle that
@@ -49,7 +49,7 @@ fn set_up(
     ensures { HasSaved terms.now fuzz.new.value result }
 {
     let mut machine = machine;
-    run_slices(&mut machine, &mut NoEdges, terms.slices);
+    run_slices(&mut machine, &mut CountedEdges { map: None }, terms.slices);
     let end = AloneEnd::of_record(OK, &machine.parts.history);
     if machine.save(alloc).is_err() {
         return AloneEnd::without_tenant(OUT_OF_MEMORY, NO_REFUSAL);
@@ -60,6 +60,22 @@ fn set_up(
             end
         }
         Err(_) => AloneEnd::without_tenant(OUT_OF_MEMORY, NO_REFUSAL),
+    }
+}
+
+/// The branches of a run, counted where there is a map. The setup has none and runs by the same
+/// code, which the compiler takes in line where it is there once.
+#[derive(Drop)]
+struct CountedEdges<'a> {
+    map: Option<EdgeMap<'a>>,
+}
+
+impl<'a> Edges for CountedEdges<'a> {
+    #[inline(always)]
+    fn taken(&mut self, from: u64, to: u64) {
+        if let Some(map) = &mut self.map {
+            map.taken(from, to);
+        }
     }
 }
 
@@ -111,9 +127,9 @@ fn answer(
     ensures saved { saved_of machine.new ≡ saved_of machine.old }
 {
     match EdgeMap::new(map, run.saturating != 0) {
-        Some(mut edges) => match machine.restore(alloc, run.input) {
+        Some(map) => match machine.restore(alloc, run.input) {
             Ok(()) => {
-                run_slices(machine, &mut edges, run.slices);
+                run_slices(machine, &mut CountedEdges { map: Some(map) }, run.slices);
                 AloneEnd::of_record(OK, &machine.parts.history)
             }
             Err(_) => AloneEnd::without_tenant(OUT_OF_MEMORY, NO_REFUSAL),
