@@ -90,7 +90,8 @@ def test_texts(shared: pathlib.Path, variant: str) -> None:
 
 
 CODES = ("ok fault svc breakpoint illegal+instruction page+not+mapped page+already+mapped no+room "
-         "bad+argument heap+abort out+of+memory faulty+script+line tenant+refused stopped")
+         "bad+argument heap+abort out+of+memory faulty+script+line tenant+refused stopped "
+         "no+machine")
 NAMES = (
     CODES, "none Translation Permission TagCheck Alignment SpAlignment PcAlignment",
     "none Misaligned Unmapped HeaderCorrupt InvalidState NotABlock AlreadyFree",
@@ -263,8 +264,9 @@ def test_each_call_is_made() -> None:
     """The lines of this file make every call of the library and of the header."""
     text = (ROOT / "include" / "tombolopan.h").read_text(encoding="utf-8")
     declared = set(re.findall(r"^(?:static inline )?[\w *]*?\b(tb_\w+)\(", text, re.M))
-    assert len(declared) == 23 + 24
+    assert len(declared) == 26 + 24
     source = (DRIVERS / "calls.c").read_text(encoding="utf-8")
+    source += (DRIVERS / "fuzzed.c").read_text(encoding="utf-8")
     assert declared <= set(re.findall(r"\b(tb_\w+)\(", source))
     known = {"heap", *(it.text.split()[0] for lines in GROUPS.values() for it in lines())}
     commands = set(re.findall(r'strcmp\(what, "(\w+)"\)', source))
