@@ -515,7 +515,7 @@ WORDS_FILE = """\
 use a64_asm::Instr;
 
 #[rattlefmt::skip]
-pub const ROWS: [(u32, Instr); {count}] = [
+pub const ROWS: &[(u32, Instr)] = &[
 {lines}
 ];
 """
@@ -534,7 +534,7 @@ def word_of_example(row: Row) -> str:
 
 def words_file(rows: list[Row]) -> str:
     return WORDS_FILE.format(
-        written=WRITTEN, count=len(rows), lines="\n".join(map(word_of_example, rows)))
+        written=WRITTEN, lines="\n".join(map(word_of_example, rows)))
 
 
 # ---- tools/disassembly

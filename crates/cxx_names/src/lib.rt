@@ -2,21 +2,12 @@
 //! legacy form), as their source writes them.
 #![tactic(auto)]
 
-mod encodings;
-mod expressions;
-mod lists;
-mod nested_names;
-mod nodes;
-mod operators;
-mod parser;
 mod pieces;
 mod plain;
 mod printer;
-mod reader;
+mod questions;
 mod rust_names;
-mod special_names;
 mod symbol_name;
-mod types;
 
 pub use plain::PlainName;
 pub use symbol_name::{ShownName, SymbolName};

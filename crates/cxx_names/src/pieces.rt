@@ -1,6 +1,6 @@
 //! What is to be written.
 
-use crate::nodes::Id;
+use cxx_tree::Id;
 
 /// A part of the text of a name.
 #[derive(Clone, Copy)]

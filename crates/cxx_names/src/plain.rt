@@ -1,10 +1,9 @@
 //! A name as its source has it.
 
-use crate::parser::Parser;
 use crate::printer::{LONGEST, Printer};
-use crate::reader::NameReader;
-use crate::rust_names::write_legacy;
+use crate::rust_names::{push_all, write_legacy};
 use arrayvec::ArrayString;
+use cxx_tree::{NameReader, Parser};
 
 /// A name of C++ or Rust as its source has it: at most 4,096 bytes of ASCII.
 #[derive(Drop)]
@@ -51,9 +50,7 @@ fn with_suffixes(
             return Some(text);
         }
         let suffix = reader.clone_suffix()?;
-        text.try_push_str(" [clone ").ok()?;
-        text.try_push_str(suffix).ok()?;
-        text.try_push_str("]").ok()?;
+        push_all(&mut text, &[" [clone ", suffix, "]"])?;
     }
     None
 }

@@ -1,8 +1,10 @@
 //! The text of a tree.
 
-use crate::nodes::{Id, Node, Nodes};
 use crate::pieces::{NamePart, NamePiece};
+use crate::questions::{base_name, has_right, pack_in, plain_type, resolve};
+use crate::rust_names::push;
 use arrayvec::{ArrayString, ArrayVec};
+use cxx_tree::{Id, Node, Nodes};
 use std::fmt::Write;
 
 /// The most bytes of a text.
@@ -15,7 +17,7 @@ const PIECES: usize = 384;
 const STEPS: usize = 8_192;
 
 /// The letters of qualifiers, in the order in which they are written.
-const QUALIFIERS: [(char, &str); 7] = [
+const QUALIFIERS: &[(char, &str)] = &[
     ('C', " _Complex"),
     ('K', " const"),
     ('V', " volatile"),
@@ -58,16 +60,19 @@ impl<'n, 'a> Printer<'n, 'a> {
     /// What is to be written next, in this order.
     fn write(&mut self, pack: Option<usize>, parts: &[NamePart<'a>]) -> Option<()> {
         for part in parts.iter().rev() {
-            let piece = NamePiece { part: *part, pack };
-            self.pieces.try_push(piece).ok()?;
+            self.push(NamePiece { part: *part, pack })?;
         }
         Some(())
+    }
+
+    fn push(&mut self, piece: NamePiece<'a>) -> Option<()> {
+        self.pieces.try_push(piece).ok()
     }
 
     fn print(&mut self, piece: NamePiece<'a>) -> Option<()> {
         let pack = piece.pack;
         match piece.part {
-            NamePart::Text(text) => self.text.try_push_str(text).ok(),
+            NamePart::Text(text) => push(&mut self.text, text),
             NamePart::Number(number) => write!(self.text, "{number}").ok(),
             NamePart::Apart(sign) => self.apart(sign),
             NamePart::Bracket => {
@@ -76,7 +81,7 @@ impl<'n, 'a> Printer<'n, 'a> {
                 } else {
                     " ["
                 };
-                self.text.try_push_str(before).ok()
+                push(&mut self.text, before)
             }
             NamePart::Qualifiers(letters) => self.qualifiers(letters),
             NamePart::Whole(id) => self.whole(id, pack),
@@ -91,15 +96,15 @@ impl<'n, 'a> Printer<'n, 'a> {
     /// Writes a sign, and a blank in front of it where the same sign is in front.
     fn apart(&mut self, sign: &'static str) -> Option<()> {
         if self.text.as_str().ends_with(sign) {
-            self.text.try_push_str(" ").ok()?;
+            push(&mut self.text, " ")?;
         }
-        self.text.try_push_str(sign).ok()
+        push(&mut self.text, sign)
     }
 
     fn qualifiers(&mut self, letters: &str) -> Option<()> {
         for (letter, words) in QUALIFIERS {
-            if letters.contains(letter) {
-                self.text.try_push_str(words).ok()?;
+            if letters.contains(*letter) {
+                push(&mut self.text, words)?;
             }
         }
         Some(())
@@ -111,14 +116,14 @@ impl<'n, 'a> Printer<'n, 'a> {
             return Some(());
         };
         let comma = NamePart::Text(if is_first { "" } else { ", " });
-        let item = self.nodes.resolve(item, pack);
+        let item = resolve(&self.nodes, item, pack);
         match self.nodes.at(item) {
             Node::Pack(inner) | Node::PackParameter(inner) => {
                 let is_empty = inner == 0;
                 let rest = NamePart::Items(rest, is_first && is_empty);
                 self.write(pack, &[NamePart::Items(inner, is_first), rest])
             }
-            Node::Expansion(pattern) if self.nodes.pack_in(pattern) == Some(0) => {
+            Node::Expansion(pattern) if pack_in(&self.nodes, pattern) == Some(0) => {
                 self.write(pack, &[NamePart::Items(rest, is_first)])
             }
             _ => {
@@ -130,7 +135,7 @@ impl<'n, 'a> Printer<'n, 'a> {
 
     /// Writes a pattern for the members of its pack from a place on.
     fn expansion(&mut self, pattern: Id, place: usize) -> Option<()> {
-        let Some(list) = self.nodes.pack_in(pattern) else {
+        let Some(list) = pack_in(&self.nodes, pattern) else {
             return self.write(None, &[NamePart::Whole(pattern), NamePart::Text("...")]);
         };
         if self.nodes.item(list, place).is_none() {
@@ -148,7 +153,7 @@ impl<'n, 'a> Printer<'n, 'a> {
 
     /// Writes what a type has in front of a name, and of all other nodes the whole.
     fn left(&mut self, id: Id, pack: Option<usize>) -> Option<()> {
-        let id = self.nodes.resolve(id, pack);
+        let id = resolve(&self.nodes, id, pack);
         match self.nodes.at(id) {
             Node::Qualified(inner, letters) => {
                 let is_function = self.is_function(inner, pack);
@@ -172,7 +177,7 @@ impl<'n, 'a> Printer<'n, 'a> {
             }
             Node::Function(0, _) => Some(()),
             Node::Function(result_type, _) => {
-                let has_right = self.nodes.has_right(result_type, pack);
+                let has_right = has_right(&self.nodes, result_type, pack);
                 let blank = NamePart::Text(if has_right { "" } else { " " });
                 self.write(pack, &[NamePart::Left(result_type), blank])
             }
@@ -183,7 +188,7 @@ impl<'n, 'a> Printer<'n, 'a> {
 
     /// Writes what a type has behind a name.
     fn right(&mut self, id: Id, pack: Option<usize>) -> Option<()> {
-        let id = self.nodes.resolve(id, pack);
+        let id = resolve(&self.nodes, id, pack);
         match self.nodes.at(id) {
             Node::Qualified(inner, letters) if self.is_function(inner, pack) => {
                 self.write(
@@ -217,12 +222,12 @@ impl<'n, 'a> Printer<'n, 'a> {
     }
 
     fn is_function(&self, id: Id, pack: Option<usize>) -> bool {
-        matches!(self.nodes.plain_type(id, pack), Node::Function(..))
+        matches!(plain_type(&self.nodes, id, pack), Node::Function(..))
     }
 
     /// What is between a type and the sign of a pointer to it.
     fn opening(&self, inner: Id, pack: Option<usize>) -> &'static str {
-        match self.nodes.plain_type(inner, pack) {
+        match plain_type(&self.nodes, inner, pack) {
             Node::Function(..) => "(",
             Node::Array(..) => " (",
             _ => "",
@@ -243,7 +248,7 @@ impl<'n, 'a> Printer<'n, 'a> {
 
     /// The type and the sign of a reference to a type, which may be a reference too.
     fn collapsed(&self, inner: Id, sign: &'a str, pack: Option<usize>) -> (Id, &'a str) {
-        let inner = self.nodes.resolve(inner, pack);
+        let inner = resolve(&self.nodes, inner, pack);
         match (sign, self.nodes.at(inner)) {
             ("&", Node::Pointer(referred, "&" | "&&")) => (referred, "&"),
             ("&&", Node::Pointer(referred, own)) if own != "*" => (referred, own),
@@ -255,7 +260,7 @@ impl<'n, 'a> Printer<'n, 'a> {
     fn name(&mut self, node: Node<'a>, pack: Option<usize>) -> Option<()> {
         match node {
             Node::Nothing => Some(()),
-            Node::Text(text) | Node::Known(text, _) => self.text.try_push_str(text).ok(),
+            Node::Text(text) | Node::Known(text, _) => push(&mut self.text, text),
             Node::Scope(outer, inner) => {
                 let (outer, inner) = (NamePart::Whole(outer), NamePart::Whole(inner));
                 self.write(pack, &[outer, NamePart::Text("::"), inner])
@@ -292,7 +297,7 @@ impl<'n, 'a> Printer<'n, 'a> {
 
     /// Writes the name of a class as that of its constructor.
     fn class_name(&mut self, class: Id, before: &'static str, pack: Option<usize>) -> Option<()> {
-        let base = self.nodes.base_name(class);
+        let base = base_name(&self.nodes, class);
         let name = match self.nodes.at(base) {
             Node::Known(_, last) => NamePart::Text(last),
             _ => NamePart::Whole(base),
@@ -384,7 +389,7 @@ impl<'n, 'a> Printer<'n, 'a> {
 
     /// Writes a value that is a part of another: between brackets, but for a name.
     fn value(&mut self, id: Id, pack: Option<usize>) -> Option<()> {
-        let id = self.nodes.resolve(id, pack);
+        let id = resolve(&self.nodes, id, pack);
         let is_name = matches!(
             self.nodes.at(id),
             Node::Text(_) | Node::Scope(..) | Node::Numbered(..)
@@ -407,8 +412,8 @@ impl<'n, 'a> Printer<'n, 'a> {
             None => ("", digits),
         };
         let suffix = match (name, number) {
-            ("bool", "0") => return self.text.try_push_str("false").ok(),
-            ("bool", "1") => return self.text.try_push_str("true").ok(),
+            ("bool", "0") => return push(&mut self.text, "false"),
+            ("bool", "1") => return push(&mut self.text, "true"),
             ("int", _) => "",
             ("unsigned int", _) => "u",
             ("long", _) => "l",

@@ -1,8 +1,8 @@
 //! Names of Rust in their legacy form: nested names whose last part is `h` and 16 digits.
 
 use crate::printer::LONGEST;
-use crate::reader::NameReader;
 use arrayvec::ArrayString;
+use cxx_tree::NameReader;
 
 /// The most parts of a name.
 const MOST_PARTS: u32 = 64;
@@ -20,12 +20,22 @@ pub fn write_legacy(name: &str) -> Option<ArrayString<LONGEST>> {
         if reader.eat("E") {
             return if is_hash(part) { Some(text) } else { None };
         }
-        if place > 0 {
-            text.try_push_str("::").ok()?;
-        }
-        write_part(&mut text, part)?;
+        write_part(&mut text, place > 0, part)?;
     }
     None
+}
+
+/// Appends a text.
+pub fn push(text: &mut ArrayString<LONGEST>, more: &str) -> Option<()> {
+    text.try_push_str(more).ok()
+}
+
+/// Appends some texts.
+pub fn push_all(text: &mut ArrayString<LONGEST>, some: &[&str]) -> Option<()> {
+    for more in some {
+        push(text, more)?;
+    }
+    Some(())
 }
 
 /// Whether a part is a hash.
@@ -34,8 +44,11 @@ fn is_hash(part: &str) -> bool {
     part.len() == HASH && part.starts_with("h") && digits.all(|digit| digit.is_ascii_hexdigit())
 }
 
-/// Writes a part with its escapes.
-fn write_part(text: &mut ArrayString<LONGEST>, part: &str) -> Option<()> {
+/// Writes a part with its escapes, behind a scope or first.
+fn write_part(text: &mut ArrayString<LONGEST>, is_scoped: bool, part: &str) -> Option<()> {
+    if is_scoped {
+        push(text, "::")?;
+    }
     let part = match part.strip_prefix("_") {
         Some(rest) if rest.starts_with("$") => rest,
         _ => part,
@@ -53,7 +66,7 @@ fn write_part(text: &mut ArrayString<LONGEST>, part: &str) -> Option<()> {
 /// Writes a character, which may be an escape; what is behind it.
 fn write_next<'a>(text: &mut ArrayString<LONGEST>, part: &'a str) -> Option<&'a str> {
     if let Some(rest) = part.strip_prefix("..") {
-        text.try_push_str("::").ok()?;
+        push(text, "::")?;
         return Some(rest);
     }
     if let Some(rest) = part.strip_prefix("$") {

@@ -4,7 +4,7 @@
 use cxx_names::SymbolName;
 
 /// A linker's names, and those of the source.
-const NAMES: [(&str, &str); 33] = [
+const NAMES: &[(&str, &str)] = &[
     ("_ZN6Events3addEi", "Events::add(int)"),
     (
         "_ZNSt6vectorIiSaIiEE9push_backEOi",
@@ -65,12 +65,12 @@ const NAMES: [(&str, &str); 33] = [
 fn names_are_those_of_their_source(rt: HostRuntime) {
     for (linked, source) in NAMES {
         let shown = SymbolName::of(linked).shown();
-        assert!(rt; shown.as_str() == source, "{linked}");
+        assert!(rt; shown.as_str() == *source, "{linked}");
     }
 }
 
 /// Names that are none of C++: cut ones, and those that stand for what did not come before.
-const UNKNOWN: [&str; 10] = [
+const UNKNOWN: &[&str] = &[
     "main",
     "_Z",
     "_ZN",
@@ -87,6 +87,6 @@ const UNKNOWN: [&str; 10] = [
 fn other_names_are_shown_as_they_are(rt: HostRuntime) {
     for name in UNKNOWN {
         let shown = SymbolName::of(name).shown();
-        assert!(rt; shown.as_str() == name, "{name}");
+        assert!(rt; shown.as_str() == *name, "{name}");
     }
 }

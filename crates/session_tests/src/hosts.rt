@@ -104,25 +104,6 @@ fn one_host(rt: HostRuntime) -> Result<(), Fail> {
     Ok(())
 }
 
-/// 255 tenants may be live at once.
-#[test]
-fn too_many_live(rt: HostRuntime) -> Result<(), Fail> {
-    let file = image(rt.alloc(), &ILLEGAL)?;
-    let mut host = Host::new(rt.alloc(), 4000)?;
-    for id in 0..256u16 {
-        let admission = admission_of(id, file.as_slice());
-        let result = host.admit(rt.alloc(), &admission);
-        if id == 255 {
-            assert!(rt; result == Err(Obstacle::Refused(AdmitError::TooManyLive)));
-            host.stop(7)?;
-            host.admit(rt.alloc(), &admission)?;
-        } else {
-            assert!(rt; result == Ok(()));
-        }
-    }
-    Ok(())
-}
-
 /// A host with the tenant 1 alone, whose program is illegal.
 fn host_of_one(alloc: Global) -> Result<Host, Fail> {
     let file = image(alloc, &ILLEGAL)?;

@@ -8,8 +8,6 @@ mod discipline;
 #[cfg(test)]
 mod doubles;
 #[cfg(test)]
-mod edges;
-#[cfg(test)]
 mod hosts;
 #[cfg(test)]
 mod images;
@@ -17,8 +15,6 @@ mod images;
 mod limits;
 #[cfg(test)]
 mod scripts;
-#[cfg(test)]
-mod services;
 #[cfg(test)]
 mod sessions;
 #[cfg(test)]

@@ -6,7 +6,7 @@ use std::alloc::Global;
 use std::process::Abort;
 
 /// Faulty lines, and what is said of each where one file is named.
-const LINES: [(&[u8], ScriptFault, &str); 5] = [
+const LINES: &[(&[u8], ScriptFault, &str)] = &[
     (
         b"slice 1",
         ScriptFault::Syntax,
@@ -49,7 +49,7 @@ fn is_told(alloc: Global, wrong: &WrongWord, expected: &str) -> bool {
 #[test]
 fn tells_the_wrong_word(rt: HostRuntime) {
     for (line, fault, expected) in LINES {
-        let wrong = WrongWord::of(line, 1, fault, 1);
+        let wrong = WrongWord::of(line, 1, *fault, 1);
         assert!(rt; is_told(rt.alloc(), &wrong, expected));
     }
 }

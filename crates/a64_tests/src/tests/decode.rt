@@ -6,7 +6,7 @@ use a64_decode::{decode, words_are_unique, words_mean};
 
 /// Words that are none of the profile's.
 #[rattlefmt::skip]
-const REFUSED: [u32; 7] = [
+const REFUSED: &[u32] = &[
     // The word 0, and data of a sample program.
     0, 0x0000_6948,
     // LDP and LDR with equal registers.
@@ -23,8 +23,8 @@ const REFUSED: [u32; 7] = [
 fn rows_as_assembled(rt: HostRuntime) {
     for (word, instr) in ROWS {
         assert_eq!(rt;
-            (encode(&instr), decode(word).and_then(|i| encode(&i))),
-            (Some(word), Some(word)),
+            (encode(instr), decode(*word).and_then(|i| encode(&i))),
+            (Some(*word), Some(*word)),
             "{word:#x}"
         );
     }
@@ -33,7 +33,7 @@ fn rows_as_assembled(rt: HostRuntime) {
 #[test]
 fn refused_words(rt: HostRuntime) {
     for word in REFUSED {
-        assert!(rt; decode(word).is_none(), "decode {word:#x}");
+        assert!(rt; decode(*word).is_none(), "decode {word:#x}");
     }
     words_mean();
     words_are_unique();

@@ -4,7 +4,7 @@
 use a64_asm::Instr;
 
 #[rattlefmt::skip]
-pub const ROWS: [(u32, Instr); 41] = [
+pub const ROWS: &[(u32, Instr)] = &[
     // adds w3, w4, #0x456, lsl #12
     (0x3151_5883, Instr::AddSubImm { sf: 0, op: 0, s: 1, sh: 1, imm12: 1110, rn: 4, rd: 3 }),
     // add x5, x6, x7, lsl #63

@@ -6,7 +6,7 @@ use std::test::Fail;
 
 /// Words at the address 0x400000.
 #[rattlefmt::skip]
-const AT_AN_ADDRESS: [(u32, &str); 28] = [
+const AT_AN_ADDRESS: &[(u32, &str)] = &[
     (0x9100_03FF, "mov sp, sp"),
     (0x8B22_6BFF, "add sp, sp, x2, lsl #2"),
     (0xEB01_03FF, "cmp xzr, x1"),
@@ -38,7 +38,7 @@ const AT_AN_ADDRESS: [(u32, &str); 28] = [
 ];
 
 /// Words whose target is written by its distance.
-const BY_DISTANCE: [(u32, &str); 3] = [
+const BY_DISTANCE: &[(u32, &str)] = &[
     (0x1400_0004, "b .+0x10"),
     (0x54FF_FFE1, "b.ne .-0x4"),
     (0xF000_0001, "adrp x1, .+0x3000"),
@@ -47,13 +47,13 @@ const BY_DISTANCE: [(u32, &str); 3] = [
 #[test]
 fn texts_at_an_address(rt: HostRuntime) -> Result<(), Fail> {
     for (word, expected) in AT_AN_ADDRESS {
-        let instr = decode(word).ok_or("an instruction")?;
+        let instr = decode(*word).ok_or("an instruction")?;
         let text = TextAt {
             instr,
             pc: 0x40_0000,
         };
         let written = format!(in rt.alloc(); "{text}")?;
-        assert_eq!(rt; written.as_str(), expected);
+        assert_eq!(rt; written.as_str(), *expected);
     }
     Ok(())
 }
@@ -61,9 +61,9 @@ fn texts_at_an_address(rt: HostRuntime) -> Result<(), Fail> {
 #[test]
 fn texts_by_distance(rt: HostRuntime) -> Result<(), Fail> {
     for (word, expected) in BY_DISTANCE {
-        let text = Text(decode(word).ok_or("an instruction")?);
+        let text = Text(decode(*word).ok_or("an instruction")?);
         let written = format!(in rt.alloc(); "{text}")?;
-        assert_eq!(rt; written.as_str(), expected);
+        assert_eq!(rt; written.as_str(), *expected);
     }
     Ok(())
 }

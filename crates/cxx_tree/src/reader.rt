@@ -72,10 +72,8 @@ impl<'a> NameReader<'a> {
 
     /// Takes the letters that are among some.
     pub fn take_of(&mut self, some: &str) -> Option<&'a str> {
-        let rest = self.bytes.get(self.at..)?;
-        let some = some.as_bytes();
-        let end = rest.iter().position(|letter| !some.contains(letter));
-        self.take(end.unwrap_or(rest.len()))
+        let letters = count_of(self.bytes.get(self.at..)?, some.as_bytes());
+        self.take(letters)
     }
 
     /// Takes a number of decimal digits.
@@ -151,5 +149,13 @@ impl<'a> NameReader<'a> {
             return Some("(anonymous namespace)");
         }
         Some(name)
+    }
+}
+
+/// How many letters there are up to the first that is not among some.
+fn count_of(letters: &[u8], some: &[u8]) -> usize {
+    match letters.iter().position(|letter| !some.contains(letter)) {
+        Some(end) => end,
+        None => letters.len(),
     }
 }

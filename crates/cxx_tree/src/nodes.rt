@@ -118,19 +118,6 @@ impl<'n, 'a> Nodes<'n, 'a> {
         part
     }
 
-    /// The name of a class without its scope and its arguments.
-    pub fn base_name(&self, class: Id) -> Id {
-        let mut part = class;
-        for _ in self.list {
-            match self.at(part) {
-                Node::Scope(_, inner) => part = inner,
-                Node::Template(name, _) | Node::Tagged(name, _) => part = name,
-                _ => break,
-            }
-        }
-        part
-    }
-
     /// Whether the type of a function with this name has its result in front: it is made from a
     /// template, and is no constructor, destructor or conversion.
     pub fn has_result(&self, name: Id) -> bool {
@@ -142,66 +129,5 @@ impl<'n, 'a> Nodes<'n, 'a> {
             last,
             Node::Constructor(_) | Node::Destructor(_) | Node::Conversion(_)
         )
-    }
-
-    /// What stands for a node: the argument `pack` of several, the argument of a parameter.
-    pub fn resolve(&self, id: Id, pack: Option<usize>) -> Id {
-        let mut id = id;
-        for _ in self.list {
-            let found = match (self.at(id), pack) {
-                (Node::PackParameter(list), Some(place)) => self.item(list, place),
-                (Node::Parameter(place), _) => self.item(self.arguments, place),
-                _ => None,
-            };
-            match found {
-                Some(other) => id = other,
-                None => break,
-            }
-        }
-        id
-    }
-
-    /// A type without its qualifiers.
-    pub fn plain_type(&self, id: Id, pack: Option<usize>) -> Node<'a> {
-        let mut id = id;
-        for _ in self.list {
-            id = self.resolve(id, pack);
-            match self.at(id) {
-                Node::Qualified(inner, _) => id = inner,
-                _ => break,
-            }
-        }
-        self.at(id)
-    }
-
-    /// Whether a part of a type comes behind the name of what has it.
-    pub fn has_right(&self, id: Id, pack: Option<usize>) -> bool {
-        let mut node = self.plain_type(id, pack);
-        for _ in self.list {
-            match node {
-                Node::Pointer(inner, _) | Node::Member(_, inner) => {
-                    node = self.plain_type(inner, pack);
-                }
-                _ => break,
-            }
-        }
-        matches!(node, Node::Function(..) | Node::Array(..))
-    }
-
-    /// The list of the pack in a pattern.
-    pub fn pack_in(&self, pattern: Id) -> Option<Id> {
-        let mut node = self.at(pattern);
-        for _ in self.list {
-            let inner = match node {
-                Node::PackParameter(list) => return Some(list),
-                Node::Pointer(inner, _) | Node::Qualified(inner, _) => inner,
-                Node::Between(_, inner, _) | Node::Unary(_, inner) => inner,
-                Node::Template(_, inner) | Node::Scope(inner, _) => inner,
-                Node::Items(inner, _) | Node::Call(inner, _) => inner,
-                _ => return None,
-            };
-            node = self.at(inner);
-        }
-        None
     }
 }

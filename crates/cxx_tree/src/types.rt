@@ -1,6 +1,6 @@
 //! Types (`<type>`) and what stands for what came before (`<substitution>`).
 
-use crate::nodes::Node;
+use crate::nodes::{Id, Node};
 use crate::parser::{ListKind, Parser, Task};
 use crate::reader::DIGITS;
 
@@ -160,10 +160,14 @@ impl<'a> Parser<'a> {
         if self.in_lambda {
             return self.put(Node::Numbered("auto:", place.checked_add(1)?, ""));
         }
-        let argument = match self.nodes().item(self.arguments, place) {
-            Some(argument) if !self.in_conversion => argument,
-            _ => return self.put(Node::Parameter(place)),
-        };
+        match self.nodes().item(self.arguments, place) {
+            Some(argument) if !self.in_conversion => self.put_argument(argument),
+            _ => self.put(Node::Parameter(place)),
+        }
+    }
+
+    /// Puts the argument of a parameter onto what was read.
+    fn put_argument(&mut self, argument: Id) -> Option<()> {
         match self.nodes().at(argument) {
             Node::Pack(list) => self.put(Node::PackParameter(list)),
             _ => self.values.try_push(argument).ok(),
@@ -205,13 +209,24 @@ impl<'a> Parser<'a> {
         self.reader.expect("S")?;
         let letter = self.reader.peek();
         if letter.is_ascii_lowercase() {
-            self.reader.take(1)?;
-            let is_class = matches!(self.reader.peek(), b'C' | b'D');
-            return self.put(known_name(letter, is_class)?);
+            self.known(letter)
+        } else {
+            self.earlier()
         }
+    }
+
+    /// Reads a name of the standard library, at its letter.
+    fn known(&mut self, letter: u8) -> Option<()> {
+        self.reader.take(1)?;
+        let is_class = matches!(self.reader.peek(), b'C' | b'D');
+        self.put(known_name(letter, is_class)?)
+    }
+
+    /// Reads the number of what came before.
+    fn earlier(&mut self) -> Option<()> {
         let place = self.reader.sequence()?;
-        let id = *self.substitutions.as_slice().get(place)?;
-        self.values.try_push(id).ok()
+        let id = self.substitutions.as_slice().get(place)?;
+        self.values.try_push(*id).ok()
     }
 }
 

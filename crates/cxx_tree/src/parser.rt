@@ -141,9 +141,13 @@ impl<'a> Parser<'a> {
     /// What is to be done next, in this order.
     pub fn schedule(&mut self, tasks: &[Task<'a>]) -> Option<()> {
         for task in tasks.iter().rev() {
-            self.tasks.try_push(*task).ok()?;
+            self.push(*task)?;
         }
         Some(())
+    }
+
+    fn push(&mut self, task: Task<'a>) -> Option<()> {
+        self.tasks.try_push(task).ok()
     }
 
     /// A new node.

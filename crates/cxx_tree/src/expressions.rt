@@ -19,15 +19,7 @@ impl<'a> Parser<'a> {
     fn operation(&mut self) -> Option<()> {
         let letters = self.reader.take(2)?;
         match letters {
-            "sr" => {
-                let own = [Task::UnqualifiedName, Task::Scope, Task::OwnArguments];
-                self.schedule(&own)?;
-                if self.reader.peek().is_ascii_digit() {
-                    let first = [Task::UnqualifiedName, Task::OwnArguments, Task::Level];
-                    return self.schedule(&first);
-                }
-                self.schedule(&[Task::Type])
-            }
+            "sr" => self.scoped_name(),
             "st" => self.schedule(&[Task::Type, Task::Between("sizeof (", ")")]),
             "sz" => self.schedule(&[Task::Expression, Task::Between("sizeof (", ")")]),
             "at" => self.schedule(&[Task::Type, Task::Between("alignof (", ")")]),
@@ -39,12 +31,24 @@ impl<'a> Parser<'a> {
                 let values = Task::List(first, ListKind::Values);
                 self.schedule(&[Task::Expression, values, Task::Call])
             }
-            "fp" => {
-                let number = self.reader.counted()?.checked_add(1)?;
-                self.put(Node::Numbered("{parm#", number, "}"))
-            }
+            "fp" => self.parameter(),
             _ => self.operator(letters),
         }
+    }
+
+    /// Reads a name in a scope (`sr`).
+    fn scoped_name(&mut self) -> Option<()> {
+        self.schedule(&[Task::UnqualifiedName, Task::Scope, Task::OwnArguments])?;
+        if self.reader.peek().is_ascii_digit() {
+            return self.schedule(&[Task::UnqualifiedName, Task::OwnArguments, Task::Level]);
+        }
+        self.schedule(&[Task::Type])
+    }
+
+    /// Reads a parameter of the function (`fp`).
+    fn parameter(&mut self) -> Option<()> {
+        let number = self.reader.counted()?.checked_add(1)?;
+        self.put(Node::Numbered("{parm#", number, "}"))
     }
 
     /// Reads the next part of what a name in a value is in (`<unresolved-qualifier-level>`).

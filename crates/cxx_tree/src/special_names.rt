@@ -16,20 +16,16 @@ impl<'a> Parser<'a> {
             "TH" => self.special_variable("TLS init function for "),
             "GV" => self.special_variable("guard variable for "),
             "GR" => self.schedule(&[Task::Name(false), Task::ReferenceTail]),
-            "GT" => {
-                let is_clone = self.reader.eat("t");
-                if !is_clone {
-                    self.reader.expect("n")?;
-                }
-                let words = if is_clone {
-                    "transaction clone for "
-                } else {
-                    "non-transaction clone for "
-                };
-                self.thunk(words)
-            }
+            "GT" => self.transaction_clone(),
             "GA" => self.thunk("hidden alias for "),
             "TC" => { self.schedule(&[Task::Type, Task::SkipNumber, Task::Type, Task::InScope]) }
+            _ => self.thunk_name(letters),
+        }
+    }
+
+    /// Reads the name of a thunk, by its letters.
+    fn thunk_name(&mut self, letters: &str) -> Option<()> {
+        match letters {
             "Th" => {
                 self.reader.offset()?;
                 self.thunk("non-virtual thunk to ")
@@ -46,6 +42,16 @@ impl<'a> Parser<'a> {
             }
             _ => None,
         }
+    }
+
+    /// Reads the name of a copy of a function for transactions (`GTt`), or of one beside it
+    /// (`GTn`).
+    fn transaction_clone(&mut self) -> Option<()> {
+        if self.reader.eat("t") {
+            return self.thunk("transaction clone for ");
+        }
+        self.reader.expect("n")?;
+        self.thunk("non-transaction clone for ")
     }
 
     fn special_type(&mut self, words: &'static str) -> Option<()> {

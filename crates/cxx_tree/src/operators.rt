@@ -4,7 +4,7 @@
 pub type Operator = (&'static str, &'static str, u8);
 
 /// The operators. Those of 0 values are in no expression.
-pub const OPERATORS: [Operator; 50] = [
+pub const OPERATORS: &[Operator] = &[
     ("nw", "new", 0),
     ("na", "new[]", 0),
     ("dl", "delete", 0),
@@ -59,10 +59,6 @@ pub const OPERATORS: [Operator; 50] = [
 
 /// The operator of two letters.
 pub fn operator_of(letters: &str) -> Option<Operator> {
-    for operator in OPERATORS {
-        if operator.0 == letters {
-            return Some(operator);
-        }
-    }
-    None
+    let found = OPERATORS.iter().find(|operator| operator.0 == letters)?;
+    Some(*found)
 }

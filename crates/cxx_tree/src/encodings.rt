@@ -75,26 +75,30 @@ impl<'a> Parser<'a> {
                 self.reader.take(1)?;
                 self.nested_name(is_function)
             }
-            (b'Z', _) => {
-                self.reader.take(1)?;
-                let tail = Task::LocalTail(is_function);
-                if is_function {
-                    return self.schedule(&[Task::Encoding, tail]);
-                }
-                self.schedule(&[Task::Encoding, tail, Task::Use(self.arguments)])
-            }
-            (b'S', b't') => {
-                self.reader.take(2)?;
-                self.put(Node::Text("std"))?;
-                let arguments = Task::NameArguments(is_function);
-                self.schedule(&[Task::UnqualifiedName, Task::Scope, arguments])
-            }
+            (b'Z', _) => self.local_name(Task::LocalTail(is_function), is_function),
+            (b'S', b't') => self.standard_name(Task::NameArguments(is_function)),
             (b'S', _) => {
                 self.substitution()?;
                 self.schedule(&[Task::ArgumentsOf(is_function)])
             }
             _ => self.schedule(&[Task::UnqualifiedName, Task::NameArguments(is_function)]),
         }
+    }
+
+    /// Reads the name of what is in a function (`<local-name>`).
+    fn local_name(&mut self, tail: Task<'a>, is_function: bool) -> Option<()> {
+        self.reader.take(1)?;
+        if is_function {
+            return self.schedule(&[Task::Encoding, tail]);
+        }
+        self.schedule(&[Task::Encoding, tail, Task::Use(self.arguments)])
+    }
+
+    /// Reads a name in `std`.
+    fn standard_name(&mut self, arguments: Task<'a>) -> Option<()> {
+        self.reader.take(2)?;
+        self.put(Node::Text("std"))?;
+        self.schedule(&[Task::UnqualifiedName, Task::Scope, arguments])
     }
 
     /// Reads the arguments of a name that is not nested, if it has any.
@@ -113,14 +117,18 @@ impl<'a> Parser<'a> {
             self.put(Node::Text("string literal"))?;
             return self.schedule(&[Task::Discriminator, Task::LocalScope]);
         }
-        if self.reader.eat("d") {
-            let number = self.reader.counted()?.checked_add(1)?;
-            self.put(Node::Numbered("{default arg#", number, "}"))?;
-            let name = Task::Name(is_function);
-            return self.schedule(&[Task::Scope, name, Task::LocalScope]);
-        }
         let name = Task::Name(is_function);
+        if self.reader.eat("d") {
+            return self.default_argument(name);
+        }
         self.schedule(&[name, Task::Discriminator, Task::LocalScope])
+    }
+
+    /// Reads what is in a default argument of a function.
+    fn default_argument(&mut self, name: Task<'a>) -> Option<()> {
+        let number = self.reader.counted()?.checked_add(1)?;
+        self.put(Node::Numbered("{default arg#", number, "}"))?;
+        self.schedule(&[Task::Scope, name, Task::LocalScope])
     }
 
     /// Makes the scope of what is in a function, whose result is not told. Qualifiers of what is
@@ -149,14 +157,17 @@ impl<'a> Parser<'a> {
         match self.nodes().at(function) {
             Node::Function(_, parameters) => self.node(Node::Function(0, parameters)),
             Node::Qualified(inner, letters) => match self.nodes().at(inner) {
-                Node::Function(_, parameters) => {
-                    let inner = self.node(Node::Function(0, parameters))?;
-                    self.node(Node::Qualified(inner, letters))
-                }
+                Node::Function(_, parameters) => self.qualified_function(parameters, letters),
                 _ => Some(function),
             },
             _ => Some(function),
         }
+    }
+
+    /// A function without a result, which has qualifiers.
+    fn qualified_function(&mut self, parameters: Id, letters: &'a str) -> Option<Id> {
+        let inner = self.node(Node::Function(0, parameters))?;
+        self.node(Node::Qualified(inner, letters))
     }
 
     /// Reads which of several entities of a function's name one is (`<discriminator>`).
