@@ -1,5 +1,6 @@
 //! The tests, by what they are of.
 
+mod accesses;
 mod arithmetic;
 mod bits;
 mod decode;

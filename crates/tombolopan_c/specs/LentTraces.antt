@@ -1,10 +1,9 @@
 -- A traced run over lent memory, and what is told of its end.
-use Rattle.std.specs.Prelude.{◌≡◌, ℕ, ◌&&◌, ◌≤◌, Bool, nat_le, nat_lt, List, length, true, false, None}
+use Rattle.std.specs.Prelude.{◌≡◌, ℕ, ◌&&◌, ◌≤◌, Bool, nat_le, nat_lt, length, true, false, None}
 use Rattle.std.specs.Prelude.{if◌then◌else◌}
 use Rattle.mte_tags.specs.Memory.{Memory}
 use Rattle.a64_registers.specs.declared.registers.Regs.{Regs}
-use Rattle.traced_run.specs.Traces.{trace_of, Holds, IsFull}
-use Rattle.traced_run.specs.declared.lists.TracedInstruction.{TracedInstruction}
+use Rattle.traced_run.specs.Traces.{trace_of, Arrays, Holds, IsFull}
 use Rattle.traced_run.specs.declared.request.TraceRequest.{TraceRequest}
 use Rattle.traced_run.specs.declared.run.TraceEnd.{TraceEnd}
 use Rattle.call_reports.specs.Faults.{no_fault}
@@ -42,17 +41,18 @@ end_report e = record {
   fault = stop_fault e.outcome;
 }
 
--- What a traced run of C has left of the registers and in its array is what its first steps leave,
--- and its end is told. Its array of accesses has room for `room` of them.
-pub record HasTraced (q : TraceRequest) (r0 : Regs) (m0 : Memory) (old : List TracedInstruction)
-    (room : ℕ) (t : TraceReport) (r : Regs) (now : List TracedInstruction) : Type 0 where
+-- What a traced run of C has left of the registers and in its arrays is what its first steps leave,
+-- and its end is told.
+pub record HasTraced (q : TraceRequest) (r0 : Regs) (m0 : Memory) (old : Arrays) (t : TraceReport)
+    (r : Regs) (now : Arrays) : Type 0 where
   pub end : TraceEnd
   pub told : t ≡ end_report end
   pub regs : r ≡ (trace_of t.steps q r0 m0).regs
   pub outcome : end.outcome ≡ (trace_of t.steps q r0 m0).outcome
   pub reached : end.reached ≡ (trace_of t.steps q r0 m0).reached
-  pub instructions : Holds (trace_of t.steps q r0 m0).instructions old now t.instructions
+  pub instructions :
+      Holds (trace_of t.steps q r0 m0).instructions old.instructions now.instructions t.instructions
+  pub accesses : Holds (trace_of t.steps q r0 m0).accesses old.accesses now.accesses t.accesses
   pub within : t.steps ≤ q.steps
   pub whole : end.outcome ≡ None → end.reached ≡ false → end.full ≡ false → t.steps ≡ q.steps
-  pub full : end.full ≡ true → IsFull end (length old) room
-  pub entered : t.accesses ≤ room
+  pub full : end.full ≡ true → IsFull end (length old.instructions) (length old.accesses)

@@ -1,7 +1,7 @@
 //! The export of a run whose instructions and accesses are entered in arrays of the caller.
 
-ghost use Rattle.std.specs.Prelude.{◌≡◌, length, false, true};
-ghost use Rattle.traced_run.specs.Traces.{trace_of};
+ghost use Rattle.std.specs.Prelude.{◌≡◌, false, true};
+ghost use Rattle.traced_run.specs.Traces.{arrays, trace_of};
 ghost use Rattle.tombolopan_c.specs.LentPages.{lent_memory, state_of};
 ghost use Rattle.tombolopan_c.specs.LentRegisters.{regs_of};
 ghost use Rattle.tombolopan_c.specs.LentTraces.{is_request, end_report, no_steps, HasTraced};
@@ -110,7 +110,8 @@ pub extern "C" fn tb_run_traced(
         (lent_memory (state_of state.old) pages.old)).memory }
     ensures traced { is_request request.now ≡ true
         → HasTraced request.now (regs_of regs.old) (lent_memory (state_of state.old) pages.old)
-        instructions.old (length accesses.old) end.new (regs_of regs.new) instructions.new }
+        (arrays instructions.old accesses.old) end.new
+        (regs_of regs.new) (arrays instructions.new accesses.new) }
 {
     if !is_in_range(request) {
         *end = TraceReport::refused();

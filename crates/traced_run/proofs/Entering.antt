@@ -6,6 +6,7 @@ use Rattle.mte_tags.specs.Memory.{Memory}
 use Rattle.a64_registers.specs.declared.registers.Regs.{Regs}
 use Rattle.a64_step.specs.Steps.{step_of}
 use Rattle.traced_run.specs.Traces.{held, Holds, trace_of, after_step}
+use Rattle.traced_run.specs.declared.lists.TracedAccess.{TracedAccess}
 use Rattle.traced_run.specs.declared.lists.TracedInstruction.{TracedInstruction}
 use Rattle.traced_run.specs.declared.request.TraceRequest.{TraceRequest}
 
@@ -25,7 +26,7 @@ set_held xs old v h =
     ∙ sym (held_short (xs ++ v ∷ []) old (omega (arith, h, more)))
 
 -- an array holds what is entered behind the items that it held
-pub holds_more : (xs old now : List TracedInstruction) (count : ℕ) (v : TracedInstruction) → count < length old → Holds xs old now count
+pub holds_more : {A : Type 0} (xs old now : List A) (count : ℕ) (v : A) → count < length old → Holds xs old now count
     → Holds (xs ++ v ∷ []) old (set now count v) (count + 1)
 holds_more xs old now count v room h =
     let same : count ≡ length xs = h.counted (omega (arith, room)) in
@@ -47,16 +48,24 @@ trace_next n q r m o e =
     ap (λ k. trace_of k q r m) next
     ∙ ap (λ b. if b then after_step q n (step_of t.regs t.memory) t else t) goes
 
-pub trace_none : (q : TraceRequest) (r : Regs) (m : Memory) → trace_of 0 q r m ≡ record { regs = r; memory = m; outcome = None; reached = false; instructions = [] }
+pub trace_none : (q : TraceRequest) (r : Regs) (m : Memory) → trace_of 0 q r m ≡ record { regs = r; memory = m; outcome = None; reached = false; instructions = []; accesses = [] }
 unfolding trace_of
 trace_none q r m = refl
 
 -- an array holds what nothing was entered in
-pub holds_start : (q : TraceRequest) (r : Regs) (m : Memory) (old : List TracedInstruction) → Holds (trace_of 0 q r m).instructions old old 0
-unfolding trace_of
-holds_start q r m old = record {
+pub holds_none : {A : Type 0} (old : List A) → Holds [] old old 0
+holds_none old = record {
   list = sym (held_short [] old (omega arith));
   counted = λ p. refl;
   within = omega arith;
   same = refl;
 }
+
+-- nothing is entered of no steps
+pub holds_start : (q : TraceRequest) (r : Regs) (m : Memory) (old : List TracedInstruction) → Holds (trace_of 0 q r m).instructions old old 0
+unfolding trace_of
+holds_start q r m old = holds_none old
+
+pub holds_no_access : (q : TraceRequest) (r : Regs) (m : Memory) (old : List TracedAccess) → Holds (trace_of 0 q r m).accesses old old 0
+unfolding trace_of
+holds_no_access q r m old = holds_none old

@@ -1,2 +1,3 @@
 mod Entering
 mod Runs
+mod WithoutAccess

@@ -1,1 +1,2 @@
+pub mod InstructionAccesses
 pub mod Traces

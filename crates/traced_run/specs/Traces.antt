@@ -1,4 +1,5 @@
--- A run that stops at some addresses, step by step, and the instructions that it fetches.
+-- A run that stops at some addresses, step by step, the instructions that it fetches, and the
+-- accesses of those that complete.
 use Rattle.std.specs.Prelude.{ℕ, zero, suc, ◌+◌, ◌^◌, ◌==◌, ◌&&◌, Bool, false, not, nat_le}
 use Rattle.std.specs.Prelude.{List, [], ◌∷◌, ◌++◌, take, drop, length, is_none}
 use Rattle.std.specs.Prelude.{Option, Some, None, if◌then◌else◌, ◌≡◌, ◌<◌, ◌≤◌, ◌⊎◌}
@@ -11,6 +12,8 @@ use Rattle.a64_step.specs.declared.outcome.Outcome.{Outcome}
 use Rattle.a64_step.specs.declared.outcome.Outcome.TheVariants as outcome
 use Rattle.a64_step.specs.Results.{Stepped}
 use Rattle.a64_step.specs.Steps.{step_of, Ran}
+use Rattle.traced_run.specs.InstructionAccesses.{accesses_of_step}
+use Rattle.traced_run.specs.declared.lists.TracedAccess.{TracedAccess}
 use Rattle.traced_run.specs.declared.lists.TracedInstruction.{TracedInstruction}
 use Rattle.traced_run.specs.declared.request.TraceRequest.{TraceRequest}
 use Rattle.traced_run.specs.declared.run.TraceEnd.{TraceEnd}
@@ -47,6 +50,7 @@ pub record Trace : Type 0 where
   pub outcome : Option Outcome
   pub reached : Bool
   pub instructions : List TracedInstruction
+  pub accesses : List TracedAccess
 
 -- One more step, which is step k.
 abbrev pub after_step : TraceRequest → ℕ → Stepped → Trace → Trace
@@ -57,6 +61,7 @@ after_step q k s t = record {
   reached = is_none (stopping s.outcome) && is_stop q.stops.now s.regs.pc;
   instructions = t.instructions ++
       fetched q k t.regs.pc (result_ok (fetch_result t.memory t.regs.pc));
+  accesses = t.accesses ++ accesses_of_step q k t.regs t.memory s;
 }
 
 -- One more step, unless the run has ended.
@@ -74,6 +79,7 @@ trace_of zero q r m = record {
   outcome = None;
   reached = false;
   instructions = [];
+  accesses = [];
 }
 trace_of (suc n) q r m = next_trace q n (trace_of n q r m)
 
@@ -94,20 +100,35 @@ MayGoOn e = e.steps + 1 < 2 ^ 64
 
 -- An array that holds the items xs in front of what it held before; where it has no room, it holds
 -- none and none is counted.
-pub record Holds (xs old now : List TracedInstruction) (count : ℕ) : Type 0 where
+pub record Holds {A : Type 0} (xs old now : List A) (count : ℕ) : Type 0 where
   pub list : now ≡ held xs old
   pub counted : 0 < length old → count ≡ length xs
   pub within : count ≤ length old
   pub same : length now ≡ length old
 
+-- The arrays of the caller.
+pub record Arrays : Type 0 where
+  pub instructions : List TracedInstruction
+  pub accesses : List TracedAccess
+
+abbrev pub arrays : List TracedInstruction → List TracedAccess → Arrays
+arrays i a = record { instructions = i; accesses = a }
+
+-- What is entered of an access, if there is one.
+abbrev pub listed : Option TracedAccess → List TracedAccess
+listed None = []
+listed (Some a) = a ∷ []
+
 -- What a traced run has left, is what its first steps leave.
-pub record IsTraced (q : TraceRequest) (r0 : Regs) (m0 : Memory) (old : List TracedInstruction)
-    (e : TraceEnd) (r : Regs) (m : Memory) (now : List TracedInstruction) : Type 0 where
+pub record IsTraced (q : TraceRequest) (r0 : Regs) (m0 : Memory) (old : Arrays) (e : TraceEnd)
+    (r : Regs) (m : Memory) (now : Arrays) : Type 0 where
   pub regs : r ≡ (trace_of e.steps q r0 m0).regs
   pub memory : m ≡ (trace_of e.steps q r0 m0).memory
   pub outcome : e.outcome ≡ (trace_of e.steps q r0 m0).outcome
   pub reached : e.reached ≡ (trace_of e.steps q r0 m0).reached
-  pub instructions : Holds (trace_of e.steps q r0 m0).instructions old now e.instructions
+  pub instructions :
+      Holds (trace_of e.steps q r0 m0).instructions old.instructions now.instructions e.instructions
+  pub accesses : Holds (trace_of e.steps q r0 m0).accesses old.accesses now.accesses e.accesses
 
 -- An array in which something is entered has no room left.
 abbrev pub HasNoRoom : ℕ → ℕ → Type 0

@@ -1,9 +1,10 @@
 //! Laws of the definitions.
 
-ghost use Rattle.std.specs.Prelude.{◌≡◌, ℕ, []};
+ghost use Rattle.std.specs.Prelude.{◌≡◌, ℕ, [], None};
 ghost use Rattle.mte_tags.specs.Memory.{Memory};
 ghost use Rattle.a64_registers.specs.declared.registers.Regs.{Regs};
-ghost use Rattle.a64_step.specs.Steps.{run_of};
+ghost use Rattle.a64_step.specs.Steps.{run_of, step_of};
+ghost use Rattle.traced_run.specs.InstructionAccesses.{next_access};
 ghost use Rattle.traced_run.specs.Traces.{trace_of, IsRun};
 ghost use Rattle.traced_run.specs.declared.request.TraceRequest.{TraceRequest};
 
@@ -12,4 +13,10 @@ ghost use Rattle.traced_run.specs.declared.request.TraceRequest.{TraceRequest};
 pub fn traces_are_runs()
     ensures { (n : ℕ) (q : TraceRequest) (r : Regs) (m : Memory) → q.stops.now ≡ []
         → IsRun (trace_of n q r m) (run_of n r m) }
+{}
+
+/// A step whose instruction makes no access leaves the memory as it is: what is entered has each
+/// change.
+pub fn steps_without_access_keep_memory()
+    ensures { (r : Regs) (m : Memory) → next_access r m ≡ None → (step_of r m).memory ≡ m }
 {}

@@ -24,7 +24,8 @@ pub struct TracedAccess {
     pub pc: u64,
     /// The address that was used, its tag in bits 59 to 56.
     pub addr: u64,
-    /// The bytes, the lowest first; of a tag alone the tag.
+    /// What memory has there after the instruction: the bytes, the lowest first; of tags alone the
+    /// first one. 0 where it cannot be read.
     pub value: [u64; 2],
     /// How many bytes: 1 to 16; of the tags of one granule 16, of two 32.
     pub size: u32,

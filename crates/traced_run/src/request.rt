@@ -1,8 +1,10 @@
 //! What is asked of a traced run.
 
 ghost use Rattle.std.specs.Prelude.{◌≡◌};
+ghost use Rattle.traced_run.specs.InstructionAccesses.{is_wanted};
 ghost use Rattle.traced_run.specs.Traces.{is_code};
 
+use crate::access::InstructionAccess;
 use a64_bits::plain;
 
 /// How far a run goes, and which of its instructions and accesses are entered.
@@ -36,11 +38,13 @@ impl TraceRequest<'_> {
         self.code_low <= pc && pc <= self.code_high
     }
 
-    /// Whether an access is entered, by its kind, its address and its size.
+    /// Whether an access is entered.
     #[inline(always)]
-    pub(crate) fn has_access(&self, kind: u32, addr: u64, size: u32) -> bool {
-        let first = plain(addr);
-        let last = first.saturating_add(u64::from(size.saturating_sub(1)));
-        kind & self.kinds != 0 && first <= self.high && self.low <= last
+    pub(crate) fn has_access(&self, access: &InstructionAccess) -> bool
+        ensures { result ≡ is_wanted self.now access.now }
+    {
+        let first = plain(access.addr);
+        let last = first + u64::from(access.size.saturating_sub(1));
+        access.kind & self.kinds != 0 && first <= self.high && self.low <= last
     }
 }

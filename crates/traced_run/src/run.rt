@@ -1,20 +1,22 @@
 //! The run.
 
 ghost use Rattle.std.specs.Prelude.{◌≡◌, ◌≤◌, ◌<◌, ◌+◌, ◌++◌, List, length, false};
-ghost use Rattle.std.specs.Prelude.{IsFalse, IsTrue, is_none, ◌&&◌, true};
+ghost use Rattle.std.specs.Prelude.{IsFalse, IsTrue, is_none, ◌&&◌, true, None, [], if◌then◌else◌};
 ghost use Rattle.std.specs.Result.{result_ok};
 ghost use Rattle.a64_registers.specs.declared.registers.Regs.{Regs};
 ghost use Rattle.mte_tags.specs.Memory.{Memory};
 ghost use Rattle.mte_tags.specs.Accesses.{fetch_result};
 ghost use Rattle.a64_step.specs.Results.{Leaves};
-ghost use Rattle.a64_step.specs.Steps.{step_of};
+ghost use Rattle.a64_step.specs.Steps.{is_next, step_of};
+ghost use Rattle.traced_run.specs.InstructionAccesses.{entered_access, next_access};
 ghost use Rattle.traced_run.specs.Traces.{stopping, is_stop, fetched, MayGoOn, Holds, IsTraced};
-ghost use Rattle.traced_run.specs.Traces.{HasNoRoom, IsFull};
+ghost use Rattle.traced_run.specs.Traces.{Arrays, arrays, listed, HasNoRoom, IsFull};
+ghost use Rattle.traced_run.specs.declared.lists.TracedAccess.{TracedAccess};
 ghost use Rattle.traced_run.specs.declared.lists.TracedInstruction.{TracedInstruction};
 
+use crate::access::{InstructionAccess, access_of};
 use crate::lists::{TracedAccess, TracedInstruction};
 use crate::request::TraceRequest;
-use crate::watch::{NotedAccess, NotingMemory};
 use a64_decode::Decoder;
 use a64_step::execute::execute;
 use a64_step::{Outcome, Regs};
@@ -37,8 +39,8 @@ pub struct TraceEnd {
     pub full: bool,
 }
 
-/// Attempts one instruction, and returns its word where it could be fetched; `outcome` is written
-/// only where it is not `Next`.
+/// Attempts one instruction, and returns its word where it could be fetched. `outcome` is written
+/// only where it is not `Next`, `access` only where the instruction makes one if it completes.
 #[inline(always)]
 #[tactic(auto, unfolding(a64_step::specs::Steps::step_of))]
 fn attempt<M: Tagged>(
@@ -46,11 +48,14 @@ fn attempt<M: Tagged>(
     regs: &mut Regs,
     memory: &mut M,
     outcome: &mut Outcome,
+    access: &mut Option<InstructionAccess>,
 ) -> Option<u32>
-    requires { outcome.old ≡ Outcome.Next }
+    requires outcome { outcome.old ≡ Outcome.Next }
+    requires access { access.old ≡ None }
     ensures word { result ≡ result_ok (fetch_result (M.memory memory.old) regs.old.pc) }
     ensures leaves { Leaves (step_of regs.old (M.memory memory.old))
         outcome.new regs.new (M.memory memory.new) }
+    ensures access { access.new ≡ next_access regs.old (M.memory memory.old) }
     ensures kept { M.kept memory.old memory.new }
 {
     let pc = regs.pc;
@@ -62,31 +67,13 @@ fn attempt<M: Tagged>(
         }
     };
     match decoder.decode(pc, word) {
-        Some(instr) => execute(instr, regs, memory, outcome),
+        Some(instr) => {
+            *access = access_of(instr, regs);
+            execute(instr, regs, memory, outcome)
+        }
         None => *outcome = Outcome::Illegal(word),
     }
     Some(word)
-}
-
-/// Attempts one instruction, and notes the access that it makes.
-#[inline(always)]
-fn attempt_noting<M: Tagged>(
-    decoder: &mut Decoder,
-    regs: &mut Regs,
-    memory: &mut M,
-    outcome: &mut Outcome,
-    noted: &mut NotedAccess,
-) -> Option<u32>
-    requires { outcome.old ≡ Outcome.Next }
-    ensures word { result ≡ result_ok (fetch_result (M.memory memory.old) regs.old.pc) }
-    ensures leaves { Leaves (step_of regs.old (M.memory memory.old))
-        outcome.new regs.new (M.memory memory.new) }
-    ensures kept { M.kept memory.old memory.new }
-{
-    let mut noting = NotingMemory::new(memory);
-    let word = attempt(decoder, regs, &mut noting, outcome);
-    *noted = noting.noted;
-    word
 }
 
 /// Whether an array in which something is entered has no room left.
@@ -127,36 +114,54 @@ fn enter_instruction(
     count + 1
 }
 
-/// Enters the access that a memory noted where it is asked for, and returns how many are entered.
+/// The access of a step as it is entered, where the step completed and the access is asked for.
 #[inline(always)]
-fn enter_access(
+fn entry_of<M: Tagged>(
     request: &TraceRequest<'_>,
-    accesses: &mut [TracedAccess],
-    count: usize,
+    memory: &mut M,
     step: u64,
     pc: u64,
-    noted: NotedAccess,
-) -> usize
-    ensures within { count ≤ length accesses.old → result ≤ length accesses.old }
-    ensures len { length accesses.new ≡ length accesses.old }
+    outcome: Outcome,
+    access: Option<InstructionAccess>,
+) -> Option<TracedAccess>
+    ensures entry { listed result
+        ≡ (if is_next outcome
+        then entered_access request.now step pc (M.memory memory.old) access
+        else []) }
+    ensures memory { M.memory memory.new ≡ M.memory memory.old }
+    ensures kept { M.kept memory.old memory.new }
 {
-    let NotedAccess {
-        kind,
-        size,
-        addr,
-        value,
-    } = noted;
-    if count >= accesses.len() || !request.has_access(kind, addr, size) {
-        return count;
+    let Outcome::Next = outcome else {
+        return None;
+    };
+    let access = access?;
+    if !request.has_access(&access) {
+        return None;
     }
-    accesses[count] = TracedAccess {
+    Some(TracedAccess {
         step,
         pc,
-        addr,
-        value,
-        size,
-        kind,
+        addr: access.addr,
+        value: access.value(memory),
+        size: access.size,
+        kind: access.kind,
+    })
+}
+
+/// Enters an access, if there is one, and returns how many are entered.
+#[inline(always)]
+fn enter_access(accesses: &mut [TracedAccess], count: usize, entry: Option<TracedAccess>) -> usize
+    requires room { 0 < length accesses.old → count < length accesses.old }
+    ensures { (xs old : List TracedAccess) → Holds xs old accesses.old count
+        → Holds (xs ++ listed entry) old accesses.new result }
+{
+    let Some(access) = entry else {
+        return count;
     };
+    if count >= accesses.len() {
+        return count;
+    }
+    accesses[count] = access;
     count + 1
 }
 
@@ -198,28 +203,27 @@ fn advance<M: Tagged>(
     requires passing { progress.old.end.reached ≡ false }
     requires room { 0 < length instructions.old
         → progress.old.end.instructions < length instructions.old }
+    requires free { 0 < length accesses.old → progress.old.end.accesses < length accesses.old }
     ensures request { progress.new.request ≡ progress.old.request }
     ensures steps { progress.new.end.steps ≡ progress.old.end.steps + 1 }
     ensures full { progress.new.end.full ≡ progress.old.end.full }
-    ensures traced { (r0 : Regs) (m0 : Memory) (old : List TracedInstruction)
+    ensures traced { (r0 : Regs) (m0 : Memory) (old : Arrays)
         → IsTraced progress.old.request.now r0 m0 old progress.old.end regs.old
-        (M.memory memory.old) instructions.old
+        (M.memory memory.old) (arrays instructions.old accesses.old)
         → IsTraced progress.old.request.now r0 m0 old progress.new.end regs.new
-        (M.memory memory.new) instructions.new }
-    ensures within { progress.old.end.accesses ≤ length accesses.old
-        → progress.new.end.accesses ≤ length accesses.old }
-    ensures len { length accesses.new ≡ length accesses.old }
+        (M.memory memory.new) (arrays instructions.new accesses.new) }
     ensures kept { M.kept memory.old memory.new }
     ensures tag { regs.old.rgsr.tag < 16 → regs.new.rgsr.tag < 16 }
 {
     let request = progress.request;
     let (step, pc) = (progress.end.steps, regs.pc);
     let mut outcome = Outcome::Next;
-    let mut noted = NotedAccess::none();
-    let word = attempt_noting(decoder, regs, memory, &mut outcome, &mut noted);
+    let mut access = None;
+    let word = attempt(decoder, regs, memory, &mut outcome, &mut access);
+    let entry = entry_of(request, memory, step, pc, outcome, access);
     let end = &mut progress.end;
     end.instructions = enter_instruction(request, instructions, end.instructions, step, pc, word);
-    end.accesses = enter_access(request, accesses, end.accesses, step, pc, noted);
+    end.accesses = enter_access(accesses, end.accesses, entry);
     end.steps = step + 1;
     note_outcome(end, outcome, request.stops, regs.pc);
 }
@@ -229,8 +233,7 @@ fn advance<M: Tagged>(
 /// stops after the first outcome that is not `Next`, where PC is one of the stops after one, and
 /// before an instruction where an array has no room left. An array without room is not wanted, and
 /// never full. Where `full` is set, nothing else has ended it and one of the arrays has no room
-/// left. No clause says what accesses are entered, but that they are no more than there is room
-/// for.
+/// left.
 pub fn run_traced<M: Tagged>(
     regs: &mut Regs,
     memory: &mut M,
@@ -238,14 +241,14 @@ pub fn run_traced<M: Tagged>(
     instructions: &mut [TracedInstruction],
     accesses: &mut [TracedAccess],
 ) -> TraceEnd
-    ensures traced { IsTraced request.now regs.old (M.memory memory.old) instructions.old
-        result regs.new (M.memory memory.new) instructions.new }
+    ensures traced { IsTraced request.now regs.old (M.memory memory.old)
+        (arrays instructions.old accesses.old)
+        result regs.new (M.memory memory.new) (arrays instructions.new accesses.new) }
     ensures within { result.steps ≤ request.now.steps }
     ensures whole { result.outcome ≡ None → result.reached ≡ false → result.full ≡ false
         → result.steps ≡ request.now.steps }
     ensures full { result.full ≡ true
         → IsFull result (length instructions.old) (length accesses.old) }
-    ensures entered { result.accesses ≤ length accesses.old }
     ensures kept { M.kept memory.old memory.new }
     ensures tag { regs.old.rgsr.tag < 16 → regs.new.rgsr.tag < 16 }
 {

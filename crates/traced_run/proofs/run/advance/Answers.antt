@@ -1,12 +1,13 @@
-use Rattle.std.proofs.Common.{◌≡◌, ◌<◌, ◌+◌, ◌++◌, ◌&&◌, is_none, sym, ap, subst, ◌∙◌}
+use Rattle.std.proofs.Common.{◌≡◌, ◌<◌, ◌+◌, ◌++◌, ◌&&◌, [], is_none, if◌then◌else◌, sym, ap, subst, ◌∙◌}
 use Rattle.std.specs.Result.{result_ok}
 use Rattle.mte_tags.specs.Memory.{Memory}
 use Rattle.mte_tags.specs.Accesses.{fetch_result}
 use Rattle.a64_registers.specs.declared.registers.Regs.{Regs}
 use Rattle.a64_step.specs.Results.{Stepped}
-use Rattle.a64_step.specs.Steps.{step_of}
+use Rattle.a64_step.specs.Steps.{is_next, step_of}
 use Rattle.a64_step.proofs.Effects.{step_orderly}
-use Rattle.traced_run.specs.Traces.{fetched, is_stop, stopping, trace_of, after_step, Trace, Holds, IsTraced}
+use Rattle.traced_run.specs.InstructionAccesses.{accesses_of_step, entered_access, next_access}
+use Rattle.traced_run.specs.Traces.{arrays, listed, fetched, is_stop, stopping, trace_of, after_step, Trace, Holds, IsTraced}
 use Rattle.traced_run.proofs.Entering.{trace_next}
 use Rattle.traced_run.proofs.run.advance.Goals as goal
 
@@ -17,22 +18,32 @@ returns-clause-traced g c = λ r0 m0 old h.
     let r = c.args.regs.now in
     let m = g.M.Tagged.memory c.args.memory.now in
     let t = trace_of n q r0 m0 in
-    let left = c.attempt_noting-word.ensures.leaves in
-    let after = c.attempt_noting-word.new in
+    let left = c.attempt-word.ensures.leaves in
+    let after = c.attempt-word.new in
     let next : trace_of (n + 1) q r0 m0 ≡ after_step q n (step_of t.regs t.memory) t =
     trace_next n q r0 m0 (sym h.outcome ∙ c.requires.running) (sym h.reached ∙ c.requires.passing) in
     let same : step_of r m ≡ step_of t.regs t.memory =
     ap (λ x. step_of x m) h.regs ∙ ap (λ x. step_of t.regs x) h.memory in
-    let items : t.instructions ++ fetched q n r.pc c.attempt_noting-word.result ≡ (trace_of (n + 1) q r0 m0).instructions =
-    ap (λ o. t.instructions ++ fetched q n r.pc o) c.attempt_noting-word.ensures.word
+    let items : t.instructions ++ fetched q n r.pc c.attempt-word.result ≡ (trace_of (n + 1) q r0 m0).instructions =
+    ap (λ o. t.instructions ++ fetched q n r.pc o) c.attempt-word.ensures.word
     ∙ ap (λ (x : Memory). t.instructions ++ fetched q n r.pc (result_ok (fetch_result x r.pc))) h.memory
     ∙ ap (λ (x : Regs). t.instructions ++ fetched q n x.pc (result_ok (fetch_result t.memory x.pc))) h.regs
     ∙ sym (ap (λ (x : Trace). x.instructions) next) in
-    subst (λ e. IsTraced q r0 m0 old e after.regs (g.M.Tagged.memory after.memory) c.enter_instruction-end.new.instructions)
+    let made : t.accesses ++ listed c.entry_of-entry.result ≡ (trace_of (n + 1) q r0 m0).accesses =
+    ap (λ l. t.accesses ++ l)
+    (c.entry_of-entry.ensures.entry
+    ∙ ap (λ a. if is_next c.attempt-word.new.outcome then entered_access q n r.pc (g.M.Tagged.memory after.memory) a else []) c.attempt-word.ensures.access
+    ∙ ap (λ o. if is_next o then entered_access q n r.pc (g.M.Tagged.memory after.memory) (next_access r m) else []) left.outcome
+    ∙ ap (λ (x : Memory). if is_next (step_of r m).outcome then entered_access q n r.pc x (next_access r m) else []) left.memory
+    ∙ ap (λ (s : Stepped). accesses_of_step q n r m s) same
+    ∙ ap (λ (x : Memory). accesses_of_step q n r x (step_of t.regs t.memory)) h.memory
+    ∙ ap (λ (x : Regs). accesses_of_step q n x t.memory (step_of t.regs t.memory)) h.regs)
+    ∙ sym (ap (λ (x : Trace). x.accesses) next) in
+    subst (λ e. IsTraced q r0 m0 old e after.regs (g.M.Tagged.memory c.entry_of-entry.new.memory) (arrays c.enter_instruction-end.new.instructions c.enter_access-end.new.accesses))
     (sym c.note_outcome.ensures)
     (record {
       regs = left.regs ∙ ap (λ (s : Stepped). s.regs) same ∙ sym (ap (λ (x : Trace). x.regs) next);
-      memory = left.memory ∙ ap (λ (s : Stepped). s.memory) same ∙ sym (ap (λ (x : Trace). x.memory) next);
+      memory = c.entry_of-entry.ensures.memory ∙ left.memory ∙ ap (λ (s : Stepped). s.memory) same ∙ sym (ap (λ (x : Trace). x.memory) next);
       outcome = ap stopping left.outcome ∙ ap (λ (s : Stepped). stopping s.outcome) same ∙ sym (ap (λ (x : Trace). x.outcome) next);
       reached =
           ap (λ o. is_none (stopping o) && is_stop q.stops.now after.regs.pc) left.outcome
@@ -40,11 +51,14 @@ returns-clause-traced g c = λ r0 m0 old h.
           ∙ ap (λ (s : Stepped). is_none (stopping s.outcome) && is_stop q.stops.now s.regs.pc) same
           ∙ sym (ap (λ (x : Trace). x.reached) next);
       instructions =
-          subst (λ l. Holds l old c.enter_instruction-end.new.instructions c.enter_instruction-end.result) items
-          (c.enter_instruction-end.ensures t.instructions old h.instructions);
+          subst (λ l. Holds l old.instructions c.enter_instruction-end.new.instructions c.enter_instruction-end.result) items
+          (c.enter_instruction-end.ensures t.instructions old.instructions h.instructions);
+      accesses =
+          subst (λ l. Holds l old.accesses c.enter_access-end.new.accesses c.enter_access-end.result) made
+          (c.enter_access-end.ensures t.accesses old.accesses h.accesses);
     })
 
 pub returns-clause-tag : goal.returns-clause-tag
 returns-clause-tag g c = λ below.
-    subst (λ (x : Regs). x.rgsr.tag < 16) (sym c.attempt_noting-word.ensures.leaves.regs)
+    subst (λ (x : Regs). x.rgsr.tag < 16) (sym c.attempt-word.ensures.leaves.regs)
     ((step_orderly c.args.regs.now (g.M.Tagged.memory c.args.memory.now)).tag below)

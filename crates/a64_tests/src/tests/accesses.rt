@@ -1,0 +1,59 @@
+//! The accesses of instructions.
+
+use a64_asm::Instr;
+use a64_decode::decode;
+use a64_registers::Regs;
+use std::test::Fail;
+use traced_run::{
+    ACCESS_READ, ACCESS_READ_TAG, ACCESS_WRITE, ACCESS_WRITE_TAG, access_of,
+    steps_without_access_keep_memory,
+};
+
+/// Words over x1 = 0x0200000000001018 and x2 = 3: kind, address and size of each access.
+#[rattlefmt::skip]
+const ACCESSES: &[(u32, u32, u64, u32)] = &[
+    // ldr x0, [x1, #16]
+    (0xF940_0820, ACCESS_READ, 0x0200_0000_0000_1028, 8),
+    // strb w0, [x1], #1
+    (0x3800_1420, ACCESS_WRITE, 0x0200_0000_0000_1018, 1),
+    // ldrsh w0, [x1, x2, lsl #1]
+    (0x78E2_7820, ACCESS_READ, 0x0200_0000_0000_101E, 2),
+    // ldr w0, .+8
+    (0x1800_0040, ACCESS_READ, 0x1_0008, 4),
+    // stp x0, x2, [x1, #-16]!
+    (0xA9BF_0820, ACCESS_WRITE, 0x0200_0000_0000_1008, 16),
+    // ldpsw x0, x2, [x1]
+    (0x6940_0820, ACCESS_READ, 0x0200_0000_0000_1018, 8),
+    // ldg x0, [x1]
+    (0xD960_0020, ACCESS_READ_TAG, 0x0200_0000_0000_1010, 16),
+    // st2g x0, [x1, #16]
+    (0xD9A0_1820, ACCESS_WRITE_TAG, 0x0200_0000_0000_1020, 32),
+    // stgp x0, x2, [x1, #16]
+    (0x6900_8820, ACCESS_WRITE | ACCESS_WRITE_TAG, 0x0200_0000_0000_1028, 16),
+];
+
+/// Registers before each instruction.
+fn registers() -> Regs {
+    let mut regs = Regs::new(0x1_0000, 0x4000);
+    regs.set(1, 0x0200_0000_0000_1018);
+    regs.set(2, 3);
+    regs
+}
+
+#[test]
+fn accesses_of_instructions(rt: HostRuntime) -> Result<(), Fail> {
+    let regs = registers();
+    for (word, kind, addr, size) in ACCESSES {
+        let instr = decode(*word).ok_or("an instruction")?;
+        let access = access_of(&instr, &regs).ok_or("an access")?;
+        assert_eq!(rt;
+            (access.kind, access.addr, access.size),
+            (*kind, *addr, *size),
+            "{word:#x}"
+        );
+    }
+    let none = access_of(&Instr::Svc, &regs);
+    assert!(rt; none.is_none());
+    steps_without_access_keep_memory();
+    Ok(())
+}
