@@ -55,9 +55,9 @@ abbrev pub tagged_pair_access : Target → InstructionAccess
 tagged_pair_access t =
     record { kind = ACCESS_WRITE + ACCESS_WRITE_TAG; addr = t.address; size = 16 }
 
--- The tags of granules, from the first one's address on.
+-- The tags of the granules of some bytes, from the granule of an address on.
 abbrev pub tag_access : ℕ → ℕ → ℕ → InstructionAccess
-tag_access kind count a = record { kind = kind; addr = a - a % 16; size = 16 * count }
+tag_access kind size a = record { kind = kind; addr = a - a % 16; size = size }
 
 -- The access of an instruction, where it makes one.
 unfoldable pub accessed : Instr → Regs → Option InstructionAccess
@@ -79,9 +79,9 @@ accessed (instr.PairOff opc l imm7 rt2 rn rt) r =
 accessed (instr.PairPre opc l imm7 rt2 rn rt) r =
     Some (pair_access opc l (pre_target r (pair_unit opc) imm7 rn))
 accessed (instr.Ldg imm9 rn rt) r =
-    Some (tag_access ACCESS_READ_TAG 1 (offset_address (register_or_sp r rn) 16 imm9))
+    Some (tag_access ACCESS_READ_TAG 16 (offset_address (register_or_sp r rn) 16 imm9))
 accessed (instr.StG opc imm9 mode rn rt) r =
-    Some (tag_access ACCESS_WRITE_TAG (granule_count opc) (tag_target r imm9 mode rn).address)
+    Some (tag_access ACCESS_WRITE_TAG (16 * granule_count opc) (tag_target r imm9 mode rn).address)
 accessed (instr.StGP mode imm7 rt2 rn rt) r =
     Some (tagged_pair_access (tag_target r imm7 mode rn))
 accessed other r = None
@@ -122,7 +122,8 @@ value_there m a =
     else number_there m a.addr a.size ∷ 0 ∷ [])
 
 -- An access of step k as it is entered, where it is asked for, with what a memory has there.
-abbrev pub entered_access : TraceRequest → ℕ → ℕ → Memory → Option InstructionAccess → List TracedAccess
+abbrev pub entered_access :
+    TraceRequest → ℕ → ℕ → Memory → Option InstructionAccess → List TracedAccess
 entered_access q k pc m None = []
 entered_access q k pc m (Some a) =
     if is_wanted q a

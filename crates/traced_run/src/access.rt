@@ -1,6 +1,7 @@
 //! The access to memory that an instruction makes.
 
-ghost use Rattle.std.specs.Prelude.{◌≡◌, ◌<◌, ◌≤◌};
+ghost use Rattle.std.specs.Prelude.{◌≡◌, ◌*◌, ◌≤◌, ◌∷◌, []};
+ghost use Rattle.a64_instr.specs.Fields.{AreRegisters};
 ghost use Rattle.a64_asm.specs.Encoding.{IsAllowed};
 ghost use Rattle.a64_step.specs.LoadStorePair.{pair_unit};
 ghost use Rattle.a64_step.specs.MemoryTagging.{granule_count, tag_target};
@@ -63,16 +64,15 @@ impl InstructionAccess {
         }
     }
 
-    /// Of the tags of granules, from the one of an address on.
+    /// Of the tags of the granules of some bytes, from the one of an address on.
     #[inline(always)]
-    fn tags(kind: u32, count: u32, address: u64) -> InstructionAccess
-        requires { count ≤ 2 }
-        ensures { result ≡ tag_access kind count address }
+    fn tags(kind: u32, size: u32, address: u64) -> InstructionAccess
+        ensures { result ≡ tag_access kind size address }
     {
         InstructionAccess {
             kind,
             addr: address - address % 16,
-            size: 16 * count,
+            size,
         }
     }
 
@@ -107,21 +107,20 @@ fn unit_of(opc: u8) -> u64
     if opc == 2 { 8 } else { 4 }
 }
 
-/// How many granules' tags are stored.
+/// How many bytes the granules have whose tags are stored.
 #[inline(always)]
 #[tactic(auto, unfolding(a64_step::specs::MemoryTagging::granule_count))]
-fn granules_of(opc: u8) -> u32
-    ensures value { result ≡ granule_count opc }
-    ensures most { result ≤ 2 }
+fn tagged_bytes(opc: u8) -> u32
+    ensures { result ≡ 16 * granule_count opc }
 {
-    if opc == 2 || opc == 3 { 2 } else { 1 }
+    if opc == 2 || opc == 3 { 32 } else { 16 }
 }
 
 /// The target of a store of tags.
 #[inline(always)]
 #[tactic(auto, unfolding(a64_step::specs::MemoryTagging::tag_target))]
 fn target_of(regs: &Regs, offset: i64, mode: u8, rn: u8) -> Target
-    requires { rn < 32 }
+    requires { AreRegisters (rn ∷ []) }
     ensures { result ≡ tag_target regs.now offset mode rn }
 {
     match mode {
@@ -149,8 +148,8 @@ pub fn access_of(instr: &Instr, regs: &Regs) -> Option<InstructionAccess>
         Instr::PairPost { opc, l, imm7, rn, .. } => InstructionAccess::pair(opc, l, Target::post(regs, unit_of(opc), i64::from(imm7), rn)),
         Instr::PairOff { opc, l, imm7, rn, .. } => InstructionAccess::pair(opc, l, Target::offset(regs, unit_of(opc), i64::from(imm7), rn)),
         Instr::PairPre { opc, l, imm7, rn, .. } => InstructionAccess::pair(opc, l, Target::pre(regs, unit_of(opc), i64::from(imm7), rn)),
-        Instr::Ldg { imm9, rn, .. } => InstructionAccess::tags(ACCESS_READ_TAG, 1, moved_by(regs.get_or_sp(rn), 16, i64::from(imm9))),
-        Instr::StG { opc, imm9, mode, rn, .. } => InstructionAccess::tags(ACCESS_WRITE_TAG, granules_of(opc), target_of(regs, i64::from(imm9), mode, rn).address),
+        Instr::Ldg { imm9, rn, .. } => InstructionAccess::tags(ACCESS_READ_TAG, 16, moved_by(regs.get_or_sp(rn), 16, i64::from(imm9))),
+        Instr::StG { opc, imm9, mode, rn, .. } => InstructionAccess::tags(ACCESS_WRITE_TAG, tagged_bytes(opc), target_of(regs, i64::from(imm9), mode, rn).address),
         Instr::StGP { mode, imm7, rn, .. } => InstructionAccess::tagged_pair(target_of(regs, i64::from(imm7), mode, rn)),
         _ => return None,
     })
