@@ -190,11 +190,45 @@ fn target_of(regs: &Regs, offset: i64, mode: u8, rn: u8) -> Target
     }
 }
 
-/// The access that an instruction makes where it completes, by the registers before it.
-#[rattlefmt::skip]
+/// The access that an instruction makes where it completes, by the registers before it. Most of
+/// them are of one form, which is told from the others without a jump by a table.
 #[inline(always)]
 #[tactic(auto, unfolding(crate::specs::InstructionAccesses::accessed))]
 pub fn access_of(instr: &Instr, regs: &Regs) -> Option<InstructionAccess>
+    requires { IsAllowed instr.now }
+    ensures { result ≡ accessed instr.now regs.now }
+{
+    match *instr {
+        Instr::LdStImm {
+            size,
+            opc,
+            imm12,
+            rn,
+            rt,
+        } => {
+            let target = Target::scaled(regs, size, imm12, rn);
+            Some(InstructionAccess::single(regs, size, opc, rt, target))
+        }
+        Instr::LdStUnscaled { .. }
+        | Instr::LdStPost { .. }
+        | Instr::LdStPre { .. }
+        | Instr::LdStReg { .. }
+        | Instr::LdLit { .. }
+        | Instr::PairPost { .. }
+        | Instr::PairOff { .. }
+        | Instr::PairPre { .. }
+        | Instr::Ldg { .. }
+        | Instr::StG { .. }
+        | Instr::StGP { .. } => access_by_form(instr, regs),
+        _ => None,
+    }
+}
+
+/// The access of each form that makes one.
+#[rattlefmt::skip]
+#[inline(never)]
+#[tactic(auto, unfolding(crate::specs::InstructionAccesses::accessed))]
+fn access_by_form(instr: &Instr, regs: &Regs) -> Option<InstructionAccess>
     requires { IsAllowed instr.now }
     ensures { result ≡ accessed instr.now regs.now }
 {
