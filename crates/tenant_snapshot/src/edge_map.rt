@@ -1,7 +1,7 @@
 //! Counts of the branches that a run takes, in memory that a fuzzer lends.
 
 ghost use Rattle.std.specs.Prelude.{◌≡◌, length, is_some};
-ghost use Rattle.tenant_snapshot.specs.Maps.{is_map_length};
+ghost use Rattle.tenant_snapshot.specs.Maps.{is_map_length, edge_hash, count_after, counts_after};
 
 use a64_run::Edges;
 
@@ -19,35 +19,60 @@ pub struct EdgeMap<'a> {
 }
 
 impl<'a> EdgeMap<'a> {
-    /// A map over lent counts, whose number is a power of two from MAP_MIN to MAP_MAX; `None` over
-    /// any other.
+    /// Whether a map may have so many counts: a power of two from MAP_MIN to MAP_MAX.
+    pub fn fits(counts: usize) -> bool
+        ensures { result ≡ is_map_length counts }
+    {
+        counts.is_power_of_two() && counts >= MAP_MIN && counts <= MAP_MAX
+    }
+
+    /// A map over lent counts; `None` where a map may not have so many.
     pub fn new(counts: &'a mut [u8], saturating: bool) -> Option<EdgeMap<'a>>
         ensures { is_some result ≡ is_map_length (length counts.old) }
     {
-        if !counts.len().is_power_of_two() || counts.len() < MAP_MIN || counts.len() > MAP_MAX {
-            return None;
+        if EdgeMap::fits(counts.len()) {
+            Some(EdgeMap { counts, saturating })
+        } else {
+            None
         }
-        Some(EdgeMap { counts, saturating })
     }
 }
 
 /// The hash of an edge below 65,536: both addresses count, and the edge back has another one.
 #[inline(always)]
-fn hash(from: u64, to: u64) -> usize {
+fn hash(from: u64, to: u64) -> usize
+    ensures { result ≡ edge_hash from to }
+{
     let mixed = from.wrapping_mul(0x9E37_79B9_7F4A_7C15).rotate_left(29) ^ to;
     (mixed.wrapping_mul(0x9E37_79B9_7F4A_7C15) >> 48) as usize
+}
+
+/// A count after one more.
+#[inline(always)]
+fn one_more(count: u8, saturating: bool) -> u8
+    ensures { result ≡ count_after saturating count }
+{
+    if saturating {
+        count.saturating_add(1)
+    } else {
+        count.wrapping_add(1)
+    }
+}
+
+/// Counts an edge by its hash: one count goes up by one, and all others stay.
+#[inline(always)]
+fn count(counts: &mut [u8], saturating: bool, hash: usize)
+    ensures { counts.new ≡ counts_after saturating hash counts.old }
+{
+    let place = hash & counts.len().saturating_sub(1);
+    if place < counts.len() {
+        counts[place] = one_more(counts[place], saturating);
+    }
 }
 
 impl<'a> Edges for EdgeMap<'a> {
     #[inline(always)]
     fn taken(&mut self, from: u64, to: u64) {
-        let mask = self.counts.len().saturating_sub(1);
-        if let Some(count) = self.counts.get_mut(hash(from, to) & mask) {
-            *count = if self.saturating {
-                count.saturating_add(1)
-            } else {
-                count.wrapping_add(1)
-            };
-        }
+        count(self.counts, self.saturating, hash(from, to));
     }
 }
