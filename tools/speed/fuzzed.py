@@ -5,8 +5,8 @@
     fuzzed.py [OPTION...] --real NAME
 
 IMAGE yields where its snapshot is to be taken (docs/FUZZING.md); with `--setup 0` it is taken at
-its first instruction. `--real` takes a program of measure.py and the input of its short run, with
-its snapshot there. By callgrind, instructions of the machine for each step of the tenant behind its
+its first instruction. `--real` takes a program of measure.py and the input of its short run, or one
+round of `--bytes N`, with its snapshot there. By callgrind, instructions of the machine for each step of the tenant behind its
 snapshot: a run alone by each `--host` (a built mte_host) and by the library (tb_alone), and runs
 from the snapshot (tb_fuzz_run), with their edges counted and with what restores the machine. They
 are counted when the table of instructions, which stays from run to run, is full-grown.
@@ -17,10 +17,12 @@ are counted when the table of instructions, which stays from run to run, is full
     --pages N        the reservation (256; of --real 2000)
     --time R N       times R rounds of N runs in place of counting: nanoseconds of processor time
     --work FOLDER    keeps the sources of --real there
+    --bytes N        the size of the input of --real
 
 Needed (Debian): clang, valgrind, and what measure.py says for --real.
 """
 import argparse
+import os
 import pathlib
 import re
 import subprocess
@@ -57,11 +59,13 @@ class Run:
         self.setup, self.pages, self.work = options.setup, options.pages, work
         self.fuzz = build(options.library, work, "fuzz_runs", FUZZ / "kept_tenant.c")
         self.alone = build(options.library, work, "alone_run")
+        # Variables and no command `env`, which callgrind would count in its child's place.
+        os.environ.update(TENANT=str(self.image), SETUP=str(self.setup), PAGES=str(self.pages),
+                          STEPS=str(STEPS))
 
     def fuzzed(self, rounds: int, runs: int) -> Command:
         """The command of runs from the snapshot."""
-        return ["env", f"TENANT={self.image}", f"SETUP={self.setup}", f"PAGES={self.pages}",
-                f"STEPS={STEPS}", self.fuzz, self.data, str(rounds), str(runs)]
+        return [self.fuzz, self.data, str(rounds), str(runs)]
 
     def plain(self, steps: int) -> Command:
         """The command of a run alone, by the library."""
@@ -100,12 +104,12 @@ def counts(run: Run, hosts: list[str]) -> None:
     plain = {host: instructions(run.session(host, True)) - instructions(run.session(host, False))
              for host in hosts}
     plain["the library"] = instructions(run.plain(STEPS)) - instructions(run.plain(0))
+    print(f"{steps} steps, {whole - steps} before them")
+    for who, count in plain.items():
+        print(f"  alone, {who}: {count / steps:.2f} instructions a step", flush=True)
     before, more = -(-GROWN // steps), max(1, GROWN // steps)
     few, many = (instructions(run.fuzzed(1, it)) for it in (before, before + more))
     each = (many - few) / more
-    print(f"{steps} steps, {whole - steps} before them")
-    for who, count in plain.items():
-        print(f"  alone, {who}: {count / steps:.2f} instructions a step")
     print(f"  with edges and restores: {each / steps:.2f} instructions a step")
     for who, count in plain.items():
         print(f"    {each / count:.3f} times that of {who}")
@@ -118,8 +122,9 @@ def real(options: argparse.Namespace, work: pathlib.Path) -> None:
         leave("there is no source")
     builder = real_programs.Builder("clang", None, sources, work)
     options.image = builder.tenant(options.real)
-    options.input = real_programs.make_input(work, options.real,
-                                             real_programs.PROGRAMS[options.real].short)
+    run = real_programs.PROGRAMS[options.real].short if options.bytes is None else (
+        1, options.bytes)
+    options.input = real_programs.make_input(work, options.real, run)
     options.setup, options.pages = 0, real_programs.PAGES
 
 
@@ -129,6 +134,7 @@ def main() -> None:
     parser.add_argument("image", nargs="?", type=pathlib.Path)
     parser.add_argument("input", nargs="?", type=pathlib.Path)
     parser.add_argument("--real", choices=sorted(set(real_programs.PROGRAMS) - {"lua"}))
+    parser.add_argument("--bytes", type=int)
     parser.add_argument("--library", type=pathlib.Path, default=LIBRARY)
     parser.add_argument("--host", action="append", default=[])
     parser.add_argument("--setup", type=int, default=1000000)
