@@ -61,20 +61,30 @@ def test_an_input_without_a_crash(
     assert ran.status == 1 and "no crash (status 0)" in ran.errors
 
 
+# By the bug: what GDB watches behind the fault, what it prints of it, and who freed the chunk.
+WATCHED = {
+    "use after free": ("*(char *)$_siginfo._sifields._sigfault.si_addr", "SIGSEGV",
+                       "New value = 65 'A'", "forget_name"),
+    "double free": ("*(long *)(($x0 & 0xffffffffffffff) - 16)", "SIGABRT", "New value = ",
+                    lines_of("cards.c", STACKS["double free"][2])[0]),
+}
+
+
+@pytest.mark.parametrize("bug", sorted(WATCHED))
 def test_back_to_the_free(
-    shared: pathlib.Path, alone: pathlib.Path, tmp_path: pathlib.Path
+    shared: pathlib.Path, alone: pathlib.Path, tmp_path: pathlib.Path, bug: str
 ) -> None:
     """The page's commands in GDB: from the fault backwards to the free of the chunk."""
     image, crash = fuzzers.cards(shared), tmp_path / "small"
-    crash.write_bytes(PLANTED["use after free"][0])
-    words = ["-iex", f"directory {FUZZ}", "-iex", f"file {image}",
+    watched, signal, value, freed = WATCHED[bug]
+    crash.write_bytes(PLANTED[bug][0])
+    words = ["-iex", f"file {image}",
              "-ex", target(alone, ["--input", "small", str(image)], "extended-remote")]
-    dialog = asked(words, ["continue", "watch -l *(char *)bytes", "reverse-continue", "backtrace"],
+    dialog = asked(words, ["continue", f"watch -l {watched}", "reverse-continue", "backtrace"],
                    tmp_path)
-    assert "Cause: [MTE]: Use After Free" in dialog[0] and "SIGSEGV" in dialog[0]
-    assert "Hardware watchpoint" in dialog[1]
-    assert "Old value = 0" in dialog[2] and "New value = 65 'A'" in dialog[2]
-    assert "tenant_free" in dialog[3] and "forget_name" in dialog[3]
+    assert f"Cause: {'[MTE]: ' * (signal == 'SIGSEGV')}{PLANTED[bug][1]}" in dialog[0]
+    assert signal in dialog[0] and value in dialog[2]
+    assert "tenant_free (chunk=" in dialog[3] and freed in dialog[3]
 
 
 # A crash with fields that have no part in it.
