@@ -8,7 +8,8 @@ FOLDER is one that build.py has filled, TENANT the name of a tenant in it. The f
 seconds (60), or until crashes of N kinds are found; SEED is the seed of its own random numbers.
 FOLDER/TENANT.FUZZER has what it keeps. It prints its executions, by the second and by the second of
 its processor time, what it counts of edges, and of each kind of crash the first input, when it was
-found and by mte_run where: a kind is a cause, and the innermost source line of the tenant.
+found and by mte_run where: a kind is a cause, and the innermost source lines of the tenant where it
+ended and where the chunk was freed.
 """
 import argparse
 import os
@@ -21,7 +22,8 @@ import sys
 import time
 from collections.abc import Iterator
 
-HERE = pathlib.Path(__file__).resolve().parent
+import replay
+
 # What the C library of tenants is made of, and the calls of services: no place of a bug.
 NO_PLACE = re.compile(r"(tenant\.h|heap\.c|services\.c|ends\.c):")
 LONGEST = 4096
@@ -64,13 +66,14 @@ class Campaign:
 
     def kind(self, crash: pathlib.Path) -> str:
         """What mte_run says of a crash."""
-        ran = subprocess.run([self.program, "--input", crash, self.image], stdin=subprocess.DEVNULL,
-                             stdout=subprocess.DEVNULL, stderr=subprocess.PIPE, check=False)
-        said = ran.stderr.decode(errors="replace")
+        _, said = replay.told([self.program, "--input", str(crash), str(self.image)])
         cause = re.search(r"^Cause: ([^,\n]*?)(,| of a| into a|$)", said, re.M)
-        lines = [it for it in re.findall(r"^ +#\d+ .* at (\S+:\d+)", said, re.M)
-                 if not NO_PLACE.match(it)]
-        return f"{cause[1] if cause else 'no crash by mte_run'} at {lines[0] if lines else '?'}"
+        if not cause:
+            return "no crash by mte_run"
+        stacks = {name: [it for it in its if not NO_PLACE.match(it)] or ["?"]
+                  for name, its in replay.places(said).items()}
+        freed = f", freed at {stacks['freed'][0]}" if "freed" in stacks else ""
+        return f"{cause[1]} at {stacks['access'][0]}{freed}"
 
 
 def number(pattern: str, text: str) -> float:

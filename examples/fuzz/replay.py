@@ -16,7 +16,8 @@ import sys
 
 # The exit statuses by which mte_run tells of a crash are those of signals.
 SIGNAL = 128
-LINE = re.compile(r"#\d+ .* at (\S+:\d+)")
+STACK = re.compile(r"\s+(allocated|freed) by call")
+LINE = re.compile(r"\s+#\d+ .* at (\S+:\d+)")
 STACKS = {"allocated": "made", "freed": "freed"}
 
 
@@ -31,18 +32,15 @@ def places(report: str) -> dict[str, list[str]]:
     """The source lines of each stack of a report, the innermost first."""
     found: dict[str, list[str]] = {"access": []}
     stack = "access"
-    for line in report.splitlines():
-        begun = re.match(r"\s+(allocated|freed) by call", line)
-        place = LINE.match(line.strip())
+    for line in report.splitlines()[1:]:
+        begun, place = STACK.match(line), LINE.match(line)
         if begun:
             stack = STACKS[begun[1]]
-            found[stack] = []
+            found.setdefault(stack, [])
         elif place and stack:
             found[stack].append(place[1])
-        elif found[stack]:
+        elif not re.match(r"\s+#", line):
             stack = ""
-            found.setdefault("", [])
-    found.pop("", None)
     return found
 
 
