@@ -1,4 +1,12 @@
-/* A tenant that writes a byte to each of so many pages as the byte of its input says. */
+/*
+ * A tenant that writes a byte to each of so many pages as the byte of its input says: what a
+ * restore takes.
+ *
+ *     clang --target=aarch64-linux-gnu -fuse-ld=lld -ffreestanding -nostdlib -static
+ *         -mgeneral-regs-only -O2 -o written.elf examples/c/start.c tools/speed/written_pages.c
+ *     printf '\100' >64
+ *     tools/speed/fuzzed.py --pages 512 --time 9 3000 written.elf 64
+ */
 #include "../../examples/c/tenant.h"
 
 enum { PAGES = 255, PAGE = 4096 };
