@@ -44,6 +44,7 @@ BUILDS = {f"{name}{level}": (name, level)
 PLAIN, WAYS = "", ("--check", "--check=all,places")
 TORTURE, STEPS, SECONDS = 500, "100000000", 1200
 NOTHING = "nothing"
+KEY = ("kind", "program", "build")
 TITLES = {"torture": "gcc's torture tests", "packages": "packages"}
 # What mte_run says of a run in which nothing is wrong.
 NOTES = re.compile(r"mte_run: (?:exited with \d+|no tag differed; .*)")
@@ -265,52 +266,67 @@ def wrong(finding: Finding) -> list[str]:
     return [f"{way}: {result}" for way, result in finding.results.items() if result != NOTHING]
 
 
-def tried(work: list[Work], jobs: int) -> list[Finding]:
-    """What came of all; what is wrong is written as it comes."""
-    found = []
+def tried(work: list[Work], jobs: int) -> Iterator[Finding]:
+    """What came of all, as it comes; what is wrong is written."""
     with concurrent.futures.ThreadPoolExecutor(jobs) as pool:
         for done in concurrent.futures.as_completed([pool.submit(each) for each in work]):
             finding = done.result()
-            found.append(finding)
             for line in wrong(finding):
                 print(f"{finding.program}, {finding.build}: {line}", flush=True)
-    return found
+            yield finding
 
 
-def keep(path: pathlib.Path, found: list[Finding]) -> None:
-    """Keeps what was found, beside what earlier calls found of other programs."""
+def keep(path: pathlib.Path, finding: Finding) -> Finding:
+    """Keeps a finding beside those of other builds."""
     kept = json.loads(path.read_text(encoding="utf-8")) if path.exists() else []
-    known = {(each["kind"], each["program"], each["build"]): each for each in kept}
-    known |= {(each.kind, each.program, each.build): vars(each) for each in found}
-    path.write_text(json.dumps(list(known.values()), indent=1), encoding="utf-8")
+    own = vars(finding)
+    others = [each for each in kept if any(each[it] != own[it] for it in KEY)]
+    path.write_text(json.dumps([*others, own], indent=1), encoding="utf-8")
+    return finding
 
 
-def cells(rows: list[dict[str, Any]], kind: str) -> list[str]:
-    """How many builds of programs count, of how many something is told by each way, and how many of
-    these programs have a fault of their own."""
+def ways_that_tell(row: dict[str, Any]) -> list[str]:
+    """The ways by which something is told of a build, or by which a run of it differs."""
+    return [way for way, result in row["results"].items() if result != NOTHING]
+
+
+def cells(rows: list[dict[str, Any]]) -> list[str]:
+    """How many builds of programs count, and of how many something is told by each way, and of how
+    many that is no fault of the program."""
     counted = [each for each in rows if each["results"]]
-    told = [{each["program"] for each in counted if each["results"][way] != NOTHING}
-            for way in WAYS]
-    own = set().union(*told) & set(faults().get(kind, {}))
-    return [str(len(it)) for it in (counted, *told, own)]
+    told = [sum(way in ways_that_tell(each) for each in counted) for way in WAYS]
+    false = sum(bool(wrong(Finding(**each))) for each in counted)
+    return [str(it) for it in (len(counted), *told, false)]
 
 
-def table(kept: list[dict[str, Any]]) -> str:
-    """What the page has of all programs."""
-    heads = ["Programs", "Build", "Run", *(f"`{way}` tells" for way in WAYS), "Faults of theirs"]
+def counts_of(kept: list[dict[str, Any]]) -> str:
+    """The table of all programs by their builds."""
+    heads = ["Programs", "Build", "Run", *(f"`{way}` tells of" for way in WAYS), "False"]
     lines = [heads, ["---"] * len(heads)]
     for kind, name in itertools.product(TITLES, BUILDS):
         rows = [each for each in kept if (each["kind"], each["build"]) == (kind, name)]
-        if rows:
-            lines.append([TITLES[kind], name, *cells(rows, kind)])
+        if any(each["results"] for each in rows):
+            lines.append([TITLES[kind], name, *cells(rows)])
     return "".join(f"| {' | '.join(row)} |\n" for row in lines)
+
+
+def faults_of(kept: list[dict[str, Any]]) -> str:
+    """The table of what is told and is a fault of the program."""
+    lines = ["| Program | Told in | What is wrong |", "|---|---|---|"]
+    told = {(each["kind"], each["program"], each["build"]) for each in kept if ways_that_tell(each)}
+    reasons = [(kind, *each) for kind, known in faults().items() for each in known.items()]
+    for kind, program, reason in reasons:
+        builds = ", ".join(name for name in BUILDS if (kind, program, name) in told)
+        lines += [f"| {program} | {builds} | {reason} |"] * bool(builds)
+    return "\n".join(lines) + "\n"
 
 
 def write_page(kept: list[dict[str, Any]]) -> None:
     """Writes the part of the page between its marks."""
     before, rest = PAGE.read_text(encoding="utf-8").split(BEGIN)
     behind = rest.split(END, 1)[1]
-    PAGE.write_text(f"{before}{BEGIN}\n{table(kept)}\n{END}{behind}", encoding="utf-8")
+    made = f"{counts_of(kept)}\n{faults_of(kept)}"
+    PAGE.write_text(f"{before}{BEGIN}\n{made}\n{END}{behind}", encoding="utf-8")
 
 
 def arguments() -> argparse.Namespace:
@@ -333,8 +349,7 @@ def main() -> int:
         write_page(json.loads(path.read_text(encoding="utf-8")))
         return 0
     work = torture_work if options.kind == "torture" else package_work
-    found = tried(list(work(options, place)), options.jobs)
-    keep(path, found)
+    found = [keep(path, it) for it in tried(list(work(options, place)), options.jobs)]
     counted = [each for each in found if each.results]
     is_wrong = any(map(wrong, counted))
     print(f"{len(counted)} builds run, {len(found) - len(counted)} left out")
