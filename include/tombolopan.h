@@ -375,7 +375,7 @@ typedef struct tb_traced_access {
     uint64_t step;     /* how many steps of the call were before its instruction */
     uint64_t pc;       /* the address of its instruction */
     uint64_t addr;     /* the address that was used, its tag in bits 59 to 56 */
-    uint64_t value[2]; /* what is there then: the bytes, the lowest first; of tags alone the tag */
+    uint64_t value[2]; /* the bytes, the lowest first; where tags alone are accessed, the tag */
     uint32_t size;     /* how many bytes: 1 to 16; of the tags of one granule 16, of two 32 */
     uint32_t kind;     /* a sum of tb_access_kind */
 } tb_traced_access;

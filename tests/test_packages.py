@@ -13,11 +13,13 @@ from tests.support.running import Ran, Word, run
 from tests.support.tools import give_up, need
 
 sys.path.insert(0, str(EXAMPLES / "packages"))
+import checked  # noqa: E402
 import compilers  # noqa: E402
 import packages  # noqa: E402
 import suites  # noqa: E402
 
 PAGE = (ROOT / "docs" / "PACKAGES.md").read_text(encoding="utf-8")
+CHECKED = (ROOT / "docs" / "CHECKING.md").read_text(encoding="utf-8")
 # Suites of their own by makefiles and by ctest, that take seconds.
 SUITES = ("libyaml", "zlib")
 # A library with its tests, a language, a tool with files, one that writes files, and C++.
@@ -60,6 +62,14 @@ def test_programs_that_test_compilers(
     ran = run([sys.executable, script, kind, f"--count={count}", *place], seconds=900)
     ran_as_said(ran, r"(?:.*: refused: .*\n)*.*\d+ the same.*\n")
     assert "different" not in ran.output
+
+
+def test_nothing_is_told_of_programs_that_test_compilers(place: list[str]) -> None:
+    """`--check` tells nothing of a sample, in four builds, and no run of it differs."""
+    need("gcc", "aarch64-linux-gnu-gcc", "tar")
+    script = EXAMPLES / "packages" / "checked.py"
+    ran = run([sys.executable, script, "torture", "--every=50", *place], seconds=900)
+    ran_as_said(ran, r"[1-9]\d+ builds run, \d+ left out\n")
 
 
 @pytest.mark.parametrize("name", SUITES)

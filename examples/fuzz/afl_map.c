@@ -3,7 +3,9 @@
 
 extern unsigned char *__afl_area_ptr;
 
-enum { COUNTS = 4096 };
+#ifndef COUNTS
+#define COUNTS 4096
+#endif
 
 int run_in_map(const uint8_t *input, size_t length);
 

@@ -2,9 +2,11 @@
 """Builds tenants to be fuzzed, and the fuzzers.
 
     build.py FOLDER [--library LIBRARY.a] [--tenant cards|expat|lua]... [--fuzzer libfuzzer|afl]...
+             [--counts N]
 
 FOLDER gets NAME.elf of each tenant, the programs libfuzzer and afl, and for each tenant a corpus
 and a dictionary. Without --tenant it is cards, without --fuzzer each one whose compiler is there.
+N (4096) is how many counts of edges they have, a power of two up to 65536.
 LIBRARY is crates/tombolopan_c/out/libtombolopan_c.a, which tools/build.sh makes. expat and lua are
 built from Debian's sources by ../libc/tenant-cc. Needed (Debian): clang, lld, libclang-rt-14-dev,
 afl++; for expat and lua llvm, apt and the network too.
@@ -82,18 +84,18 @@ def lua(folder: pathlib.Path) -> None:
 TENANTS = {"cards": cards, "expat": expat, "lua": lua}
 
 
-def libfuzzer(folder: pathlib.Path, linked: Words) -> None:
+def libfuzzer(folder: pathlib.Path, flags: Words, linked: Words) -> None:
     """The tenant's edges are the extra counters of libFuzzer."""
-    run(["clang", "-O2", "-g", "-fsanitize=fuzzer", f"-I{ROOT}/include", "-o", folder / "libfuzzer",
+    run(["clang", "-O2", "-g", "-fsanitize=fuzzer", *flags, "-o", folder / "libfuzzer",
          HERE / "libfuzzer.c", HERE / "kept_tenant.c", *linked])
 
 
-def afl(folder: pathlib.Path, linked: Words) -> None:
+def afl(folder: pathlib.Path, flags: Words, linked: Words) -> None:
     """The tenant's edges are AFL++'s map: only its own loop is instrumented."""
     plain = []
     for name in ("afl_map", "kept_tenant"):
         plain.append(folder / f"{name}.o")
-        run(["clang", "-O2", f"-I{ROOT}/include", "-c", "-o", plain[-1], HERE / f"{name}.c"])
+        run(["clang", "-O2", *flags, "-c", "-o", plain[-1], HERE / f"{name}.c"])
     run(["env", "AFL_QUIET=1", "AFL_LLVM_INSTRUMENT=CLASSIC", "afl-clang-fast", "-O2", "-o",
          folder / "afl", HERE / "afl.c", *plain, *linked])
 
@@ -114,6 +116,7 @@ def main() -> None:
     parser.add_argument("--library", type=pathlib.Path, default=LIBRARY)
     parser.add_argument("--tenant", action="append", choices=TENANTS)
     parser.add_argument("--fuzzer", action="append", choices=FUZZERS)
+    parser.add_argument("--counts", type=int, default=4096)
     wanted = parser.parse_args()
     if not wanted.library.is_file():
         leave(f"{wanted.library} is not there: tools/build.sh [--unproved] --only "
@@ -124,9 +127,9 @@ def main() -> None:
         TENANTS[name](folder)
         shutil.copytree(HERE / "corpus" / name, folder / f"{name}.corpus", dirs_exist_ok=True)
         shutil.copyfile(HERE / f"{name}.dict", folder / f"{name}.dict")
-    linked = [wanted.library, heap()]
+    flags, linked = [f"-I{ROOT}/include", f"-DCOUNTS={wanted.counts}"], [wanted.library, heap()]
     for name in wanted.fuzzer or [it for it, (_, tool) in FUZZERS.items() if shutil.which(tool)]:
-        FUZZERS[name][0](folder, linked)
+        FUZZERS[name][0](folder, flags, linked)
 
 
 if __name__ == "__main__":

@@ -5,6 +5,8 @@
 #include <tombolopan.h>
 
 static tb_fuzz tenant;
+static tb_alone_end end;
+static uint64_t setup_steps;
 static uint32_t steps;
 
 static _Noreturn void give_up(const char *what, const char *why)
@@ -39,7 +41,6 @@ void tenant_load(void)
     const char *name = getenv("TENANT");
     uint32_t setup = (uint32_t)number("SETUP", 10, 10000000);
     size_t length;
-    tb_alone_end end;
     if (!name)
         give_up("TENANT", "names the image");
     uint8_t *image = read_file(name, &length);
@@ -49,8 +50,9 @@ void tenant_load(void)
         give_up(name, end.code == TB_REFUSED ? tb_refusal_name(end.refusal) : tb_text(end.code));
     if (end.status.status != TB_STATUS_RUNNING)
         give_up(name, "ends in its setup");
-    if (end.steps == setup)
+    if (setup && end.steps == setup)
         give_up(name, "does not yield in its setup (SETUP)");
+    setup_steps = end.steps;
     steps = (uint32_t)number("STEPS", 10, 1000000);
     free(image);
 }
@@ -59,9 +61,13 @@ int tenant_run(const uint8_t *input, size_t length, uint8_t *map, size_t map_len
                int saturating)
 {
     static const uint8_t no_input[1];
-    tb_alone_end end;
     tb_fuzz_input run = {length ? input : no_input, length, &steps, 1, (uint32_t)saturating, 0};
     if (tb_fuzz_run(&tenant, &run, map, map_length, &end) != TB_OK)
         give_up("tb_fuzz_run", tb_text(end.code));
     return end.status.status >= TB_STATUS_FAULT;
+}
+
+uint64_t tenant_steps(void)
+{
+    return end.steps - setup_steps;
 }

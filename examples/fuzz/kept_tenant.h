@@ -7,7 +7,8 @@
 
 /*
  * Loads the image that the variable TENANT names, and lets it set itself up: it runs until it
- * yields, or for SETUP steps (10,000,000). Else the process ends, and standard error says why.
+ * yields, within SETUP steps (10,000,000). Else the process ends, and standard error says why. By
+ * SETUP=0 it has no setup: each run begins at its first instruction.
  *
  *     SEED     the seed of its tags and its heap, in hexadecimal (1)
  *     PAGES    its reservation (256)
@@ -21,5 +22,8 @@ void tenant_load(void);
  */
 int tenant_run(const uint8_t *input, size_t length, uint8_t *map, size_t map_length,
                int saturating);
+
+/* How many instructions the last run attempted. */
+uint64_t tenant_steps(void);
 
 #endif

@@ -3,7 +3,11 @@
 
 #include "kept_tenant.h"
 
-__attribute__((section("__libfuzzer_extra_counters"))) static uint8_t counts[4096];
+#ifndef COUNTS
+#define COUNTS 4096
+#endif
+
+__attribute__((section("__libfuzzer_extra_counters"))) static uint8_t counts[COUNTS];
 
 int LLVMFuzzerInitialize(int *argc, char ***argv)
 {

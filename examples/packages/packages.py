@@ -13,8 +13,8 @@ is another one after the build is named, and the package doesn't count then.
 A line says what came of each; FOLDER (out, beside this script) keeps sources, copies and results.
 `--write` writes what came of all into docs/PACKAGES.md. The exit status is 1 where a package does
 something else than packages.toml says. In its lines are CC, CXX, CFLAGS, AR, RANLIB, CONFIGURE
-(./configure, with --host for tenants), CMAKE, SOURCES (the folder of all sources) and RUN, by which
-programs run.
+(./configure, with --host for tenants), CMAKE, SOURCES (the folder of all sources), PROGRAMS (that
+of the programs beside this script) and RUN, by which programs run.
 Needed: what build.py --c++ makes, mte_run, and Debian's clang, llvm, lld, g++, make, cmake; for
 some packages autoconf, automake, libtool, bison, perl, tcl, python3-six and unicode-data too.
 """
@@ -108,7 +108,7 @@ def native_words(place: Place) -> dict[str, str]:
     standard error is where a tenant has it."""
     return {"CC": "clang", "CXX": "clang++", "AR": "ar", "RANLIB": "ranlib",
             "CONFIGURE": "./configure", "CMAKE": CMAKE, "RUN": "env HOME=/tmp stdbuf -oL",
-            "SOURCES": str(place.out / "sources")}
+            "SOURCES": str(place.out / "sources"), "PROGRAMS": str(HERE / "programs")}
 
 
 def tenant_words(package: Package, place: Place) -> dict[str, str]:
@@ -119,7 +119,7 @@ def tenant_words(package: Package, place: Place) -> dict[str, str]:
     return {
         "CC": str(LIBC / "tenant-cc"), "CXX": str(LIBC / "tenant-c++"), "AR": "llvm-ar",
         "RANLIB": "llvm-ranlib", "RUN": shlex.join(run), "TENANT_LIBRARY": str(place.library),
-        "SOURCES": str(place.out / "sources"),
+        "SOURCES": str(place.out / "sources"), "PROGRAMS": str(HERE / "programs"),
         "CONFIGURE": "./configure --host=aarch64-linux-gnu",
         "CMAKE": f"{CMAKE} -DCMAKE_SYSTEM_NAME=Linux -DCMAKE_SYSTEM_PROCESSOR=aarch64",
     }

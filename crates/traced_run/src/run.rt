@@ -1,13 +1,14 @@
 //! The run.
 
 ghost use Rattle.std.specs.Prelude.{◌≡◌, ◌≤◌, ◌<◌, ◌+◌, ◌++◌, List, length, false};
-ghost use Rattle.std.specs.Prelude.{IsFalse, IsTrue, is_none, ◌&&◌, true, None, [], if◌then◌else◌};
+ghost use Rattle.std.specs.Prelude.{IsFalse, IsTrue, is_none, ◌&&◌, true, None};
 ghost use Rattle.std.specs.Result.{result_ok};
 ghost use Rattle.a64_registers.specs.declared.registers.Regs.{Regs};
 ghost use Rattle.mte_tags.specs.Memory.{Memory};
 ghost use Rattle.mte_tags.specs.Accesses.{fetch_result};
 ghost use Rattle.a64_step.specs.Results.{Leaves};
-ghost use Rattle.a64_step.specs.Steps.{is_next, step_of};
+ghost use Rattle.a64_step.specs.Steps.{step_of};
+ghost use Rattle.traced_run.specs.InstructionAccesses;
 ghost use Rattle.traced_run.specs.InstructionAccesses.{entered_access, next_access};
 ghost use Rattle.traced_run.specs.Traces.{stopping, is_stop, fetched, MayGoOn, Holds, IsTraced};
 ghost use Rattle.traced_run.specs.Traces.{Arrays, arrays, listed, HasNoRoom, IsFull};
@@ -114,26 +115,32 @@ fn enter_instruction(
     count + 1
 }
 
-/// The access of a step as it is entered, where the step completed and the access is asked for.
+/// The access of a step where it was completed.
+#[inline(always)]
+fn completed(outcome: Outcome, access: Option<InstructionAccess>) -> Option<InstructionAccess>
+    ensures { result ≡ InstructionAccesses.completed outcome access }
+{
+    match outcome {
+        Outcome::Next => access,
+        _ => None,
+    }
+}
+
+/// A completed access as it is entered, where it is asked for.
 #[inline(always)]
 fn entry_of<M: Tagged>(
     request: &TraceRequest<'_>,
+    regs: &Regs,
     memory: &mut M,
     step: u64,
     pc: u64,
-    outcome: Outcome,
     access: Option<InstructionAccess>,
 ) -> Option<TracedAccess>
     ensures entry { listed result
-        ≡ (if is_next outcome
-        then entered_access request.now step pc (M.memory memory.old) access
-        else []) }
+        ≡ entered_access request.now step pc regs.now (M.memory memory.old) access }
     ensures memory { M.memory memory.new ≡ M.memory memory.old }
     ensures kept { M.kept memory.old memory.new }
 {
-    let Outcome::Next = outcome else {
-        return None;
-    };
     let access = access?;
     if !request.has_access(&access) {
         return None;
@@ -142,7 +149,7 @@ fn entry_of<M: Tagged>(
         step,
         pc,
         addr: access.addr,
-        value: access.value(memory),
+        value: access.value(regs, memory),
         size: access.size,
         kind: access.kind,
     })
@@ -220,7 +227,8 @@ fn advance<M: Tagged>(
     let mut outcome = Outcome::Next;
     let mut access = None;
     let word = attempt(decoder, regs, memory, &mut outcome, &mut access);
-    let entry = entry_of(request, memory, step, pc, outcome, access);
+    let made = completed(outcome, access);
+    let entry = entry_of(request, regs, memory, step, pc, made);
     let end = &mut progress.end;
     end.instructions = enter_instruction(request, instructions, end.instructions, step, pc, word);
     end.accesses = enter_access(accesses, end.accesses, entry);

@@ -1,12 +1,14 @@
-//! What a memory has where an access is.
+//! What an access has read or written.
 
 ghost use Rattle.std.specs.Prelude.{◌≡◌};
 ghost use Rattle.mte_tags.specs.Memory.{Memory};
-ghost use Rattle.traced_run.specs.InstructionAccesses.{number_there, size_code, tag_there};
-ghost use Rattle.traced_run.specs.InstructionAccesses.{value_there};
+ghost use Rattle.traced_run.specs.InstructionAccesses;
+ghost use Rattle.traced_run.specs.InstructionAccesses.{loaded_of, number_there, size_code};
+ghost use Rattle.traced_run.specs.InstructionAccesses.{tag_there, value_of};
 
-use crate::access::InstructionAccess;
-use crate::kinds::{ACCESS_READ_TAG, ACCESS_WRITE_TAG};
+use crate::access::{InstructionAccess, both, low_bytes};
+use crate::kinds::{ACCESS_READ, ACCESS_READ_TAG};
+use a64_registers::Regs;
 use a64_step::memory_access::read_unchecked;
 use mte_tags::Tagged;
 
@@ -43,22 +45,52 @@ fn tag_at<M: Tagged>(memory: &mut M, addr: u64) -> u64
     u64::from(memory.load_tag(addr).unwrap_or(0))
 }
 
+/// What a load has put into a register; what memory has where that was the zero register.
+#[inline(always)]
+fn loaded_in<M: Tagged>(regs: &Regs, memory: &mut M, addr: u64, size: u32, rt: u8) -> u64
+    ensures number { result
+        ≡ InstructionAccesses.loaded_in regs.now (M.memory memory.old) addr size rt }
+    ensures memory { M.memory memory.new ≡ M.memory memory.old }
+    ensures kept { M.kept memory.old memory.new }
+{
+    if rt < 31 {
+        low_bytes(u64::from(size), regs.get(rt))
+    } else {
+        number_at(memory, addr, size)
+    }
+}
+
 impl InstructionAccess {
-    /// What a memory has there: the tag where tags alone are accessed, else the bytes.
+    /// What a load of one register or of two has read, by what it left.
     #[inline(always)]
-    #[tactic(auto, unfolding(crate::specs::InstructionAccesses::value_there))]
-    pub(crate) fn value<M: Tagged>(&self, memory: &mut M) -> [u64; 2]
-        ensures value { result ≡ value_there (M.memory memory.old) self.now }
+    fn loaded<M: Tagged>(&self, regs: &Regs, memory: &mut M) -> [u64; 2]
+        ensures value { result
+            ≡ loaded_of regs.now (M.memory memory.old) self.now self.now.second }
         ensures memory { M.memory memory.new ≡ M.memory memory.old }
         ensures kept { M.kept memory.old memory.new }
     {
-        if self.kind == ACCESS_READ_TAG || self.kind == ACCESS_WRITE_TAG {
-            return [tag_at(memory, self.addr), 0];
+        let Some(second) = self.second else {
+            return [loaded_in(regs, memory, self.addr, self.size, self.first), 0];
+        };
+        let unit = self.size / 2;
+        let behind = self.addr.wrapping_add(u64::from(unit));
+        let low = loaded_in(regs, memory, self.addr, unit, self.first);
+        let high = loaded_in(regs, memory, behind, unit, second);
+        both(u64::from(unit), low, high)
+    }
+
+    /// What the access has read or written, by what its instruction left.
+    #[inline(always)]
+    #[tactic(auto, unfolding(crate::specs::InstructionAccesses::value_of))]
+    pub(crate) fn value<M: Tagged>(&self, regs: &Regs, memory: &mut M) -> [u64; 2]
+        ensures value { result ≡ value_of regs.now (M.memory memory.old) self.now }
+        ensures memory { M.memory memory.new ≡ M.memory memory.old }
+        ensures kept { M.kept memory.old memory.new }
+    {
+        match self.kind {
+            ACCESS_READ => self.loaded(regs, memory),
+            ACCESS_READ_TAG => [tag_at(memory, self.addr), 0],
+            _ => self.value,
         }
-        let low = number_at(memory, self.addr, self.size);
-        if self.size == 16 {
-            return [low, number_at(memory, self.addr.wrapping_add(8), 8)];
-        }
-        [low, 0]
     }
 }

@@ -52,6 +52,8 @@ fn accesses_of_instructions(rt: HostRuntime) -> Result<(), Fail> {
             "{word:#x}"
         );
     }
+    let pair = access_of(&decode(0xA9BF_0820).ok_or("a pair")?, &regs).ok_or("an access")?;
+    assert!(rt; pair.value == [0, 3] && pair.first == 0 && pair.second == Some(2));
     let none = access_of(&Instr::Svc, &regs);
     assert!(rt; none.is_none());
     steps_without_access_keep_memory();

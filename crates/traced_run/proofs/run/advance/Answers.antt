@@ -1,12 +1,12 @@
-use Rattle.std.proofs.Common.{◌≡◌, ◌<◌, ◌+◌, ◌++◌, ◌&&◌, [], is_none, if◌then◌else◌, sym, ap, subst, ◌∙◌}
+use Rattle.std.proofs.Common.{◌≡◌, ◌<◌, ◌+◌, ◌++◌, ◌&&◌, is_none, sym, ap, subst, ◌∙◌}
 use Rattle.std.specs.Result.{result_ok}
 use Rattle.mte_tags.specs.Memory.{Memory}
 use Rattle.mte_tags.specs.Accesses.{fetch_result}
 use Rattle.a64_registers.specs.declared.registers.Regs.{Regs}
 use Rattle.a64_step.specs.Results.{Stepped}
-use Rattle.a64_step.specs.Steps.{is_next, step_of}
+use Rattle.a64_step.specs.Steps.{step_of}
 use Rattle.a64_step.proofs.Effects.{step_orderly}
-use Rattle.traced_run.specs.InstructionAccesses.{accesses_of_step, entered_access, next_access}
+use Rattle.traced_run.specs.InstructionAccesses.{accesses_of_step, completed, entered_access, next_access}
 use Rattle.traced_run.specs.Traces.{arrays, listed, fetched, is_stop, stopping, trace_of, after_step, Trace, Holds, IsTraced}
 use Rattle.traced_run.proofs.Entering.{trace_next}
 use Rattle.traced_run.proofs.run.advance.Goals as goal
@@ -29,12 +29,15 @@ returns-clause-traced g c = λ r0 m0 old h.
     ∙ ap (λ (x : Memory). t.instructions ++ fetched q n r.pc (result_ok (fetch_result x r.pc))) h.memory
     ∙ ap (λ (x : Regs). t.instructions ++ fetched q n x.pc (result_ok (fetch_result t.memory x.pc))) h.regs
     ∙ sym (ap (λ (x : Trace). x.instructions) next) in
+    let mem = g.M.Tagged.memory after.memory in
     let made : t.accesses ++ listed c.entry_of-entry.result ≡ (trace_of (n + 1) q r0 m0).accesses =
     ap (λ l. t.accesses ++ l)
     (c.entry_of-entry.ensures.entry
-    ∙ ap (λ a. if is_next c.attempt-word.new.outcome then entered_access q n r.pc (g.M.Tagged.memory after.memory) a else []) c.attempt-word.ensures.access
-    ∙ ap (λ o. if is_next o then entered_access q n r.pc (g.M.Tagged.memory after.memory) (next_access r m) else []) left.outcome
-    ∙ ap (λ (x : Memory). if is_next (step_of r m).outcome then entered_access q n r.pc x (next_access r m) else []) left.memory
+    ∙ ap (λ a. entered_access q n r.pc after.regs mem a) c.completed-made.ensures
+    ∙ ap (λ a. entered_access q n r.pc after.regs mem (completed after.outcome a)) c.attempt-word.ensures.access
+    ∙ ap (λ o. entered_access q n r.pc after.regs mem (completed o (next_access r m))) left.outcome
+    ∙ ap (λ (x : Regs). entered_access q n r.pc x mem (completed (step_of r m).outcome (next_access r m))) left.regs
+    ∙ ap (λ (x : Memory). entered_access q n r.pc (step_of r m).regs x (completed (step_of r m).outcome (next_access r m))) left.memory
     ∙ ap (λ (s : Stepped). accesses_of_step q n r m s) same
     ∙ ap (λ (x : Memory). accesses_of_step q n r x (step_of t.regs t.memory)) h.memory
     ∙ ap (λ (x : Regs). accesses_of_step q n x t.memory (step_of t.regs t.memory)) h.regs)

@@ -1,0 +1,72 @@
+#!/usr/bin/env python3
+"""Replays the crashes of a fuzzer: each ends the same way each time, and is explained.
+
+    replay.py [--times N] [--seed HEX] [--program MTE_RUN] IMAGE CRASH...
+
+Runs each crash N times (1000) by mte_run, from a start of its own, and compares all that it says,
+byte for byte. A line for each crash: its cause, the source line of the access, of the call that
+made the chunk and of the one that freed it. Exit status 1: a run said something else, or was no
+crash. SEED is that of the fuzzer.
+"""
+import argparse
+import pathlib
+import re
+import subprocess
+import sys
+
+# The exit statuses by which mte_run tells of a crash are those of signals.
+SIGNAL = 128
+STACK = re.compile(r"\s+(allocated|freed) by call")
+LINE = re.compile(r"\s+#\d+ .* at (\S+:\d+)")
+STACKS = {"allocated": "made", "freed": "freed"}
+
+
+def told(words: list[str]) -> tuple[int, str]:
+    """The exit status, and what is said on standard error."""
+    ran = subprocess.run(words, stdin=subprocess.DEVNULL, stdout=subprocess.DEVNULL,
+                         stderr=subprocess.PIPE, check=False)
+    return ran.returncode, ran.stderr.decode(errors="replace")
+
+
+def places(report: str) -> dict[str, list[str]]:
+    """The source lines of each stack of a report, the innermost first."""
+    found: dict[str, list[str]] = {"access": []}
+    stack = "access"
+    for line in report.splitlines()[1:]:
+        begun, place = STACK.match(line), LINE.match(line)
+        if begun:
+            stack = STACKS[begun[1]]
+            found.setdefault(stack, [])
+        elif place and stack:
+            found[stack].append(place[1])
+        elif not re.match(r"\s+#", line):
+            stack = ""
+    return found
+
+
+def main() -> None:
+    """The command line."""
+    parser = argparse.ArgumentParser(usage=__doc__)
+    parser.add_argument("image", type=pathlib.Path)
+    parser.add_argument("crash", nargs="+", type=pathlib.Path)
+    parser.add_argument("--times", type=int, default=1000)
+    parser.add_argument("--seed", default="1")
+    parser.add_argument("--program", default="mte_run")
+    wanted = parser.parse_args()
+    for crash in wanted.crash:
+        words = [wanted.program, "--seed", wanted.seed.rjust(16, "0"), "--input", str(crash),
+                 str(wanted.image)]
+        first = told(words)
+        if first[0] <= SIGNAL:
+            sys.exit(f"{crash}: no crash (status {first[0]})")
+        for number in range(1, wanted.times):
+            if told(words) != first:
+                sys.exit(f"{crash}: run {number} differs from the first one")
+        cause = re.search(r"^Cause: (.*)$", first[1], re.M)
+        stacks = "; ".join(f"{name} {' '.join(its)}" for name, its in places(first[1]).items())
+        print(f"{crash}: {wanted.times} runs alike: {cause[1] if cause else 'no cause'}; {stacks}",
+              flush=True)
+
+
+if __name__ == "__main__":
+    main()

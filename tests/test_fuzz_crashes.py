@@ -1,0 +1,141 @@
+"""Crashes of a fuzzer, as docs/FUZZING.md leads through them: replayed, made smaller, walked back,
+and looked for by other tags."""
+
+import pathlib
+import re
+import shutil
+import sys
+
+import pytest
+
+from tests.support import fuzzers
+from tests.support.debugger import asked, target
+from tests.support.fuzzers import ENTER, FUZZ, NAME, PLANTED, card, field
+from tests.support.running import run, succeed
+from tests.support.tools import need
+
+TIMES = 100
+
+
+def lines_of(source: str, *wanted: str) -> list[str]:
+    """The places of lines of a source of examples/fuzz, as reports have them."""
+    lines = (FUZZ / source).read_text().splitlines()
+    return [f"{source}:{number}" for it in wanted
+            for number, line in enumerate(lines, 1) if it in line]
+
+
+# By the bug: source lines of the access, of the call that made the chunk and of its free.
+STACKS = {
+    "use after free": ("weights[(card->sum ^ bytes[i]) & 255]",
+                       "card->name = tenant_malloc(count)", "tenant_free(card->name);"),
+    "double free": ("tenant_free(card.name)", "card->name = tenant_malloc(count)",
+                    "tenant_free(card.nick)"),
+    "overflow": ("text[at++]", "tenant_malloc(count + quotes)", ""),
+}
+
+
+@pytest.mark.parametrize("bug", sorted(PLANTED))
+def test_a_crash_is_replayed(
+    shared: pathlib.Path, alone: pathlib.Path, tmp_path: pathlib.Path, bug: str
+) -> None:
+    """A hundred runs by mte_run say the same, with lines of all stacks."""
+    image, crash = fuzzers.cards(shared), tmp_path / "crash"
+    crash.write_bytes(PLANTED[bug][0])
+    ran = succeed([sys.executable, FUZZ / "replay.py", "--times", str(TIMES), "--program", alone,
+                   image, crash], seconds=300)
+    assert f"{TIMES} runs alike: " in ran.output and PLANTED[bug][1] in ran.output
+    told = dict(re.findall(r"; (access|made|freed) ([^;\n]+)", ran.output))
+    for stack, line in zip(("access", "made", "freed"), STACKS[bug]):
+        places = lines_of("cards.c", line) if line else []
+        assert not line or set(places) & set(told[stack].split()), (stack, told)
+        assert line or stack not in told
+
+
+def test_an_input_without_a_crash(
+    shared: pathlib.Path, alone: pathlib.Path, tmp_path: pathlib.Path
+) -> None:
+    """The replay says that there is none."""
+    text = tmp_path / "card"
+    text.write_bytes(card(NAME))
+    ran = run([sys.executable, FUZZ / "replay.py", "--program", alone, fuzzers.cards(shared), text])
+    assert ran.status == 1 and "no crash (status 0)" in ran.errors
+
+
+# By the bug: what GDB watches behind the fault, what it prints of it, and who freed the chunk.
+WATCHED = {
+    "use after free": ("*(char *)$_siginfo._sifields._sigfault.si_addr", "SIGSEGV",
+                       "New value = 65 'A'", "forget_name"),
+    "double free": ("*(long *)(($x0 & 0xffffffffffffff) - 16)", "SIGABRT", "New value = ",
+                    lines_of("cards.c", STACKS["double free"][2])[0]),
+}
+
+
+@pytest.mark.parametrize("bug", sorted(WATCHED))
+def test_back_to_the_free(
+    shared: pathlib.Path, alone: pathlib.Path, tmp_path: pathlib.Path, bug: str
+) -> None:
+    """The page's commands in GDB: from the fault backwards to the free of the chunk."""
+    image, crash = fuzzers.cards(shared), tmp_path / "small"
+    watched, signal, value, freed = WATCHED[bug]
+    crash.write_bytes(PLANTED[bug][0])
+    words = ["-iex", f"file {image}",
+             "-ex", target(alone, ["--input", "small", str(image)], "extended-remote")]
+    dialog = asked(words, ["continue", f"watch -l {watched}", "reverse-continue", "backtrace"],
+                   tmp_path)
+    assert f"Cause: {'[MTE]: ' * (signal == 'SIGSEGV')}{PLANTED[bug][1]}" in dialog[0]
+    assert signal in dialog[0] and value in dialog[2]
+    assert "tenant_free (chunk=" in dialog[3] and freed in dialog[3]
+
+
+# A crash with fields that have no part in it.
+LARGE = card(field("D", b"12"), NAME, field("Q", b"abc"), ENTER, field("="), field("}"),
+             field("C"), field("D", b"7"))
+
+
+def assert_is_smaller(folder: pathlib.Path, alone: pathlib.Path, small: pathlib.Path) -> None:
+    """An input is smaller than the large crash, and the same bug's."""
+    assert len(small.read_bytes()) < len(LARGE)
+    told = run([alone, "--input", small, folder / "cards.elf"]).errors
+    assert "Cause: " in told and "Double Free" in told
+
+
+def test_libfuzzer_makes_a_crash_smaller(
+    shared: pathlib.Path, alone: pathlib.Path, tmp_path: pathlib.Path
+) -> None:
+    """-minimize_crash, as the page has it."""
+    need("clang", "ld.lld")
+    folder = fuzzers.fuzzers(shared, "libfuzzer")
+    (tmp_path / "crash").write_bytes(LARGE)
+    ran = fuzzers.fuzz(folder, [folder / "libfuzzer", "-minimize_crash=1", "-runs=20000",
+                                "-seed=1", "crash"], cwd=tmp_path)
+    made = sorted(tmp_path.glob("minimized-from-*"), key=lambda it: len(it.read_bytes()))
+    assert made, ran.errors[-2000:]
+    assert_is_smaller(folder, alone, made[0])
+
+
+def test_afl_makes_a_crash_smaller(
+    shared: pathlib.Path, alone: pathlib.Path, tmp_path: pathlib.Path
+) -> None:
+    """afl-tmin, as the page has it."""
+    need("clang", "ld.lld", "afl-tmin", "afl-clang-fast")
+    folder = fuzzers.fuzzers(shared, "afl")
+    (tmp_path / "crash").write_bytes(LARGE)
+    ran = fuzzers.fuzz(folder, ["afl-tmin", "-i", "crash", "-o", "small", "--", folder / "afl"],
+                       cwd=tmp_path)
+    assert (tmp_path / "small").exists(), ran.output[-2000:] + ran.errors[-2000:]
+    assert_is_smaller(folder, alone, tmp_path / "small")
+
+
+def test_other_seeds(shared: pathlib.Path, tmp_path: pathlib.Path) -> None:
+    """Kept inputs by other tags: those of the corpus end well by each seed, and with a crash among
+    them by none."""
+    need("clang", "ld.lld")
+    folder = fuzzers.fuzzers(shared, "libfuzzer")
+    corpus = tmp_path / "corpus"
+    shutil.copytree(folder / "cards.corpus", corpus)
+    words = [str(folder / "libfuzzer"), "-runs=0", str(corpus)]
+    for seed in "234":
+        assert fuzzers.fuzz(folder, [*words], cwd=tmp_path, SEED=seed).status == 0
+    (corpus / "crash").write_bytes(LARGE)
+    for seed in "234":
+        assert fuzzers.fuzz(folder, [*words], cwd=tmp_path, SEED=seed).status != 0
