@@ -515,7 +515,7 @@ uint32_t tb_machine_acts(const tb_terms *terms, tb_machine_act *acts, size_t cou
  * Does acts to a tenant's machine as tb_machine_acts does, and copies as many of its pages as
  * `pages` holds, each once, in no order. TB_OK where it holds all, TB_NO_ROOM where it does not:
  * *mapped is how many there are. TB_REFUSED and TB_OUT_OF_MEMORY, with *mapped 0, leave `pages` as
- * it was.
+ * it was, and TB_REFUSED the acts too.
  */
 uint32_t tb_machine_pages(const tb_terms *terms, tb_machine_act *acts, size_t count,
                           tb_page_entry *pages, size_t room, uint64_t *mapped);

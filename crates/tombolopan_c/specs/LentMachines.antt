@@ -34,12 +34,16 @@ IsMachine t acts (Err o) =
     IfRefused o (λ e. refusal_alone 0 (lent_start t) ≡ Some e)
     × (o ≡ obstacle.OutOfMemory → is_bad (lent_start t).terms ≡ false)
 
+-- Each act of a machine has its answer.
+abbrev pub AreAnswered : LentTerms → List MachineAct → List MachineAct → Type 0
+AreAnswered t old new =
+    (k : ℕ) (d : MachineAct) → k < length old
+    → slice_index_or new k d ≡ act_done (lent_machine t) old k d
+
 -- Each act has its answer, or, where the tenant is not admitted, all are as they were.
 abbrev pub HaveAnswers :
     LentTerms → Result Machine (Obstacle AdmitError) → List MachineAct → List MachineAct → Type 0
-HaveAnswers t (Ok m) old new =
-    (k : ℕ) (d : MachineAct) → k < length old
-    → slice_index_or new k d ≡ act_done (lent_machine t) old k d
+HaveAnswers t (Ok m) old new = AreAnswered t old new
 HaveAnswers t (Err o) old new = new ≡ old
 
 -- The registers in the end.

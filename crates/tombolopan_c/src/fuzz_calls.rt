@@ -1,9 +1,10 @@
 //! The exports that run a tenant many times from one snapshot, each time with another input.
 
-ghost use Rattle.std.specs.Prelude.{◌≡◌, length, None, Some};
+ghost use Rattle.std.specs.Prelude.{◌≡◌, ◌≢◌, length, None, Some};
 ghost use Rattle.mte_tenant.specs.Machines.{start_of};
 ghost use Rattle.tombolopan.specs.Alone.{after_slices, refusal_alone};
 ghost use Rattle.tenant_snapshot.specs.Maps.{is_map_length};
+ghost use Rattle.call_reports.specs.declared.codes.TheConstants.{OK};
 ghost use Rattle.tombolopan_c.specs.LoneTenants.{lent_start};
 ghost use Rattle.tombolopan_c.specs.LentFuzz.{HasSaved, HasRun, HasAnswered, now_of, saved_of};
 
@@ -103,6 +104,7 @@ pub extern "C" fn tb_fuzz_run(
 ) -> u32
     ensures code { result ≡ end.new.code }
     ensures ran { HasRun run.now (length map.old) fuzz.old.value fuzz.new.value end.new }
+    ensures map { result ≢ OK → map.new ≡ map.old }
 {
     *end = match fuzz.take(alloc) {
         Some(mut machine) => {
@@ -125,17 +127,17 @@ fn answer(
     ensures answered { HasAnswered run.now (is_map_length (length map.old)) machine.old machine.new
         result }
     ensures saved { saved_of machine.new ≡ saved_of machine.old }
+    ensures map { result.code ≢ OK → map.new ≡ map.old }
 {
-    match EdgeMap::new(map, run.saturating != 0) {
-        Some(map) => match machine.restore(alloc, run.input) {
-            Ok(()) => {
-                run_slices(machine, &mut CountedEdges { map: Some(map) }, run.slices);
-                AloneEnd::of_record(OK, &machine.parts.history)
-            }
-            Err(_) => AloneEnd::without_tenant(OUT_OF_MEMORY, NO_REFUSAL),
-        },
-        None => AloneEnd::without_tenant(BAD_ARGUMENT, NO_REFUSAL),
+    if !EdgeMap::fits(map.len()) {
+        return AloneEnd::without_tenant(BAD_ARGUMENT, NO_REFUSAL);
     }
+    if machine.restore(alloc, run.input).is_err() {
+        return AloneEnd::without_tenant(OUT_OF_MEMORY, NO_REFUSAL);
+    }
+    let map = EdgeMap::new(map, run.saturating != 0);
+    run_slices(machine, &mut CountedEdges { map }, run.slices);
+    AloneEnd::of_record(OK, &machine.parts.history)
 }
 
 /// Frees the machine that a handle holds, if it holds one; then it holds none.

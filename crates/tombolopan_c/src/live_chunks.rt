@@ -137,6 +137,7 @@ pub extern "C" fn tb_heap_live(
         → chunks.new ≡ filled (live_chunks steps.now) chunks.old }
     ensures count { (result ≡ OK) ⊎ (result ≡ NO_ROOM) → live.new ≡ length (live_chunks steps.now) }
     ensures room { result ≡ OK → live.new ≤ length chunks.old }
+    ensures short { result ≡ NO_ROOM → length chunks.old < live.new }
     ensures kept { result ≡ OUT_OF_MEMORY → (chunks.new ≡ chunks.old) × (live.new ≡ 0) }
 {
     *live = 0;

@@ -1,11 +1,11 @@
 //! The export that runs a tenant's machine which is changed between its slices.
 
-ghost use Rattle.std.specs.Prelude.{◌≡◌, ◌≢◌, ◌≤◌, ◌⊎◌, length, None};
+ghost use Rattle.std.specs.Prelude.{◌≡◌, ◌≢◌, ◌≤◌, ◌<◌, ◌⊎◌, length, None};
 ghost use Rattle.tombolopan.specs.Alone.{refusal_alone};
 ghost use Rattle.call_reports.specs.declared.codes.TheConstants.{OK, NO_ROOM, REFUSED};
 ghost use Rattle.call_reports.specs.declared.codes.TheConstants.{OUT_OF_MEMORY};
 ghost use Rattle.tombolopan_c.specs.LentRegisters.{regs_of};
-ghost use Rattle.tombolopan_c.specs.LentMachines.{HasActed, HasPages};
+ghost use Rattle.tombolopan_c.specs.LentMachines.{HasActed, HasPages, AreAnswered};
 ghost use Rattle.tombolopan_c.specs.LoneTenants.{lent_start};
 
 use crate::alone_calls::told;
@@ -65,7 +65,7 @@ pub extern "C" fn tb_machine_acts(
 /// Admits a tenant alone, does acts to its machine as `tb_machine_acts` does, and copies as many of
 /// its pages as the array holds, each once, in no order. OK where it holds all; NO_ROOM where it
 /// does not: `mapped` says how many there are. REFUSED and OUT_OF_MEMORY, where it is 0, leave the
-/// array as it was.
+/// array as it was, and REFUSED the acts too.
 #[unsafe(no_mangle)]
 pub extern "C" fn tb_machine_pages(
     alloc: Global,
@@ -79,6 +79,11 @@ pub extern "C" fn tb_machine_pages(
     ensures pages { (result ≡ OK) ⊎ (result ≡ NO_ROOM)
         → HasPages terms.now acts.old pages.old pages.new mapped.new }
     ensures room { result ≡ OK → mapped.new ≤ length pages.old }
+    ensures short { result ≡ NO_ROOM → length pages.old < mapped.new }
+    ensures count { length acts.new ≡ length acts.old }
+    ensures answers { (result ≡ OK) ⊎ (result ≡ NO_ROOM)
+        → AreAnswered terms.now acts.old acts.new }
+    ensures undone { result ≡ REFUSED → acts.new ≡ acts.old }
     ensures kept { (result ≡ REFUSED) ⊎ (result ≡ OUT_OF_MEMORY)
         → (pages.new ≡ pages.old) × (mapped.new ≡ 0) }
     ensures refused { result ≡ REFUSED → refusal_alone 0 (lent_start terms.now) ≢ None }

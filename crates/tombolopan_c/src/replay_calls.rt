@@ -116,6 +116,7 @@ pub extern "C" fn tb_heap_pages(
     ensures answers { (result ≡ OK) ⊎ (result ≡ NO_ROOM)
         → steps.new ≡ (replayed (start_of setup.now) steps.old (length steps.old)).steps }
     ensures room { result ≡ OK → mapped.new ≤ length pages.old }
+    ensures short { result ≡ NO_ROOM → length pages.old < mapped.new }
     ensures kept { result ≡ BAD_ARGUMENT → steps.new ≡ steps.old }
     ensures none { (result ≡ BAD_ARGUMENT) ⊎ (result ≡ OUT_OF_MEMORY)
         → (pages.new ≡ pages.old) × (mapped.new ≡ 0) }
