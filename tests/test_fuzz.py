@@ -2,6 +2,7 @@
 short campaign of each fuzzer."""
 
 import pathlib
+import re
 
 import pytest
 
@@ -169,6 +170,18 @@ def test_runs_are_those_of_fresh_tenants(shared: pathlib.Path) -> None:
     ran = run(words, extra=extra, seconds=300)
     assert (ran.status, ran.errors) == (0, "")
     assert ran.output.startswith("2000 runs are those of fresh tenants (exit ")
+
+
+def test_changed_inputs_of_a_corpus(shared: pathlib.Path, tmp_path: pathlib.Path) -> None:
+    """The same over cards with bytes changed: crashes among them."""
+    for name, (text, _) in PLANTED.items():
+        (tmp_path / name).write_bytes(text)
+    words: list[Word] = ["python3", "-B", FUZZ / "compare_fresh.py", "--corpus", tmp_path,
+                         fuzzers.cards(shared), "3000"]
+    ran = run(words, extra=in_python(shared, PACKAGE).extra, seconds=300)
+    assert (ran.status, ran.errors) == (0, "")
+    ends = re.search(r"\(abort (\d+), exit (\d+), fault (\d+)\)", ran.output)
+    assert ends and min(map(int, ends.groups())) > 100, ran.output
 
 
 def test_no_memory_is_kept(shared: pathlib.Path) -> None:

@@ -133,6 +133,25 @@ def test_the_page_has_no_program_that_differs() -> None:
     assert all(int(same) >= 200 and different == "0" for _, _, same, different in rows)
 
 
+def test_the_page_has_what_is_told_of_programs_that_test_compilers() -> None:
+    """A row for each build, in none of which something false is told, and each fault."""
+    part = CHECKED.partition(checked.BEGIN)[2].partition(checked.END)[0]
+    row = rf"^\| {checked.TITLES['torture']} \| (\S+) \| (\d+) \| \d+ \| \d+ \| (\d+) \|$"
+    rows = re.findall(row, part, re.M)
+    assert [build for build, _, _ in rows] == list(checked.BUILDS)
+    assert all(int(count) >= 400 and false == "0" for _, count, false in rows)
+    assert re.findall(r"^\| (\S+) \| \S+-O.* \| it .* \|$", part, re.M) == list(
+        checked.faults()["torture"])
+
+
+def test_what_is_told_is_beside_notes_and_the_plain_run() -> None:
+    """The first lines and the cause of what only the watched run says."""
+    note = "mte_run: no tag differed; a tag is that of 16 bytes\n"
+    said = "mte_run: check: a read\n  #0 main\n  #1 start\nCause: [check]: x\n"
+    assert checked.told_of(note) == checked.told_of(said, said) == ""
+    assert checked.told_of(note + said) == "mte_run: check: a read |   #0 main | Cause: [check]: x"
+
+
 def test_the_first_difference_of_two_outputs() -> None:
     """The line, or how many lines there are."""
     assert packages.first_difference(b"a\nb\nc\n", b"a\nx\nc\n").startswith("line 2\n")

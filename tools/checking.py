@@ -24,7 +24,9 @@ ROOT = pathlib.Path(__file__).resolve().parent.parent
 PAGE = ROOT / "docs" / "CHECKING.md"
 SOURCES = ROOT / "tests" / "sources"
 SAMPLES = ROOT / "examples" / "c"
-RUN = ROOT / "crates" / "mte_run" / "out" / "mte_run"
+# The folder that TOMBOLOPAN_BUILT names has programs that were built elsewhere.
+BUILT = pathlib.Path(os.environ.get("TOMBOLOPAN_BUILT") or ROOT / "crates" / "mte_run" / "out")
+RUN = BUILT.resolve() / "mte_run"
 TENANT = ("clang", "--target=aarch64-linux-gnu", "-fuse-ld=lld", "-O0", "-g", "-ffreestanding",
           "-nostdlib", "-static", "-mgeneral-regs-only", "-fno-builtin", "-w")
 NATIVE = ("gcc", "-O0", "-g", "-fno-builtin", "-w")

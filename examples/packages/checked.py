@@ -105,9 +105,12 @@ def left_out(build: Build, reason: str) -> Finding:
     return Finding(build.kind, build.program, build.build, {}, reason)
 
 
-def told_of(said: str) -> str:
-    """What the text of a run has beside notes: its first line, and the cause where one is named."""
-    lines = [line for line in said.splitlines() if line and not NOTES.fullmatch(line)]
+def told_of(said: str, plain: str = "") -> str:
+    """What the text of a run has beside notes and beside the text of the plain run: its first
+    lines, and the cause where one is named."""
+    known = plain.splitlines()
+    lines = [line for line in said.splitlines()
+             if line and line not in known and not NOTES.fullmatch(line)]
     cause = [line for line in lines if line.startswith("Cause: ")]
     return " | ".join([*lines[:2], *cause[:1]])
 
@@ -125,7 +128,7 @@ def run(words: list[object]) -> Ran:
 
 def result_of(plain: Ran, checked: Ran) -> str:
     """What a way of checking tells, or how its run differs from the plain one."""
-    told = told_of(checked.said)
+    told = told_of(checked.said, plain.said)
     if told:
         return told
     if checked.status == -1:
@@ -177,8 +180,9 @@ def torture_work(options: argparse.Namespace, place: packages.Place) -> Iterator
     """What is to do for the torture tests, in the builds that are wanted."""
     programs = compilers.torture_programs(place.out, TORTURE)[::options.every]
     for program, name in itertools.product(programs, options.builds):
+        build = Build("torture", program.name, name)
         if not options.only or program.name in options.only:
-            yield functools.partial(tried_torture, program, Build("torture", program.name, name), place)
+            yield functools.partial(tried_torture, program, build, place)
 
 
 def words_of(package: packages.Package, build: Build, place: packages.Place,
@@ -191,7 +195,9 @@ def words_of(package: packages.Package, build: Build, place: packages.Place,
 
 
 def runs_of(package: packages.Package, folder: pathlib.Path, words: dict[str, str]) -> Ran:
-    """The runs of a package in a copy of a folder, as one: the statuses are in the output."""
+    """The runs of a package in a copy of a folder, as one: the statuses are in the output. Standard
+    error of a native program is where that of a tenant is, in its output."""
+    error = subprocess.PIPE if "WAY" in words else subprocess.STDOUT
     with tempfile.TemporaryDirectory() as name:
         copy, said = pathlib.Path(name) / "copy", pathlib.Path(name) / "said"
         shutil.copytree(folder, copy, symlinks=True)
@@ -199,7 +205,7 @@ def runs_of(package: packages.Package, folder: pathlib.Path, words: dict[str, st
         output = b""
         for line in package.run:
             status, written, _ = packages.shell(line, copy, {**words, "SAID": str(said)},
-                                                packages.RUN_SECONDS, subprocess.PIPE)
+                                                packages.RUN_SECONDS, error)
             output += written + b"status %d\n" % status
         texts = [path.read_text(errors="replace") for path in sorted(said.iterdir())]
     return Ran(0, output, "".join(texts))
@@ -251,7 +257,8 @@ def package_work(options: argparse.Namespace, place: packages.Place) -> Iterator
     for package in wanted:
         run_natively(package, place)
     for package, name in itertools.product(wanted, options.builds):
-        yield functools.partial(tried_package, package, Build("packages", package.name, name), place)
+        build = Build("packages", package.name, name)
+        yield functools.partial(tried_package, package, build, place)
 
 
 def faults() -> dict[str, dict[str, str]]:

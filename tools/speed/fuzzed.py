@@ -6,10 +6,11 @@
 
 IMAGE yields where its snapshot is to be taken (docs/FUZZING.md); with `--setup 0` it is taken at
 its first instruction. `--real` takes a program of measure.py and the input of its short run, or one
-round of `--bytes N`, with its snapshot there. By callgrind, instructions of the machine for each step of the tenant behind its
-snapshot: a run alone by each `--host` (a built mte_host) and by the library (tb_alone), and runs
-from the snapshot (tb_fuzz_run), with their edges counted and with what restores the machine. They
-are counted when the table of instructions, which stays from run to run, is full-grown.
+round of `--bytes N`, with its snapshot there. By callgrind, instructions of the machine for each
+step of the tenant behind its snapshot: a run alone by each `--host` (a built mte_host) and by the
+library (tb_alone), and runs from the snapshot (tb_fuzz_run), with their edges counted and with what
+restores the machine. They are counted when the table of instructions, which stays from run to run,
+is full-grown.
 
     --library FILE   libtombolopan_c.a (crates/tombolopan_c/out)
     --host FILE      a built mte_host; may come again

@@ -35,7 +35,7 @@ impl<'a> Checkpoints<'a> {
             return;
         }
         self.far = self.near.take();
-        self.near = tenant.copy(alloc).ok();
+        leave(&mut self.near, alloc, tenant);
     }
 
     /// A tenant that has attempted `steps` instructions, from the last checkpoint on the way or
@@ -47,12 +47,7 @@ impl<'a> Checkpoints<'a> {
         steps: u64,
     ) -> Result<Debuggee<'a>, AllocError> {
         let mut past = self.begin(alloc, tenant, steps)?;
-        if past.steps().saturating_add(2 * NEAR) < steps {
-            advance(&mut past, steps.saturating_sub(NEAR));
-            self.near = None;
-            self.near = past.copy(alloc).ok();
-        }
-        advance(&mut past, steps);
+        go_on(&mut past, alloc, steps, NEAR, &mut self.near);
         Ok(past)
     }
 
@@ -65,12 +60,7 @@ impl<'a> Checkpoints<'a> {
         steps: u64,
     ) -> Result<Debuggee<'a>, AllocError> {
         let mut past = self.begin(alloc, tenant, steps)?;
-        if past.steps().saturating_add(2 * INTERVAL) < steps {
-            advance(&mut past, steps.saturating_sub(INTERVAL));
-            self.far = None;
-            self.far = past.copy(alloc).ok();
-        }
-        advance(&mut past, steps);
+        go_on(&mut past, alloc, steps, INTERVAL, &mut self.far);
         Ok(past)
     }
 
@@ -92,6 +82,29 @@ impl<'a> Checkpoints<'a> {
             None => tenant.anew(alloc),
         }
     }
+}
+
+/// Moves a tenant on until it has attempted `steps` instructions. After more than twice a distance
+/// it leaves a checkpoint that distance before.
+fn go_on<'a>(
+    past: &mut Debuggee<'a>,
+    alloc: Global,
+    steps: u64,
+    distance: u64,
+    place: &mut Option<Debuggee<'a>>,
+) {
+    if past.steps().saturating_add(distance.saturating_mul(2)) < steps {
+        advance(past, steps.saturating_sub(distance));
+        leave(place, alloc, past);
+    }
+    advance(past, steps);
+}
+
+/// Leaves a copy of a tenant in a place, where there is memory for one. What was there is given
+/// back first.
+fn leave<'a>(place: &mut Option<Debuggee<'a>>, alloc: Global, tenant: &Debuggee<'a>) {
+    *place = None;
+    *place = tenant.copy(alloc).ok();
 }
 
 /// How many instructions a tenant has attempted; none where it is not there.

@@ -312,16 +312,22 @@ fn a_careful_tenant_of_a_session(rt: HostRuntime) -> Result<(), Fail> {
     let alloc = rt.alloc();
     let file = image(alloc, &CAREFUL)?;
     let other = image(alloc, &CARELESS)?;
+    let host = host_of_two(alloc, file.as_slice(), other.as_slice())?;
     let (watch, parts) = watched(alloc, file.as_slice())?;
     assert!(rt; watch.is_careful && watch.is_lawful);
-    assert!(rt; parts.history.steps == 40 && matches!(parts.history.status, Status::Faulted(_, _)));
-    let host = host_of_two(alloc, file.as_slice(), other.as_slice())?;
+    compare_with_alone(&rt, &host, &parts);
+    Ok(())
+}
+
+/// Compares the record of tenant 1 of a host with that of the tenant alone.
+fn compare_with_alone(rt: &impl Abort, host: &Host, parts: &TenantParts) {
+    let alone = &parts.history;
+    assert!(rt; alone.steps == 40 && matches!(alone.status, Status::Faulted(_, _)));
     let found = host.view(1);
     assert!(rt; found.is_some());
     if let Some(record) = found {
-        assert!(rt; record.steps == parts.history.steps && record.status == parts.history.status);
+        assert!(rt; record.steps == alone.steps && record.status == alone.status);
     }
-    Ok(())
 }
 
 /// A tenant that stores a tag is not careful.

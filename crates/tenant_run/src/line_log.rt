@@ -1,12 +1,13 @@
 //! Where the lines go that are written while a tenant runs.
 
-use crate::observer::{Observer, exact_of};
+use crate::observer::{Observer, checker_of, exact_of, turns_of};
 use crate::tracer::Tracer;
 use check_kinds::Suppressions;
 use either::Either;
 use elf_symbols::Symbols;
 use run_cause::CheckTerms;
 use run_options::{Failure, Options, OutputOptions, Traced};
+use std::alloc::{AllocError, Global};
 use std::fs::File;
 use std::io::{BufWriter, Stderr};
 
@@ -26,16 +27,29 @@ pub fn observer_of<'a, 'i>(
         Some(traced) => Some(tracer_of(rt, output, traced, image)?),
         None => None,
     };
-    let exact = exact_of(rt.alloc(), output.exact);
-    let observer = Observer::new(rt.alloc(), output.last, exact, tracer)?;
-    let observer = observer.with_turns(rt.alloc(), output.turns)?;
     let terms = CheckTerms {
         image,
         kinds: output.check,
         suppressions,
     };
-    let observer = observer.with_checker(rt.alloc(), &terms)?;
-    Ok(observer.with_statistics(output.statistics))
+    Ok(observer_with(rt.alloc(), output, tracer, &terms)?)
+}
+
+/// The same with what writes its lines.
+fn observer_with<'i>(
+    alloc: Global,
+    output: &OutputOptions,
+    tracer: Option<Tracer<'i, Log>>,
+    terms: &CheckTerms<'i>,
+) -> Result<Observer<'i, Log>, AllocError> {
+    let turns = turns_of(alloc, output.turns)?;
+    let checker = checker_of(alloc, terms)?;
+    let exact = exact_of(alloc, output.exact);
+    let mut observer = Observer::new(alloc, output.last, exact, tracer, turns, checker)?;
+    if output.statistics {
+        observer.count();
+    }
+    Ok(observer)
 }
 
 /// What writes some lines, with the names of an image's functions.

@@ -47,57 +47,33 @@ pub struct Observer<'a, W: Write + Drop> {
 }
 
 impl<'a, W: Write + Drop> Observer<'a, W> {
-    /// One that remembers the last `count` instructions, and as many as a cause is found by.
+    /// One that remembers the last `count` instructions, and as many as a cause is found by; the
+    /// calls and returns for which there is a list; and what a checker finds.
     pub fn new(
         alloc: Global,
         count: usize,
         exact: Option<Exact>,
         tracer: Option<Tracer<'a, W>>,
+        turns: Option<HeapCircularBuffer<Turn>>,
+        checker: Option<Checker<'a>>,
     ) -> Result<Observer<'a, W>, AllocError> {
         Ok(Observer {
             is_watching: true,
             book: Book::new(alloc)?,
             last: HeapCircularBuffer::with_capacity(alloc, count.max(LEAST))?,
-            turns: None,
+            turns,
             tracer,
             exact,
-            checker: None,
+            checker,
             statistics: None,
             is_cut: false,
             store: None,
         })
     }
 
-    /// The same that also remembers the last `count` calls and returns, where there are any.
-    pub fn with_turns(
-        mut self,
-        alloc: Global,
-        count: usize,
-    ) -> Result<Observer<'a, W>, AllocError> {
-        if count > 0 {
-            self.turns = Some(HeapCircularBuffer::with_capacity(alloc, count)?);
-        }
-        Ok(self)
-    }
-
-    /// The same that also counts what the tenant does, where that is wanted.
-    pub fn with_statistics(mut self, wanted: bool) -> Observer<'a, W> {
-        if wanted {
-            self.statistics = Some(Statistics::new());
-        }
-        self
-    }
-
-    /// The same that also checks what a tenant does, as terms say.
-    pub fn with_checker(
-        mut self,
-        alloc: Global,
-        terms: &CheckTerms<'a>,
-    ) -> Result<Observer<'a, W>, AllocError> {
-        if !terms.kinds.is_none() {
-            self.checker = Some(Checker::new(alloc, terms)?);
-        }
-        Ok(self)
+    /// Counts what the tenant does, too.
+    pub fn count(&mut self) {
+        self.statistics = Some(Statistics::new());
     }
 
     /// Whether it must watch from the first step on: it writes or counts or ends what it sees.
@@ -240,6 +216,30 @@ fn cuts_output(moment: &Moment, parts: &TenantParts) -> bool {
         && before.x[8] == WRITE
         && before.pc != after.pc
         && after.x[0] < before.x[1]
+}
+
+/// A list for the last `count` calls and returns, where there are to be any.
+pub fn turns_of(
+    alloc: Global,
+    count: usize,
+) -> Result<Option<HeapCircularBuffer<Turn>>, AllocError> {
+    if count == 0 {
+        return Ok(None);
+    }
+    let turns = HeapCircularBuffer::with_capacity(alloc, count)?;
+    Ok(Some(turns))
+}
+
+/// What checks a tenant as terms say, where they ask for anything.
+pub fn checker_of<'a>(
+    alloc: Global,
+    terms: &CheckTerms<'a>,
+) -> Result<Option<Checker<'a>>, AllocError> {
+    if terms.kinds.is_none() {
+        return Ok(None);
+    }
+    let checker = Checker::new(alloc, terms)?;
+    Ok(Some(checker))
 }
 
 /// What watches that accesses keep to the bytes of chunks, where they are to.

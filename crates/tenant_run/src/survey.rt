@@ -4,7 +4,7 @@ use crate::bench::TenantBench;
 use crate::ending::{ENDINGS, TenantEnding, ending_at};
 use crate::line_log::Log;
 use crate::lone::admission_of;
-use crate::observer::{Observer, exact_of};
+use crate::observer::{Observer, checker_of, exact_of};
 use crate::output_stream::OutputStream;
 use crate::seeds::seed_of_run;
 use crate::slices::run_slices;
@@ -13,7 +13,7 @@ use mte_tenant::AdmitError;
 use obstacle::Obstacle;
 use run_cause::CheckTerms;
 use run_options::Options;
-use std::alloc::Global;
+use std::alloc::{AllocError, Global};
 use std::fmt;
 
 /// How runs under several seeds ended.
@@ -79,24 +79,36 @@ fn ending_under<'x>(
     input: &'x [u8],
     seed: u64,
 ) -> Result<TenantEnding, Obstacle<AdmitError>> {
-    let image = terms.image;
+    let admission = admission_of(options, terms.image, input, seed);
+    let mut bench = TenantBench::new(alloc, &admission)?;
+    let mut observer = silent_observer(alloc, options, terms)?;
+    Ok(ending_of(options, &mut bench, &mut observer))
+}
+
+/// What watches a run of which only the ending counts.
+fn silent_observer<'x>(
+    alloc: Global,
+    options: &Options,
+    terms: &CheckTerms<'x>,
+) -> Result<Observer<'x, Log>, AllocError> {
+    let checker = checker_of(alloc, terms)?;
     let exact = exact_of(alloc, options.output.exact);
-    let observer: Observer<'_, Log> = Observer::new(alloc, 1, exact, None)?;
-    let mut observer = observer.with_checker(alloc, terms)?;
-    let mut bench = TenantBench::new(alloc, &admission_of(options, image, input, seed))?;
+    Observer::new(alloc, 1, exact, None, None, checker)
+}
+
+/// How a tenant ends that is run to its end.
+fn ending_of(
+    options: &Options,
+    bench: &mut TenantBench,
+    observer: &mut Observer<'_, Log>,
+) -> TenantEnding {
     observer.is_watching = observer.needs_each_step();
     let mut out = OutputStream::silent();
-    run_slices(
-        &mut bench,
-        &mut observer,
-        &mut out,
-        options,
-        options.length.steps,
-    );
+    run_slices(bench, observer, &mut out, options, options.length.steps);
     if observer.finding().is_some() {
-        return Ok(TenantEnding::Exact);
+        return TenantEnding::Exact;
     }
-    Ok(TenantEnding::of(&bench.parts.history, options.limit()))
+    TenantEnding::of(&bench.parts.history, options.limit())
 }
 
 impl fmt::Display for Survey {
