@@ -7,8 +7,8 @@ from collections.abc import Callable, Sequence
 
 import pytest
 
-from tests.support import small_programs as programs
-from tests.support.host_sessions import assert_ended, assert_reports, make_image
+from tests.support import small_programs
+from tests.support.host_sessions import HI_REPORT, assert_ended, assert_reports, make_image
 from tests.support.running import Ran, Word, run
 
 # Frames, programs as files, a script and its report.
@@ -18,7 +18,7 @@ Session = tuple[int, Sequence[Sequence[int]], str, str]
 ADMIT = "admit 1 image 1 input 0 seed 0000000000000001 frames 5 out 16\nslice 1 100\n"
 
 SESSIONS: list[Session] = [
-    (11, [programs.HI],
+    (11, [small_programs.HI],
      "admit 1 image 1 input 0 seed 0000000000000001 frames 5 out 16\n"
      "slice 1 3\n",
      "tenant 1\n"
@@ -27,7 +27,7 @@ SESSIONS: list[Session] = [
      "output 0\n"
      "heap 0\n"
      "end\n"),
-    (11, [programs.HI],
+    (11, [small_programs.HI],
      "admit 1 image 1 input 0 seed 0000000000000001 frames 5 out 1\n"
      "slice 1 100\n",
      "tenant 1\n"
@@ -36,7 +36,7 @@ SESSIONS: list[Session] = [
      "output 1 48\n"
      "heap 0\n"
      "end\n"),
-    (11, [programs.UNTAGGED],
+    (11, [small_programs.UNTAGGED],
      ADMIT,
      "tenant 1\n"
      "status fault TagCheck read addr 0x000000003fffc000 ptr 0 mem 1 pc 0x0000000000010018\n"
@@ -44,7 +44,7 @@ SESSIONS: list[Session] = [
      "output 0\n"
      "heap 0\n"
      "end\n"),
-    (11, [programs.PAIR_WITH_TAG],
+    (11, [small_programs.PAIR_WITH_TAG],
      ADMIT,
      "tenant 1\n"
      "status fault TagCheck read addr 0x000000003fffc010 ptr 0 mem 1 pc 0x0000000000010018\n"
@@ -52,7 +52,7 @@ SESSIONS: list[Session] = [
      "output 0\n"
      "heap 0\n"
      "end\n"),
-    (11, [programs.PRE_INDEXED],
+    (11, [small_programs.PRE_INDEXED],
      ADMIT,
      "tenant 1\n"
      "status fault TagCheck read addr 0x000000003fffffe0 ptr 0 mem 1 pc 0x0000000000010010\n"
@@ -60,7 +60,7 @@ SESSIONS: list[Session] = [
      "output 0\n"
      "heap 0\n"
      "end\n"),
-    (11, [programs.ACROSS],
+    (11, [small_programs.ACROSS],
      ADMIT,
      "tenant 1\n"
      "status fault TagCheck read addr 0x000000003fffc010 ptr 1 mem 0 pc 0x0000000000010010\n"
@@ -68,7 +68,7 @@ SESSIONS: list[Session] = [
      "output 0\n"
      "heap 0\n"
      "end\n"),
-    (11, [programs.ILLEGAL],
+    (11, [small_programs.ILLEGAL],
      ADMIT,
      "tenant 1\n"
      "status illegal 0x00000000 pc 0x0000000000010000\n"
@@ -76,7 +76,7 @@ SESSIONS: list[Session] = [
      "output 0\n"
      "heap 0\n"
      "end\n"),
-    (11, [programs.UNALIGNED],
+    (11, [small_programs.UNALIGNED],
      ADMIT,
      "tenant 1\n"
      "status fault PcAlignment read addr 0x0000000000010001 ptr 0 mem 0 pc 0x0000000000010001\n"
@@ -86,7 +86,7 @@ SESSIONS: list[Session] = [
      "end\n"),
     # The asynchronous mode: an access whose tag differs completes, and the tenant ends at its next
     # service, or with its slice.
-    (11, [programs.UNTAGGED],
+    (11, [small_programs.UNTAGGED],
      "admit 1 image 1 input 0 seed 0000000000000001 frames 5 out 16 async\n"
      "slice 1 7\n",
      "tenant 1\n"
@@ -95,7 +95,7 @@ SESSIONS: list[Session] = [
      "output 0\n"
      "heap 0\n"
      "end\n"),
-    (11, [programs.UNTAGGED],
+    (11, [small_programs.UNTAGGED],
      "admit 1 image 1 input 0 seed 0000000000000001 frames 5 out 16 async\n"
      "slice 1 100\n",
      "tenant 1\n"
@@ -104,7 +104,7 @@ SESSIONS: list[Session] = [
      "output 0\n"
      "heap 0\n"
      "end\n"),
-    (11, [programs.UNTAGGED_EXIT],
+    (11, [small_programs.UNTAGGED_EXIT],
      "admit 1 image 1 input 0 seed 0000000000000001 frames 5 out 16 async\n"
      "slice 1 100\n",
      "tenant 1\n"
@@ -113,7 +113,7 @@ SESSIONS: list[Session] = [
      "output 0\n"
      "heap 0\n"
      "end\n"),
-    (11, [programs.UNTAGGED_EXIT],
+    (11, [small_programs.UNTAGGED_EXIT],
      "admit 1 image 1 input 0 seed 0000000000000001 frames 5 out 16\n"
      "slice 1 100\n",
      "tenant 1\n"
@@ -122,7 +122,7 @@ SESSIONS: list[Session] = [
      "output 0\n"
      "heap 0\n"
      "end\n"),
-    (11, [programs.UNTAGGED_WRITE],
+    (11, [small_programs.UNTAGGED_WRITE],
      "admit 1 image 1 input 0 seed 0000000000000001 frames 5 out 16 async\n"
      "slice 1 100\n",
      "tenant 1\n"
@@ -131,7 +131,7 @@ SESSIONS: list[Session] = [
      "output 16 00000000000000000000000000000000\n"
      "heap 0\n"
      "end\n"),
-    (11, [programs.UNTAGGED_WRITE],
+    (11, [small_programs.UNTAGGED_WRITE],
      "admit 1 image 1 input 0 seed 0000000000000001 frames 5 out 16 async\n"
      "slice 1 7\n",
      "tenant 1\n"
@@ -140,7 +140,7 @@ SESSIONS: list[Session] = [
      "output 16 00000000000000000000000000000000\n"
      "heap 0\n"
      "end\n"),
-    (11, [programs.UNTAGGED_WRITE],
+    (11, [small_programs.UNTAGGED_WRITE],
      "admit 1 image 1 input 0 seed 0000000000000001 frames 5 out 16\n"
      "slice 1 100\n",
      "tenant 1\n"
@@ -154,7 +154,7 @@ SESSIONS: list[Session] = [
      "",
      ""),
     # The largest reservation has 4096 pages, and is charged 8193 frames.
-    (8193, [programs.HI],
+    (8193, [small_programs.HI],
      "admit 1 image 1 input 0 seed 0000000000000001 frames 4096 out 16\n"
      "slice 1 100\n",
      "tenant 1\n"
@@ -164,7 +164,7 @@ SESSIONS: list[Session] = [
      "heap 0\n"
      "end\n"),
     # Files are numbered in their order, from 1.
-    (11, [programs.HI, programs.ILLEGAL],
+    (11, [small_programs.HI, small_programs.ILLEGAL],
      "admit 1 image 2 input 1 seed 0000000000000001 frames 5 out 16\n"
      "slice 1 100\n",
      "tenant 1\n"
@@ -175,7 +175,7 @@ SESSIONS: list[Session] = [
      "end\n"),
     # A tenant that leaves a tag and bytes on its stack, and after its stop another that looks for
     # them there.
-    (11, [programs.UNTAGGED, programs.LEFT_ON_THE_STACK],
+    (11, [small_programs.UNTAGGED, small_programs.LEFT_ON_THE_STACK],
      "admit 1 image 1 input 0 seed 0000000000000001 frames 5 out 16\n"
      "slice 1 100\n"
      "stop 1\n"
@@ -194,7 +194,7 @@ SESSIONS: list[Session] = [
      "heap 0\n"
      "end\n"),
     # Translations of one tenant, beside one with the same pages, and after its stop.
-    (300, [programs.LARGE_FREED, programs.LEFT_ON_THE_STACK],
+    (300, [small_programs.LARGE_FREED, small_programs.LEFT_ON_THE_STACK],
      "admit 1 image 1 input 0 seed 0000000000000001 frames 60 out 16\n"
      "admit 2 image 1 input 0 seed 0000000000000001 frames 60 out 16\n"
      "slice 1 100\n"
@@ -225,7 +225,7 @@ SESSIONS: list[Session] = [
      "heap 0\n"
      "end\n"),
     # Seven chunks, each in a page and with a leaf of its own, take the last frames.
-    (25, [programs.SEVEN_SIZES],
+    (25, [small_programs.SEVEN_SIZES],
      "admit 1 image 1 input 0 seed 0000000000000001 frames 12 out 16\n"
      "slice 1 100\n",
      "tenant 1\n"
@@ -243,7 +243,7 @@ SESSIONS: list[Session] = [
      "call malloc 0x0000000000000010 0x0000000000000000 = 0x0000000000000000\n"
      "end\n"),
     # A yield in the middle and at the end of a slice.
-    (11, [programs.YIELDS],
+    (11, [small_programs.YIELDS],
      "admit 1 image 1 input 0 seed 0000000000000001 frames 5 out 16\n"
      "slice 1 100\n"
      "slice 1 5\n",
@@ -253,7 +253,7 @@ SESSIONS: list[Session] = [
      "output 0\n"
      "heap 0\n"
      "end\n"),
-    (11, [programs.YIELDS],
+    (11, [small_programs.YIELDS],
      "admit 1 image 1 input 0 seed 0000000000000001 frames 5 out 16\n"
      "slice 1 2\n"
      "slice 1 5\n",
@@ -337,28 +337,28 @@ REFUSED: list[tuple[int, str, str]] = [
 
 # Programs, what follows `admit 1 image 1 input `, and the lines after `tenant 1`.
 SERVICES: list[tuple[Sequence[int], str, str]] = [
-    (programs.READS,
+    (small_programs.READS,
      "1 seed 0000000000000001 frames 5 out 16\n"
      "slice 1 100\n",
      "status exit 10\n"
      "steps 12\n"
      "output 10 7f454c46020101000000\n"
      "heap 0\n"),
-    (programs.READS,
+    (small_programs.READS,
      "0 seed 0000000000000001 frames 5 out 16\n"
      "slice 1 100\n",
      "status exit 0\n"
      "steps 12\n"
      "output 0\n"
      "heap 0\n"),
-    (programs.COUNTS,
+    (small_programs.COUNTS,
      "0 seed 0000000000000001 frames 5 out 16\n"
      "slice 1 5\n",
      "status exit 3\n"
      "steps 4\n"
      "output 0\n"
      "heap 0\n"),
-    (programs.USED_AFTER_FREE,
+    (small_programs.USED_AFTER_FREE,
      "0 seed 0000000000000001 frames 6 out 16\n"
      "slice 1 100\n",
      "status fault TagCheck read addr 0x0000000012000010 ptr 1 mem 3 pc 0x0000000000010018\n"
@@ -367,7 +367,7 @@ SERVICES: list[tuple[Sequence[int], str, str]] = [
      "heap 2\n"
      "call malloc 0x0000000000000018 0x0000000000000000 = 0x0100000012000010\n"
      "call free 0x0100000012000010 0x0000000000000000 = 0x0000000000000000\n"),
-    (programs.CORRUPTS,
+    (small_programs.CORRUPTS,
      "0 seed 0000000000000001 frames 6 out 16\n"
      "slice 1 100\n",
      "status abort HeaderCorrupt ptr 0x0100000012000010 pc 0x000000000001001c\n"
@@ -375,7 +375,7 @@ SERVICES: list[tuple[Sequence[int], str, str]] = [
      "output 0\n"
      "heap 1\n"
      "call malloc 0x0000000000000018 0x0000000000000000 = 0x0100000012000010\n"),
-    (programs.FORGES_A_CLASS,
+    (small_programs.FORGES_A_CLASS,
      "0 seed 0000000000000001 frames 6 out 16\n"
      "slice 1 100\n",
      "status abort NotABlock ptr 0x0100000012000010 pc 0x0000000000010024\n"
@@ -383,7 +383,7 @@ SERVICES: list[tuple[Sequence[int], str, str]] = [
      "output 0\n"
      "heap 1\n"
      "call malloc 0x0000000000000018 0x0000000000000000 = 0x0100000012000010\n"),
-    (programs.PAGES_AFTER_ONE,
+    (small_programs.PAGES_AFTER_ONE,
      "0 seed 0000000000000001 frames 5 out 16\n"
      "slice 1 100\n",
      "status exit 0\n"
@@ -391,7 +391,7 @@ SERVICES: list[tuple[Sequence[int], str, str]] = [
      "output 0\n"
      "heap 1\n"
      "call malloc 0x0000000000000018 0x0000000000000000 = 0x0000000000000000\n"),
-    (programs.PAGES_AFTER_ONE,
+    (small_programs.PAGES_AFTER_ONE,
      "0 seed 0000000000000001 frames 6 out 16\n"
      "slice 1 100\n",
      "status exit 0\n"
@@ -399,7 +399,7 @@ SERVICES: list[tuple[Sequence[int], str, str]] = [
      "output 0\n"
      "heap 1\n"
      "call malloc 0x0000000000000018 0x0000000000000000 = 0x0100000012000010\n"),
-    (programs.PAGES_AFTER_ONE,
+    (small_programs.PAGES_AFTER_ONE,
      "0 seed 0000000000000001 frames 7 out 16\n"
      "slice 1 100\n",
      "status exit 1\n"
@@ -407,7 +407,7 @@ SERVICES: list[tuple[Sequence[int], str, str]] = [
      "output 0\n"
      "heap 1\n"
      "call malloc 0x0000000000000018 0x0000000000000000 = 0x0100000012000010\n"),
-    (programs.GROWS,
+    (small_programs.GROWS,
      "0 seed 0000000000000001 frames 7 out 16\n"
      "slice 1 100\n",
      "status exit 0\n"
@@ -417,7 +417,7 @@ SERVICES: list[tuple[Sequence[int], str, str]] = [
      "call malloc 0x0000000000000018 0x0000000000000000 = 0x0100000012000010\n"
      "call realloc 0x0100000012000010 0x0000000000000030 = 0x0100000012000010\n"
      "call realloc 0x0100000012000010 0x0000000000000031 = 0x0100000013000010\n"),
-    (programs.SHRINKS_TWICE,
+    (small_programs.SHRINKS_TWICE,
      "0 seed 0000000000000001 frames 7 out 16\n"
      "slice 1 100\n",
      "status abort InvalidState ptr 0x0100000012000010 pc 0x0000000000010020\n"
@@ -426,7 +426,7 @@ SERVICES: list[tuple[Sequence[int], str, str]] = [
      "heap 2\n"
      "call malloc 0x0000000000000018 0x0000000000000000 = 0x0100000012000010\n"
      "call realloc 0x0100000012000010 0x0000000000000000 = 0x0000000000000000\n"),
-    (programs.LARGE_FREED,
+    (small_programs.LARGE_FREED,
      "0 seed 0000000000000001 frames 60 out 16\n"
      "slice 1 100\n"
      "slice 1 100\n",
@@ -504,7 +504,7 @@ def test_sessions(host: pathlib.Path, tmp_path: pathlib.Path, frames: int,
 def test_refused_events(host: pathlib.Path, tmp_path: pathlib.Path,
                         frames: int, script: str, report: str) -> None:
     """What is refused is reported first, and changes nothing."""
-    make_image(tmp_path / "whole.elf", [f"{word:08x}" for word in programs.HI])
+    make_image(tmp_path / "whole.elf", [f"{word:08x}" for word in small_programs.HI])
     (tmp_path / "cut.elf").write_bytes((tmp_path / "whole.elf").read_bytes()[:155])
     (tmp_path / "script").write_text(script)
     words: list[Word] = [host, "--frames", str(frames), "script", "whole.elf", "cut.elf"]
@@ -524,14 +524,14 @@ def test_the_65th_heap_call(host: pathlib.Path, tmp_path: pathlib.Path) -> None:
     script = ADMIT.replace("slice 1 100", "slice 1 200")
     none = f"0x{0:016x}"
     calls = f"call usable_size {none} {none} = {none}\n" * 64
-    ran = session(host, tmp_path, 11, script, [programs.CALLS_65_TIMES])
+    ran = session(host, tmp_path, 11, script, [small_programs.CALLS_65_TIMES])
     assert_reports(ran, f"tenant 1\nstatus exit 0\nsteps 199\noutput 0\nheap 65\n{calls}end\n")
 
 
 def test_report_to_a_full_file(host: pathlib.Path, tmp_path: pathlib.Path) -> None:
     """Where a file takes fewer bytes than the report has, it has the report's first bytes."""
-    report = SESSIONS[1][3].encode().replace(b"output 1 48", b"output 2 4869")
-    make_image(tmp_path / "1.elf", [f"{word:08x}" for word in programs.HI])
+    report = HI_REPORT.encode()
+    make_image(tmp_path / "1.elf", [f"{word:08x}" for word in small_programs.HI])
     (tmp_path / "script").write_text(ADMIT)
     for limit in range(len(report) + 1):
         with open(tmp_path / "report", "wb") as out:
@@ -584,10 +584,10 @@ stop 7
 """
 
 
-@pytest.mark.parametrize("name", programs.NAMES)
+@pytest.mark.parametrize("name", small_programs.NAMES)
 def test_alone_and_beside_others(host: pathlib.Path, tmp_path: pathlib.Path, name: str) -> None:
     """A tenant's lines are the whole report where it is alone, and the last lines where not."""
-    files = [getattr(programs, name), programs.LARGE_FREED, programs.UNTAGGED, programs.CORRUPTS]
+    files = [getattr(programs, name), small_programs.LARGE_FREED, small_programs.UNTAGGED, small_programs.CORRUPTS]
     alone = session(host, tmp_path, 200, ALONE, files)
     beside = session(host, tmp_path, 4000, BESIDE, files)
     assert (alone.status, beside.status) == (0, 0)
@@ -607,7 +607,7 @@ def test_services_at_their_edges(host: pathlib.Path, tmp_path: pathlib.Path,
                                  last: tuple[int, int, int], status: str) -> None:
     """A tenant makes the calls that its input has, writes what each answers, and ends by the last,
     behind which the input has eight bytes more."""
-    make_image(tmp_path / "1.elf", [f"{word:08x}" for word in programs.CALLS_FROM_INPUT])
+    make_image(tmp_path / "1.elf", [f"{word:08x}" for word in small_programs.CALLS_FROM_INPUT])
     made = [in_bytes(call[:3]) for call in calls]
     (tmp_path / "input").write_bytes(b"".join(made) + in_bytes([*last, 0]))
     (tmp_path / "script").write_text(

@@ -163,15 +163,16 @@ def page_table(text: str) -> list[str]:
     return lines[first:last]
 
 
-def differences(held: list[str], new: list[str]) -> list[str]:
-    """The rows of the page that differ in a column that both have; sums are not compared."""
-    wrong = []
+def differences(held: list[str], new: list[str]) -> set[str]:
+    """The cells of the page that differ, where both have a tool; sums are not compared."""
+    wrong = set()
     for old, line in zip(held[:-1], new[:-1]):
-        pairs = list(zip(old.split("|"), line.split("|")))
-        if any(a != b and ABSENT not in (a.strip(), b.strip()) for a, b in pairs):
-            wrong.append(f"page: {old}\nrun:  {line}")
+        pairs = zip(old.split("|"), line.split("|"))
+        for column, (a, b) in enumerate(pairs):
+            if a != b and ABSENT not in (a.strip(), b.strip()):
+                wrong.add(f"column {column}: page: {old}: run:{b}")
     if len(held) != len(new):
-        wrong.append(f"the page has {len(held)} rows, the run {len(new)}")
+        wrong.add(f"the page has {len(held)} rows, the run {len(new)}")
     return wrong
 
 
@@ -190,11 +191,10 @@ def main() -> None:
         return
     wrong = differences(held, new)
     if wrong:
-        # What memcheck says of a write beyond an array of the stack is chance: rows differ twice.
-        again = differences(held, table(rows()))
-        wrong = [row for row in again if row in wrong]
+        # What memcheck says of a write beyond an array of the stack is chance: a cell differs twice.
+        wrong &= differences(held, table(rows()))
     if wrong:
-        sys.exit("\n".join(["checking.py: the page differs", *wrong]))
+        sys.exit("\n".join(["checking.py: the page differs", *sorted(wrong)]))
 
 
 if __name__ == "__main__":
