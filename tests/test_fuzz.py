@@ -218,7 +218,7 @@ def both(text, slices=(1 << 20,)):
     plain, counts = fuzz.run(text, slices), fuzz.counts
     exact = fuzz.run(text, slices, exact=True)
     assert fuzz.counts == counts and plain.forbidden is None
-    assert dataclasses.replace(exact, forbidden=None) == plain
+    assert repr(dataclasses.replace(exact, forbidden=None)) == repr(plain)
     return plain, exact
 
 for text in (b"", b"red,green,", b"#", b"0123456789abcdef,", b",,,"):
@@ -275,19 +275,19 @@ for asynchronous in (False, True):
         text[drawn.randrange(4, len(text))] = drawn.randrange(256)
         plain, counts = fuzz.run(text), fuzz.counts
         exact = fuzz.run(text, exact=True)
-        assert fuzz.counts == counts and dataclasses.replace(exact, forbidden=None) == plain
+        assert fuzz.counts == counts
+        assert repr(dataclasses.replace(exact, forbidden=None)) == repr(plain)
         if not asynchronous and exact.forbidden:
             seen.setdefault(exact.forbidden.pc, (bytes(text), exact.forbidden))
 for text, found in list(seen.values())[:3]:
-    print(text.hex(), hex(found.pc), hex(found.address), found.step)
+    print(f"{{text.hex()}} {{found.pc:#018x}} {{found.address:#018x}} {{found.step}}")
 """).splitlines()
     assert said
     for line in said:
-        text, pc, address, step = line.split()
+        text, *words = line.split()
         (tmp_path / "input").write_bytes(bytes.fromhex(text))
         report = run([alone, "--exact", "--input", tmp_path / "input", image], seconds=120).errors
-        for word in (f"{int(pc, 16):#018x}", address, step):
-            assert word in report, (word, report)
+        assert all(re.search(rf"\b{word}\b", report) for word in words), (words, report)
 
 
 def test_fuzzers_by_exact_runs(shared: pathlib.Path, tmp_path: pathlib.Path) -> None:
