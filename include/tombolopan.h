@@ -5,9 +5,9 @@
  *
  * All memory is the caller's and is lent to each call: files, an array of places for pages, the tag
  * state, the registers. The library keeps nothing between calls but the machine that tb_fuzz_new
- * makes and tb_fuzz_free frees (tb_fuzz), and only these, tb_fuzz_run, tb_session, tb_alone,
- * tb_machine_acts, tb_machine_pages, tb_heap_calls, tb_heap_replay, tb_heap_pages and tb_heap_live
- * allocate, the last eight for their own time. So the caller may read and write all that it lends
+ * makes and tb_fuzz_free frees (tb_fuzz), and only these, tb_fuzz_run, tb_fuzz_run_exact,
+ * tb_session, tb_alone, tb_machine_acts, tb_machine_pages, tb_heap_calls, tb_heap_replay,
+ * tb_heap_pages and tb_heap_live allocate, the last eight for their own time. So the caller may read and write all that it lends
  * between calls, copy it, or place it in a file. Every content has a meaning:
  *
  * - A place with `mapped` 0 is free; zero bytes are free places and the synchronous mode.
@@ -158,6 +158,13 @@ enum tb_act {
     TB_ACT_LOAD_TAG = 6 /* reads the allocation tag of the granule that holds `addr` */
 };
 
+/* What an access does that the bounds of chunks forbid; 0 is no such access. */
+enum tb_trespass {
+    TB_PAST_SIZE = 1, /* it goes past the size of a live chunk, in its last granule */
+    TB_FREED = 2,     /* it touches a chunk that was freed */
+    TB_NO_CHUNK = 3   /* it touches bytes of the heap that are no chunk's */
+};
+
 // End of what tools/border.py writes.
 
 /* A place for a page. */
@@ -302,6 +309,22 @@ typedef struct tb_fuzz_input {
 } tb_fuzz_input;
 
 /*
+ * What an exact run found: its first access to bytes of the heap that no live chunk has, or that
+ * the chunk there has not. Zero but for `missed` where it found none.
+ */
+typedef struct tb_fuzz_finding {
+    uint64_t step;    /* the number of the instruction among the tenant's, from 1 */
+    uint64_t pc;      /* the address of the instruction */
+    uint64_t addr;    /* the plain address of the first such byte */
+    uint64_t pointer; /* the address that was used, with the pointer's tag */
+    uint64_t size;    /* how many bytes were accessed */
+    uint32_t kind;    /* tb_trespass; 0 where there was none */
+    uint32_t write;   /* 1 where the bytes were written, else 0 */
+    uint32_t missed;  /* 1 where memory for a chunk was refused, and nothing judged from there on */
+    uint32_t unused;  /* 0 */
+} tb_fuzz_finding;
+
+/*
  * A heap call in a list, whose arguments may be the answers of earlier ones: `first_of` and
  * `second_of` are 0, or the number of an earlier call of the list, from 1 on, whose answer is added
  * to call.first or call.second, modulo 2^64.
@@ -433,6 +456,7 @@ TB_ASSERT(sizeof(tb_machine_end) == 360 && offsetof(tb_machine_end, regs) == 88)
 TB_ASSERT(sizeof(tb_page_entry) == 16 && offsetof(tb_page_entry, attrs) == 8);
 TB_ASSERT(sizeof(tb_fuzz) == 8);
 TB_ASSERT(sizeof(tb_fuzz_input) == 40 && offsetof(tb_fuzz_input, saturating) == 32);
+TB_ASSERT(sizeof(tb_fuzz_finding) == 56 && offsetof(tb_fuzz_finding, kind) == 40);
 
 /* The version of these layouts and calls, TB_VERSION. */
 uint32_t tb_version(void);
@@ -493,6 +517,17 @@ uint32_t tb_fuzz_new(const tb_terms *terms, tb_fuzz *fuzz, tb_alone_end *end);
  */
 uint32_t tb_fuzz_run(tb_fuzz *fuzz, const tb_fuzz_input *run, uint8_t *map, size_t map_length,
                      tb_alone_end *end);
+
+/*
+ * Does what tb_fuzz_run does, and tells in `finding` the first access of the run that goes beyond
+ * the bytes of the tenant's chunks, within a granule too, whatever the tags: of a load or a store
+ * that completed, or of a service that read or wrote. The chunks are those that its heap calls
+ * made, the setup's among them; accesses of the setup are not judged. The run goes on behind it: it
+ * leaves the same machine, the same counts and the same `end`. Where no run was done, `finding` is
+ * zero. It takes some twenty times as long for each step.
+ */
+uint32_t tb_fuzz_run_exact(tb_fuzz *fuzz, const tb_fuzz_input *run, uint8_t *map,
+                           size_t map_length, tb_alone_end *end, tb_fuzz_finding *finding);
 
 /* Frees the machine, if there is one; then `fuzz` holds none. */
 void tb_fuzz_free(tb_fuzz *fuzz);
@@ -1056,6 +1091,17 @@ static inline const char *tb_tenant_status_name(uint32_t status) {
     case TB_STATUS_BREAK: return "break";
     case TB_STATUS_ASYNC: return "async";
     case TB_STATUS_ABORT: return "abort";
+    default: return "unknown";
+    }
+}
+
+/* The name of a tb_trespass; "none" for 0. The text stays. */
+static inline const char *tb_trespass_name(uint32_t kind) {
+    switch (kind) {
+    case 0: return "none";
+    case TB_PAST_SIZE: return "PastSize";
+    case TB_FREED: return "Freed";
+    case TB_NO_CHUNK: return "NoChunk";
     default: return "unknown";
     }
 }

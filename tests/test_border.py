@@ -38,13 +38,14 @@ STRUCTS = {
     "AloneEnd": ("tb_alone_end", "AloneEnd", "_AloneEnd"),
     "FuzzHandle": ("tb_fuzz", "RawFuzz", "_Fuzz"),
     "LentFuzzInput": ("tb_fuzz_input", "RawFuzzInput", "_FuzzInput"),
+    "FuzzFinding": ("tb_fuzz_finding", "FuzzFinding", "_FuzzFinding"),
 }
 CALLS = [
     "tb_version", "tb_build_info", "tb_session", "tb_alone", "tb_memory_init", "tb_map", "tb_unmap",
     "tb_read", "tb_write", "tb_load", "tb_load_tag", "tb_store_tags", "tb_step", "tb_run",
     "tb_run_until", "tb_heap_calls", "tb_heap_replay", "tb_run_traced", "tb_disassemble",
     "tb_machine_acts", "tb_machine_pages", "tb_heap_pages", "tb_heap_live", "tb_fuzz_new",
-    "tb_fuzz_run", "tb_fuzz_free",
+    "tb_fuzz_run", "tb_fuzz_run_exact", "tb_fuzz_free",
 ]
 FOLDERS = ("crates", "docs", "include", "examples", "tools")
 FIELD = r"(?<=^    pub )\w+: [^,\n]+(?=,)|(?<=^    )(?!pub )\w+: [^,\n]+(?=,)"
@@ -120,7 +121,7 @@ def test_arguments_of_another_width(name: str) -> None:
     if name not in ("tb_version", "tb_build_info", "tb_memory_init", "tb_alone", "tb_step",
                     "tb_heap_calls", "tb_heap_replay", "tb_run_traced", "tb_machine_acts",
                     "tb_machine_pages", "tb_heap_pages", "tb_heap_live", "tb_fuzz_new",
-                    "tb_fuzz_run", "tb_fuzz_free"):
+                    "tb_fuzz_run", "tb_fuzz_run_exact", "tb_fuzz_free"):
         for path, begin in places:
             assert not unnoticed(border.each_replaced(path, number, widened, begin, ")"))
 

@@ -99,11 +99,12 @@ NAMES = (
     "none unknown BadReservation ReservationTooSmall unknown unknown Short NotElf64 NotAarch64 "
     "NotExec BadHeaders Interpreter SegmentRange Overlap NoEntry",
     "none running exit fault illegal break async abort",
+    "none PastSize Freed NoChunk",
 )
 
 
 def texts_of(number: int) -> list[str]:
-    """The six texts of a number, by the names that docs/HOST.md and docs/REPORT.md have."""
+    """The seven texts of a number, by the names that docs/HOST.md and docs/REPORT.md have."""
     lists = [names.replace("+", "\0").split(" ") for names in NAMES]
     return [(it[number] if number < len(it) else "unknown").replace("\0", " ") for it in lists]
 
@@ -264,7 +265,7 @@ def test_each_call_is_made() -> None:
     """The lines of this file make every call of the library and of the header."""
     text = (ROOT / "include" / "tombolopan.h").read_text(encoding="utf-8")
     declared = set(re.findall(r"^(?:static inline )?[\w *]*?\b(tb_\w+)\(", text, re.M))
-    assert len(declared) == 26 + 24
+    assert len(declared) == 27 + 25
     source = (DRIVERS / "calls.c").read_text(encoding="utf-8")
     source += (DRIVERS / "fuzzed.c").read_text(encoding="utf-8")
     assert declared <= set(re.findall(r"\b(tb_\w+)\(", source))

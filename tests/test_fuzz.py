@@ -19,9 +19,10 @@ from tests.test_python_package import PACKAGE, told
 IMAGE = program(*call(3, 24), 0xAA0003E9, *call(9), 0xAA0903E0, move(1, 16), move(8, 2), 0xD4000001,
                 0x39400120, move(8, 0), 0xD4000001)
 EXIT = 2
+DONE = "print('done')\n"
 BEGIN = f"""
 import ctypes
-from tombolopan.abi import _library, _Fuzz, _FuzzInput, _AloneEnd
+from tombolopan.abi import _library, _Fuzz, _FuzzInput, _FuzzFinding, _AloneEnd
 image = bytes.fromhex('{IMAGE.hex()}')
 fuzz = Fuzz(image, pages=64, room=16)
 """
@@ -55,7 +56,11 @@ def run(machine, length):
     counts = (ctypes.c_uint8 * max(length, 1))(*[7] * max(length, 1))
     code = _library.tb_fuzz_run(ctypes.byref(machine), ctypes.byref(given), counts, length,
                                 ctypes.byref(end))
-    assert end.code == code and (code == OK or bytes(counts) == bytes([7]) * len(counts))
+    found = _FuzzFinding.from_buffer_copy(bytes([7]) * ctypes.sizeof(_FuzzFinding))
+    assert end.code == code == _library.tb_fuzz_run_exact(
+        ctypes.byref(machine), ctypes.byref(given), counts, length, ctypes.byref(end),
+        ctypes.byref(found)) == end.code
+    assert not any(bytes(found)) and (code == OK or set(counts) == {7})
     return code
 
 assert run(none, 256) == NO_MACHINE and end.status.status == 0 and not none.machine
@@ -129,7 +134,10 @@ def test_from_c_and_rust(shared: pathlib.Path, variant: str) -> None:
         shared, variant, DRIVERS / "fuzzed.c")
     ran = run([*it.words, image], extra=it.extra)
     assert (ran.status, ran.errors) == (0, "")
-    lines = [[int(word) for word in line.split()[1:]] for line in ran.output.splitlines()]
+    told_lines = [line.split(maxsplit=1) for line in ran.output.splitlines()]
+    exact = [text for what, text in told_lines if what == "exact"]
+    assert exact == [text for what, text in told_lines if what == "run"]
+    lines = [[int(word) for word in text.split()] for what, text in told_lines if what != "exact"]
     # A new machine, a run without one, one that is refused, a map that may not be.
     ok, none, refused, bad = 0, 14, 12, 8
     codes = [none, refused, none, ok, ok, ok, ok, bad, bad, ok, ok, none, ok]
@@ -196,6 +204,106 @@ def turn():
     with Fuzz(image, pages=64) as fuzz:
         fuzz.run(drawn.randbytes(60), slices=[3000])
 """ + MEASURED) == "\n"
+
+
+def test_what_no_tag_shows(shared: pathlib.Path) -> None:
+    """A byte behind a chunk, in its last granule: no tag differs, and an exact run tells of it. Its
+    end and its counts are the same, with a finding and without one."""
+    image = fuzzers.labels(shared)
+    assert told(shared, f"""
+import dataclasses, pathlib
+fuzz = Fuzz(pathlib.Path({str(image)!r}).read_bytes())
+
+def both(text, slices=(1 << 20,)):
+    plain, counts = fuzz.run(text, slices), fuzz.counts
+    exact = fuzz.run(text, slices, exact=True)
+    assert fuzz.counts == counts and plain.forbidden is None
+    assert repr(dataclasses.replace(exact, forbidden=None)) == repr(plain)
+    return plain, exact
+
+for text in (b"", b"red,green,", b"#", b"0123456789abcdef,", b",,,"):
+    plain, exact = both(text)
+    assert plain == exact and not exact.is_crash
+plain, exact = both(b"red,ab#defg,")
+found = exact.forbidden
+assert (plain.status, plain.number) == (TenantStatus.EXIT, 2)
+assert exact.is_crash and not plain.is_crash
+assert (found.kind, found.size, found.write) == (Trespass.PAST_SIZE, 1, True)
+assert found.address % 16 == 7 and found.pointer % (1 << 56) == found.address
+assert 0 < found.step < exact.steps
+# The first of several is told, whatever the slices, and no finding stays.
+assert both(b"red,ab#defg,#,##,")[1].forbidden == found
+assert both(b"red,ab#defg,", [7] * 200)[1].forbidden == found
+assert both(b"red,green,")[1].forbidden is None
+# Where the label fills its granules, the tag differs.
+plain, exact = both(b"0123456789abcde#,")
+assert plain.status == TenantStatus.FAULT and exact.forbidden is None
+""" + DONE) == "done\n"
+
+
+def test_exact_runs_know_the_setup(shared: pathlib.Path) -> None:
+    """The chunks of the setup are known: an access in one is allowed, one to its header is not."""
+    begin = [*call(3, 24), 0xAA0003E9, *call(9)]
+    header = program(*begin, 0x9240DD21, 0xF85F0022, move(8, 0), 0xD4000001)
+    assert told(shared, f"""
+header = bytes.fromhex('{header.hex()}')
+for image, kind in ((bytes.fromhex('{IMAGE.hex()}'), None), (header, Trespass.NO_CHUNK)):
+    with Fuzz(image, pages=64, room=16) as fuzz:
+        for _ in range(3):
+            run = fuzz.run(b"ABC", exact=True)
+            found = run.forbidden
+            assert run.status == TenantStatus.EXIT
+            assert (found.kind if found else None) == kind
+assert (found.step, found.size, found.write) == (8, 8, False) and found.address % 16 == 0
+""" + DONE) == "done\n"
+
+
+def test_exact_runs_of_changed_inputs(shared: pathlib.Path, alone: pathlib.Path,
+                                      tmp_path: pathlib.Path) -> None:
+    """Over cards with bytes changed: ends and counts as without, in both tag modes; and what is
+    found first is what mte_run finds."""
+    image = fuzzers.cards(shared)
+    said = told(shared, f"""
+import dataclasses, pathlib
+drawn, image = random.Random(5), pathlib.Path({str(image)!r}).read_bytes()
+cards = {[text for text, _ in PLANTED.values()]!r}
+seen = dict()
+for asynchronous in (False, True):
+    fuzz = Fuzz(image, asynchronous=asynchronous)
+    for _ in range(400):
+        text = bytearray(drawn.choice(cards))
+        text[drawn.randrange(4, len(text))] = drawn.randrange(256)
+        plain, counts = fuzz.run(text), fuzz.counts
+        exact = fuzz.run(text, exact=True)
+        assert fuzz.counts == counts
+        assert repr(dataclasses.replace(exact, forbidden=None)) == repr(plain)
+        if not asynchronous and exact.forbidden:
+            seen.setdefault(exact.forbidden.pc, (bytes(text), exact.forbidden))
+for text, found in list(seen.values())[:3]:
+    print(f"{{text.hex()}} {{found.pc:#018x}} {{found.address:#018x}} {{found.step}}")
+""").splitlines()
+    assert said
+    for line in said:
+        text, *words = line.split()
+        (tmp_path / "input").write_bytes(bytes.fromhex(text))
+        report = run([alone, "--exact", "--input", tmp_path / "input", image], seconds=120).errors
+        assert all(re.search(rf"\b{word}\b", report) for word in words), (words, report)
+
+
+def test_fuzzers_by_exact_runs(shared: pathlib.Path, tmp_path: pathlib.Path) -> None:
+    """A finding is a crash for LLVM's fuzzer and for AFL++ where EXACT is set."""
+    need("clang", "ld.lld", "afl-clang-fast")
+    text = tmp_path / "label"
+    text.write_bytes(b"red,ab#defg,")
+    for name in ("libfuzzer", "afl"):
+        folder = fuzzers.fuzzers(shared, name)
+        words: list[Word] = [folder / name, text] if name == "libfuzzer" else [folder / name]
+        tenant = {"TENANT": str(folder / "labels.elf")}
+        plain = fuzzers.fuzz(folder, words, cwd=tmp_path, given=text.read_bytes(), **tenant)
+        assert plain.status == 0, plain.errors
+        exact = fuzzers.fuzz(folder, words, cwd=tmp_path, given=text.read_bytes(), EXACT="1",
+                             **tenant)
+        assert exact.status != 0 and "PastSize: 1 bytes written" in exact.errors
 
 
 @pytest.mark.parametrize("bug", sorted(PLANTED))

@@ -88,6 +88,10 @@ pub const TB_ACT_LOAD: u32 = 4;
 pub const TB_ACT_STORE: u32 = 5;
 pub const TB_ACT_LOAD_TAG: u32 = 6;
 
+pub const TB_PAST_SIZE: u32 = 1;
+pub const TB_FREED: u32 = 2;
+pub const TB_NO_CHUNK: u32 = 3;
+
 // End of what tools/border.py writes.
 
 // Written by tools/border.py: the texts
@@ -184,6 +188,17 @@ pub fn tenant_status_name(status: u32) -> &'static str {
         TB_STATUS_BREAK => "break",
         TB_STATUS_ASYNC => "async",
         TB_STATUS_ABORT => "abort",
+        _ => "unknown",
+    }
+}
+
+/// The name of `FuzzFinding::kind`; "none" for 0.
+pub fn trespass_name(kind: u32) -> &'static str {
+    match kind {
+        0 => "none",
+        TB_PAST_SIZE => "PastSize",
+        TB_FREED => "Freed",
+        TB_NO_CHUNK => "NoChunk",
         _ => "unknown",
     }
 }
@@ -413,6 +428,22 @@ struct RawFuzzInput {
     unused: u32,
 }
 
+/// What an exact run found: its first access to bytes of the heap that no live chunk has, or that
+/// the chunk there has not. Zero but for `missed` where it found none.
+#[repr(C)]
+#[derive(Clone, Copy, Debug, Default, PartialEq, Eq)]
+pub struct FuzzFinding {
+    pub step: u64,
+    pub pc: u64,
+    pub addr: u64,
+    pub pointer: u64,
+    pub size: u64,
+    pub kind: u32,
+    pub write: u32,
+    pub missed: u32,
+    pub unused: u32,
+}
+
 /// Something that is done to a machine between its slices, or a slice.
 #[repr(C)]
 #[derive(Clone, Copy, Debug, Default)]
@@ -499,6 +530,7 @@ const _: () = assert!(size_of::<RawTerms>() == 72 && size_of::<AloneEnd>() == 88
 const _: () = assert!(size_of::<MachineAct>() == 64 && size_of::<PageEntry>() == 16);
 const _: () = assert!(size_of::<MachineEnd>() == 360);
 const _: () = assert!(size_of::<RawFuzz>() == 8 && size_of::<RawFuzzInput>() == 40);
+const _: () = assert!(size_of::<FuzzFinding>() == 56);
 
 unsafe extern "C" {
     safe fn tb_version() -> u32;
@@ -528,6 +560,14 @@ unsafe extern "C" {
         map: *mut u8,
         map_length: usize,
         end: *mut AloneEnd,
+    ) -> u32;
+    fn tb_fuzz_run_exact(
+        fuzz: *mut RawFuzz,
+        run: *const RawFuzzInput,
+        map: *mut u8,
+        map_length: usize,
+        end: *mut AloneEnd,
+        finding: *mut FuzzFinding,
     ) -> u32;
     fn tb_fuzz_free(fuzz: *mut RawFuzz);
     fn tb_machine_acts(
@@ -805,17 +845,38 @@ impl Fuzz {
     /// Runs it from its setup on, with an input, and counts its edges in `map`, of a power of two
     /// of counts from 256 to 65536; a count stays at 255.
     pub fn run(&mut self, input: &[u8], slices: &[u32], map: &mut [u8]) -> AloneEnd {
-        let raw = RawFuzzInput {
+        let raw = RawFuzzInput::of(input, slices);
+        let mut end = AloneEnd::default();
+        unsafe { tb_fuzz_run(&mut self.raw, &raw, map.as_mut_ptr(), map.len(), &mut end) };
+        end
+    }
+
+    /// The same run, and the first of its accesses that goes beyond the bytes of the tenant's
+    /// chunks, whatever the tags.
+    pub fn run_exact(
+        &mut self,
+        input: &[u8],
+        slices: &[u32],
+        map: &mut [u8],
+    ) -> (AloneEnd, FuzzFinding) {
+        let raw = RawFuzzInput::of(input, slices);
+        let (mut end, mut found) = (AloneEnd::default(), FuzzFinding::default());
+        let (counts, length) = (map.as_mut_ptr(), map.len());
+        unsafe { tb_fuzz_run_exact(&mut self.raw, &raw, counts, length, &mut end, &mut found) };
+        (end, found)
+    }
+}
+
+impl RawFuzzInput {
+    fn of(input: &[u8], slices: &[u32]) -> RawFuzzInput {
+        RawFuzzInput {
             input: input.as_ptr(),
             input_length: input.len(),
             slices: slices.as_ptr(),
             slice_count: slices.len(),
             saturating: 1,
             unused: 0,
-        };
-        let mut end = AloneEnd::default();
-        unsafe { tb_fuzz_run(&mut self.raw, &raw, map.as_mut_ptr(), map.len(), &mut end) };
-        end
+        }
     }
 }
 

@@ -1,8 +1,8 @@
 #!/usr/bin/env python3
 """Builds tenants to be fuzzed, and the fuzzers.
 
-    build.py FOLDER [--library LIBRARY.a] [--tenant cards|expat|lua]... [--fuzzer libfuzzer|afl]...
-             [--counts N]
+    build.py FOLDER [--library LIBRARY.a] [--tenant cards|labels|expat|lua]...
+             [--fuzzer libfuzzer|afl]... [--counts N]
 
 FOLDER gets NAME.elf of each tenant, the programs libfuzzer and afl, and for each tenant a corpus
 and a dictionary. Without --tenant it is cards, without --fuzzer each one whose compiler is there.
@@ -48,10 +48,20 @@ def run(words: Words) -> None:
         leave(f"{' '.join(map(str, words))}\n{ran.stdout[-3000:]}")
 
 
+def bare(folder: pathlib.Path, name: str, sources: Sequence[str]) -> None:
+    """A tenant of sources of this folder, without a C library."""
+    files = [HERE.parent / "c/start.c", *(HERE / it for it in sources)]
+    run([*BARE, "-O2", "-g", "-Wall", "-Wextra", "-o", folder / f"{name}.elf", *files])
+
+
 def cards(folder: pathlib.Path) -> None:
     """The reader of cards."""
-    files = [HERE.parent / "c/start.c", HERE / "cards_tenant.c", HERE / "cards.c"]
-    run([*BARE, "-O2", "-g", "-Wall", "-Wextra", "-o", folder / "cards.elf", *files])
+    bare(folder, "cards", ["cards_tenant.c", "cards.c"])
+
+
+def labels(folder: pathlib.Path) -> None:
+    """The keeper of labels, whose bug no tag shows."""
+    bare(folder, "labels", ["labels.c"])
 
 
 def tenant(folder: pathlib.Path, name: str, flags: Words, files: Words) -> None:
@@ -81,7 +91,7 @@ def lua(folder: pathlib.Path) -> None:
     tenant(folder, "lua", [f"-I{src}", "--stack=262144"], [src / f"{it}.c" for it in LUA])
 
 
-TENANTS = {"cards": cards, "expat": expat, "lua": lua}
+TENANTS = {"cards": cards, "labels": labels, "expat": expat, "lua": lua}
 
 
 def libfuzzer(folder: pathlib.Path, flags: Words, linked: Words) -> None:

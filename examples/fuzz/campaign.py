@@ -2,14 +2,14 @@
 """Fuzzes a tenant for a while, on one processor, and tells what was found.
 
     campaign.py FOLDER TENANT [--fuzzer libfuzzer|afl] [--seconds N] [--until N] [--seed N]
-                [--program MTE_RUN]
+                [--program MTE_RUN] [--exact]
 
 FOLDER is one that build.py has filled, TENANT the name of a tenant in it. The fuzzer runs for N
 seconds (60), or until crashes of N kinds are found; SEED is the seed of its own random numbers.
-FOLDER/TENANT.FUZZER has what it keeps. It prints its executions, by the second and by the second of
-its processor time, what it counts of edges, and of each kind of crash the first input, when it was
-found and by mte_run where: a kind is a cause, and the innermost source lines of the tenant where it
-ended and where the chunk was freed.
+By --exact accesses are held to the bytes of chunks. FOLDER/TENANT.FUZZER has what it keeps. It
+prints its executions, by the second and by the second of its processor time, what it counts of
+edges, and of each kind of crash the first input, when it was found and by mte_run where: a kind is
+a cause, and the innermost source lines of the tenant where it ended and where the chunk was freed.
 """
 import argparse
 import os
@@ -34,7 +34,9 @@ class Campaign:
 
     def __init__(self, wanted: argparse.Namespace) -> None:
         self.folder, self.tenant = wanted.folder.resolve(), wanted.tenant
-        self.until, self.program, self.seed = wanted.until, wanted.program, wanted.seed
+        self.until, self.seed = wanted.until, wanted.seed
+        self.is_exact = int(wanted.exact)
+        self.program = [wanted.program, *["--exact"] * self.is_exact]
         self.out = self.folder / f"{self.tenant}.{wanted.fuzzer}"
         shutil.rmtree(self.out, ignore_errors=True)
         self.out.mkdir()
@@ -46,7 +48,8 @@ class Campaign:
     def start(self, words: list[str]) -> subprocess.Popen[str]:
         """Starts the fuzzer; what it says goes to a file."""
         extra = {"TENANT": str(self.image), "AFL_NO_UI": "1", "AFL_SKIP_CPUFREQ": "1",
-                 "AFL_NO_AFFINITY": "1", "AFL_I_DONT_CARE_ABOUT_MISSING_CRASHES": "1"}
+                 "AFL_NO_AFFINITY": "1", "AFL_I_DONT_CARE_ABOUT_MISSING_CRASHES": "1",
+                 "EXACT": str(self.is_exact)}
         with open(self.out / "said", "a", encoding="utf-8") as said:
             return subprocess.Popen(words, stdout=said, stderr=said, text=True,
                                     env={**os.environ, **extra})
@@ -66,7 +69,7 @@ class Campaign:
 
     def kind(self, crash: pathlib.Path) -> str:
         """What mte_run says of a crash."""
-        _, said = replay.told([self.program, "--input", str(crash), str(self.image)])
+        _, said = replay.told([*self.program, "--input", str(crash), str(self.image)])
         cause = re.search(r"^Cause: ([^,\n]*?)(,| of a| into a|$)", said, re.M)
         if not cause:
             return "no crash by mte_run"
@@ -136,6 +139,7 @@ def main() -> None:
     parser.add_argument("--until", type=int, default=0)
     parser.add_argument("--seed", type=int, default=1)
     parser.add_argument("--program", default="mte_run")
+    parser.add_argument("--exact", action="store_true")
     wanted = parser.parse_args()
     if not shutil.which(wanted.program):
         sys.exit(f"campaign.py: {wanted.program} is not there (--program)")

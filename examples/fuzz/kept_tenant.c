@@ -1,13 +1,16 @@
 #include "kept_tenant.h"
 
+#include <inttypes.h>
 #include <stdio.h>
 #include <stdlib.h>
 #include <tombolopan.h>
 
 static tb_fuzz tenant;
 static tb_alone_end end;
+static tb_fuzz_finding finding;
 static uint64_t setup_steps;
 static uint32_t steps;
+static bool is_exact;
 
 static _Noreturn void give_up(const char *what, const char *why)
 {
@@ -54,7 +57,16 @@ void tenant_load(void)
         give_up(name, "does not yield in its setup (SETUP)");
     setup_steps = end.steps;
     steps = (uint32_t)number("STEPS", 10, 1000000);
+    is_exact = number("EXACT", 10, 0) != 0;
     free(image);
+}
+
+static void tell_finding(void)
+{
+    fprintf(stderr, "%s: %" PRIu64 " bytes %s at %#" PRIx64 ", of which %#" PRIx64
+            " is forbidden, by instruction %" PRIu64 " at %#" PRIx64 "\n",
+            tb_trespass_name(finding.kind), finding.size, finding.write ? "written" : "read",
+            finding.pointer, finding.addr, finding.step, finding.pc);
 }
 
 int tenant_run(const uint8_t *input, size_t length, uint8_t *map, size_t map_length,
@@ -62,9 +74,15 @@ int tenant_run(const uint8_t *input, size_t length, uint8_t *map, size_t map_len
 {
     static const uint8_t no_input[1];
     tb_fuzz_input run = {length ? input : no_input, length, &steps, 1, (uint32_t)saturating, 0};
-    if (tb_fuzz_run(&tenant, &run, map, map_length, &end) != TB_OK)
-        give_up("tb_fuzz_run", tb_text(end.code));
-    return end.status.status >= TB_STATUS_FAULT;
+    if (is_exact)
+        tb_fuzz_run_exact(&tenant, &run, map, map_length, &end, &finding);
+    else
+        tb_fuzz_run(&tenant, &run, map, map_length, &end);
+    if (end.code != TB_OK || finding.missed)
+        give_up("a run", tb_text(finding.missed ? TB_OUT_OF_MEMORY : end.code));
+    if (finding.kind)
+        tell_finding();
+    return finding.kind || end.status.status >= TB_STATUS_FAULT;
 }
 
 uint64_t tenant_steps(void)

@@ -13,12 +13,14 @@
  *     SEED     the seed of its tags and its heap, in hexadecimal (1)
  *     PAGES    its reservation (256)
  *     STEPS    how many instructions a run attempts at most (1,000,000)
+ *     EXACT    1: each access is held to the bytes of the tenant's chunks, whatever the tags (0)
  */
 void tenant_load(void);
 
 /*
  * Runs it with an input, and counts its edges in a map, of a power of two of counts from 256 to
- * 65536. Whether it ended with a fault, an abort of the heap, an illegal word or a break.
+ * 65536. Whether it ended with a fault, an abort of the heap, an illegal word or a break, or had an
+ * access that is forbidden where it is to be exact, which standard error tells then.
  */
 int tenant_run(const uint8_t *input, size_t length, uint8_t *map, size_t map_length,
                int saturating);

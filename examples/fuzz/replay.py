@@ -1,12 +1,12 @@
 #!/usr/bin/env python3
 """Replays the crashes of a fuzzer: each ends the same way each time, and is explained.
 
-    replay.py [--times N] [--seed HEX] [--program MTE_RUN] IMAGE CRASH...
+    replay.py [--times N] [--seed HEX] [--program MTE_RUN] [--exact] IMAGE CRASH...
 
 Runs each crash N times (1000) by mte_run, from a start of its own, and compares all that it says,
 byte for byte. A line for each crash: its cause, the source line of the access, of the call that
 made the chunk and of the one that freed it. Exit status 1: a run said something else, or was no
-crash. SEED is that of the fuzzer.
+crash. SEED is that of the fuzzer; --exact is for crashes of one with EXACT=1.
 """
 import argparse
 import pathlib
@@ -52,10 +52,11 @@ def main() -> None:
     parser.add_argument("--times", type=int, default=1000)
     parser.add_argument("--seed", default="1")
     parser.add_argument("--program", default="mte_run")
+    parser.add_argument("--exact", action="store_true")
     wanted = parser.parse_args()
+    program = [wanted.program, *["--exact"] * wanted.exact, "--seed", wanted.seed.rjust(16, "0")]
     for crash in wanted.crash:
-        words = [wanted.program, "--seed", wanted.seed.rjust(16, "0"), "--input", str(crash),
-                 str(wanted.image)]
+        words = [*program, "--input", str(crash), str(wanted.image)]
         first = told(words)
         if first[0] <= SIGNAL:
             sys.exit(f"{crash}: no crash (status {first[0]})")

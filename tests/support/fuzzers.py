@@ -37,6 +37,11 @@ def cards(shared: pathlib.Path) -> pathlib.Path:
     return bare_tenant(shared, "cards", "cards_tenant.c", "cards.c")
 
 
+def labels(shared: pathlib.Path) -> pathlib.Path:
+    """The tenant whose planted bug no tag shows."""
+    return bare_tenant(shared, "labels", "labels.c")
+
+
 def field(kind: str, text: bytes = b"") -> bytes:
     """A field of a card."""
     return kind.encode() + bytes([len(text)]) + text
@@ -62,16 +67,16 @@ def fuzzers(shared: pathlib.Path, name: str) -> pathlib.Path:
 
     def fill(path: pathlib.Path) -> None:
         made = path.with_name(f"{path.name}.new")
-        succeed([sys.executable, FUZZ / "build.py", made, "--library", archive, "--fuzzer", name],
-                seconds=300)
+        succeed([sys.executable, FUZZ / "build.py", made, "--library", archive, "--fuzzer", name,
+                 "--tenant", "cards", "--tenant", "labels"], seconds=300)
         made.rename(path)
 
     return make_once(shared / f"fuzz-{name}", fill)
 
 
 def fuzz(folder: pathlib.Path, words: list[Word], cwd: Optional[pathlib.Path] = None,
-         seconds: int = 120, **variables: str) -> Ran:
+         seconds: int = 120, given: bytes = b"", **variables: str) -> Ran:
     """What a fuzzer says of the cards."""
     extra = {"TENANT": str(folder / "cards.elf"), "AFL_NO_UI": "1", "AFL_SKIP_CPUFREQ": "1",
              "AFL_NO_AFFINITY": "1", "AFL_I_DONT_CARE_ABOUT_MISSING_CRASHES": "1", **variables}
-    return run(words, cwd=cwd or folder, extra=extra, seconds=seconds)
+    return run(words, cwd=cwd or folder, stdin=given, extra=extra, seconds=seconds)

@@ -141,6 +141,13 @@ pub const NOT_A_BLOCK: u64 = 5;
 /// Its block is free.
 pub const ALREADY_FREE: u64 = 6;
 
+/// The access goes past the size of a live chunk, in the chunk's last granule.
+pub const PAST_SIZE: u32 = 1;
+/// It touches a chunk that was freed.
+pub const FREED: u32 = 2;
+/// It touches bytes of the heap that are no chunk's.
+pub const NO_CHUNK: u32 = 3;
+
 /// Page numbers below it have addresses: 2^56 / 4096.
 pub const PAGES: u64 = 1 << 44;
 
@@ -239,4 +246,11 @@ pub fn aborts_in_digits()
     ensures invalid_state { INVALID_STATE ≡ 4 }
     ensures not_a_block { NOT_A_BLOCK ≡ 5 }
     ensures already_free { ALREADY_FREE ≡ 6 }
+{}
+
+/// What an access does that a chunk's bounds forbid in digits, as `tombolopan.h` has it.
+pub fn trespasses_in_digits()
+    ensures past_size { PAST_SIZE ≡ 1 }
+    ensures freed { FREED ≡ 2 }
+    ensures no_chunk { NO_CHUNK ≡ 3 }
 {}

@@ -1,3 +1,4 @@
 pub mod Blocks
 pub mod Chunks
 pub mod Extents
+pub mod KeptChunks

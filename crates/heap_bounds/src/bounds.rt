@@ -1,14 +1,16 @@
 //! The bytes that a tenant may access in its heap: those of its live chunks, to the byte.
 
-ghost use Rattle.std.specs.Prelude.{◌≡◌, ◌≤◌, ◌↔◌, None, true, false, IsTrue};
+ghost use Rattle.std.specs.Prelude.{◌≡◌, ◌≤◌, ◌↔◌, None, true, false, IsTrue, IfOk};
 ghost use Rattle.heap_bounds.specs.Extents.{IsByteOf, IsGranuleOf};
 
 use crate::blocks::{Block, RangeUse};
 use crate::calls::{Allocation, freed_by, made_by};
 use a64_bits::plain;
+use list_copy::copy_list;
 use mte_svc::AnsweredCall;
 use std::alloc::{AllocError, Global};
 use std::collections::BTreeMap;
+use std::marker::Model;
 
 /// What an access does that a chunk's bounds forbid.
 #[derive(Clone, Copy, Debug)]
@@ -81,6 +83,16 @@ pub struct Bounds {
     large: Vec<ChunkBytes>,
 }
 
+impl Model for Bounds {
+    ghost use Rattle.heap_bounds.specs.KeptChunks.{KeptChunks, coded_chunks, chunks_of};
+
+    ghost Value = { KeptChunks };
+
+    ghost coded = { coded_chunks };
+
+    ghost view = { chunks_of };
+}
+
 impl Bounds {
     /// The bounds of a tenant without chunks.
     pub fn new(alloc: Global) -> Bounds {
@@ -88,6 +100,15 @@ impl Bounds {
             blocks: BTreeMap::new(alloc),
             large: Vec::new(alloc),
         }
+    }
+
+    /// A copy of them. It is refused only where its memory is.
+    pub fn copy(&self, alloc: Global) -> Result<Bounds, AllocError>
+        ensures { IfOk result (λ copy. copy ≡ self.now) }
+    {
+        let blocks = self.blocks.clone()?;
+        let large = copy_list(alloc, &self.large)?;
+        Ok(Bounds { blocks, large })
     }
 
     /// Enters what a heap call did.

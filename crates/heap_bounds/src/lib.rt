@@ -7,6 +7,7 @@ mod blocks;
 mod bounds;
 mod call_text;
 mod calls;
+mod span;
 
 pub use access::{MemoryAccess, access_of};
 pub use addressing::{base, register_offset, scaled_offset, signed_offset, unit, zero_or};
@@ -14,3 +15,4 @@ pub use blocks::{Block, RangeUse};
 pub use bounds::{Bounds, Trespass};
 pub use call_text::CallText;
 pub use calls::{Allocation, freed_by, made_by};
+pub use span::{Span, span_of};

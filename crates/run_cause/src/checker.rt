@@ -3,7 +3,7 @@
 
 ghost use Rattle.std.specs.Prelude.{◌≡◌};
 
-use crate::exact::{Finding, ForbiddenAccess, Span};
+use crate::exact::{Finding, ForbiddenAccess};
 use crate::terms::{CheckTerms, Silence};
 use crate::violation::Violation;
 use a64_bits::plain;
@@ -12,7 +12,7 @@ use a64_instr::Instr;
 use a64_registers::Regs;
 use arithmetic_faults::ArithmeticFault;
 use check_kinds::CheckKinds;
-use heap_bounds::{MemoryAccess, access_of, freed_by, made_by};
+use heap_bounds::{MemoryAccess, Span, access_of, freed_by, made_by};
 use heap_functions::HeapFunctionWatch;
 use instruction_trace::{Moment, SVC};
 use mte_backtrace::Callers;

@@ -3,26 +3,14 @@
 ghost use Rattle.std.specs.Prelude.{◌≡◌};
 
 use crate::violation::Violation;
-use a64_decode::decode;
 use a64_registers::Regs;
-use heap_bounds::{Bounds, access_of};
-use instruction_trace::{Moment, SVC};
+use heap_bounds::{Bounds, Span, span_of};
+use instruction_trace::Moment;
 use mte_backtrace::Callers;
-use mte_svc::{AnsweredCall, READ, WRITE};
+use mte_svc::AnsweredCall;
 use mte_tags::Tagged;
 use mte_tenant::TenantParts;
 use std::alloc::Global;
-
-/// The bytes that an instruction or a service accesses.
-#[derive(Clone, Copy)]
-pub struct Span {
-    /// The address of the first, with the pointer's tag.
-    pub addr: u64,
-    /// How many there are.
-    pub bytes: u64,
-    /// Whether they are written.
-    pub is_write: bool,
-}
 
 /// An access to bytes of the heap that no live chunk has, or that its pointer's own chunk has not.
 #[derive(Clone, Copy)]
@@ -124,7 +112,7 @@ impl Exact {
         if self.finding.is_some() || !parts.is_running() {
             return None;
         }
-        let span = span_of(moment, &parts.regs)?;
+        let span = span_of(moment.word?, &moment.regs, &parts.regs)?;
         if self.writes_alone && !span.is_write {
             return None;
         }
@@ -142,32 +130,4 @@ impl Exact {
             self.is_complete = false;
         }
     }
-}
-
-/// What an instruction or the service that it requested accessed, by the registers before and after
-/// it. A service's result says how many bytes it took.
-pub fn span_of(moment: &Moment, after: &Regs) -> Option<Span> {
-    let word = moment.word?;
-    if word == SVC {
-        return span_of_service(&moment.regs, after);
-    }
-    let access = access_of(&decode(word)?, &moment.regs)?;
-    Some(Span {
-        addr: access.addr,
-        bytes: access.len(),
-        is_write: access.is_write,
-    })
-}
-
-/// What the service accessed that reads or writes for the tenant.
-fn span_of_service(before: &Regs, after: &Regs) -> Option<Span> {
-    let service = before.x[8];
-    if service != WRITE && service != READ {
-        return None;
-    }
-    Some(Span {
-        addr: before.x[0],
-        bytes: after.x[0],
-        is_write: service == READ,
-    })
 }

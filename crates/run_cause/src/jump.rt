@@ -2,12 +2,11 @@
 
 ghost use Rattle.std.specs.Prelude.{◌≡◌};
 
-use crate::exact::span_of;
 use a64_bits::plain;
 use a64_decode::decode;
 use a64_instr::Instr;
 use circular_buffer::HeapCircularBuffer;
-use heap_bounds::access_of;
+use heap_bounds::{access_of, span_of};
 use instruction_trace::Moment;
 use mte_backtrace::Callers;
 use mte_tags::Tagged;
@@ -143,7 +142,10 @@ impl StoreWatch {
         if moment.step >= self.load.step || !parts.is_running() {
             return false;
         }
-        match span_of(moment, &parts.regs) {
+        let Some(word) = moment.word else {
+            return false;
+        };
+        match span_of(word, &moment.regs, &parts.regs) {
             Some(span) if span.is_write => {
                 let (first, start) = (plain(self.load.addr), plain(span.addr));
                 first < start.saturating_add(span.bytes)

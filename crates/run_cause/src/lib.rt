@@ -15,7 +15,7 @@ mod words;
 pub use cause::{Cause, FoundCause};
 pub use checker::Checker;
 pub use evidence::Evidence;
-pub use exact::{Exact, Finding, ForbiddenAccess, Span, span_of};
+pub use exact::{Exact, Finding, ForbiddenAccess};
 pub use families::{breakpoint_words, family_of, is_undefined};
 pub use jump::{LastStore, StoreWatch, TargetLoad, branch_in};
 pub use terms::{CheckTerms, is_hidden};

@@ -3,6 +3,7 @@
 ghost use Rattle.std.specs.Prelude.{◌≡◌, length, is_some};
 ghost use Rattle.tenant_snapshot.specs.Maps.{is_map_length, edge_hash, count_after, counts_after};
 
+use a64_execute::behind;
 use a64_run::Edges;
 
 /// The fewest counts of a map.
@@ -74,5 +75,31 @@ impl<'a> Edges for EdgeMap<'a> {
     #[inline(always)]
     fn taken(&mut self, from: u64, to: u64) {
         count(self.counts, self.saturating, hash(from, to));
+    }
+}
+
+/// The branches of a run, counted where there is a map.
+#[derive(Drop)]
+pub struct CountedEdges<'a> {
+    /// The map.
+    pub map: Option<EdgeMap<'a>>,
+}
+
+impl<'a> CountedEdges<'a> {
+    /// Counts the edge between the addresses of two instructions that are attempted in turn, where
+    /// the first is a branch that is taken.
+    pub(crate) fn count(&mut self, from: u64, to: u64) {
+        if to != behind(from) {
+            self.taken(from, to);
+        }
+    }
+}
+
+impl<'a> Edges for CountedEdges<'a> {
+    #[inline(always)]
+    fn taken(&mut self, from: u64, to: u64) {
+        if let Some(map) = &mut self.map {
+            map.taken(from, to);
+        }
     }
 }

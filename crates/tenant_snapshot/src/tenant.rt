@@ -6,10 +6,15 @@ ghost use Rattle.mte_svc.specs.Ready.{IsReady};
 ghost use Rattle.mte_tenant.specs.Admissions.{start_in};
 ghost use Rattle.mte_tenant.specs.Ledger.{is_bad, admission_refusal, charge_of};
 
+use crate::exact_watch::ExactWatch;
+use crate::run_watch::RunWatch;
 use a64_run::{Edges, OpCache};
+use heap_bounds::Bounds;
 use mte_flat::{Flat, SnapshotMemory};
 use mte_svc::{Input, TenantParts};
-use mte_tenant::{Admission, AdmitError, admit_alone, is_bad_reservation, slice_with_edges};
+use mte_tenant::{
+    Admission, AdmitError, admit_alone, is_bad_reservation, slice_watched, slice_with_edges,
+};
 use obstacle::Obstacle;
 use std::alloc::{AllocError, Global};
 
@@ -23,6 +28,9 @@ pub struct SnapshotTenant {
     pub memory: SnapshotMemory,
     /// The snapshot but for its memory.
     pub saved: TenantParts,
+    /// The chunks of the snapshot, for runs that are to be exact: none at first, then those that
+    /// whoever watches the setup enters.
+    pub chunks: Bounds,
     words: OpCache,
     ghost ready: { IsReady parts memory.now },
     ghost saved_ready: { IsReady saved memory.saved },
@@ -64,6 +72,7 @@ impl SnapshotTenant {
             parts,
             memory,
             saved,
+            chunks: Bounds::new(alloc),
             words,
         })
     }
@@ -82,6 +91,29 @@ impl SnapshotTenant {
             edges,
             steps,
         );
+    }
+
+    /// A slice of at most `steps` instructions whose accesses are judged, whatever is found.
+    pub fn slice_exact(&mut self, watch: &mut ExactWatch<'_>, steps: u32)
+        ensures machine { machine_of self.new.parts self.new.memory.now
+            ≡ after_slice steps (machine_of self.old.parts self.old.memory.now) }
+        ensures saved { machine_of self.new.saved self.new.memory.saved
+            ≡ machine_of self.old.saved self.old.memory.saved }
+    {
+        slice_watched(watch, &mut self.parts, &mut self.memory, steps);
+    }
+
+    /// A slice of at most `steps` instructions, whatever watches it.
+    pub fn slice_with(&mut self, watch: &mut RunWatch<'_>, steps: u32)
+        ensures machine { machine_of self.new.parts self.new.memory.now
+            ≡ after_slice steps (machine_of self.old.parts self.old.memory.now) }
+        ensures saved { machine_of self.new.saved self.new.memory.saved
+            ≡ machine_of self.old.saved self.old.memory.saved }
+    {
+        match watch {
+            RunWatch::Edges(edges) => self.slice(edges, steps),
+            RunWatch::Exact(exact) => self.slice_exact(exact, steps),
+        }
     }
 
     /// Makes the snapshot that of the machine now. Where memory is refused, nothing changes.

@@ -8,7 +8,8 @@
 //! - a heap with tags: `Heap` in a memory, `HeapBench` with one of its own;
 //! - ELF64 images: `plan`, `load`;
 //! - a tenant alone: `Lone`, `run_alone`; with a watch: `slice_watched`; brought back to a
-//!   snapshot: `SnapshotTenant`, whose branches an `EdgeMap` counts;
+//!   snapshot: `SnapshotTenant`, whose branches an `EdgeMap` counts, and whose accesses an
+//!   `ExactWatch` judges;
 //! - tenants over shared frames: `Host`;
 //! - sessions: `report`, `run_session` over any `Sink`, `run_both`.
 //!
@@ -24,6 +25,7 @@ pub use a64_run::{OpCache, run_cached, run_on_cache};
 pub use a64_step::{Outcome, Regs, Stop, run, step};
 pub use a64_text::{Text, TextAt};
 pub use alone::{Lone, run_alone};
+pub use heap_bounds::{Bounds, Span, Trespass};
 pub use heap_calls::{HeapAnswer, HeapBench, HeapOp};
 pub use mte_elf::{ElfError, Plan, Segment, load, plan};
 pub use mte_flat::Flat;
@@ -44,4 +46,6 @@ pub use mte_tenant::{
 pub use obstacle::Obstacle;
 pub use scudo_heap::{Heap, HeapAbort, HeapCall, condition_of_calls};
 pub use session_report::report;
-pub use tenant_snapshot::{EdgeMap, Edges, NoEdges, SnapshotTenant};
+pub use tenant_snapshot::{
+    CountedEdges, EdgeMap, Edges, ExactFinding, ExactWatch, NoEdges, RunWatch, SnapshotTenant,
+};

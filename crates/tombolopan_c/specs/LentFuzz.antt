@@ -1,18 +1,24 @@
 -- A machine that is kept between calls: its setup, and its runs.
-use Rattle.std.specs.Prelude.{◌≡◌, ◌⊎◌, ℕ, Bool, true, false, Option, Some, None}
+use Rattle.std.specs.Prelude.{◌≡◌, ◌⊎◌, ℕ, Bool, true, false, not, Option, Some, None}
+use Rattle.std.specs.Prelude.{if◌then◌else◌}
 use Rattle.obstacle.specs.Obstacles.{IfRefused}
 use Rattle.obstacle.specs.declared.Obstacle.{Obstacle}
 use Rattle.obstacle.specs.declared.Obstacle.TheVariants as obstacle
 use Rattle.mte_tenant.specs.declared.admission.AdmitError.{AdmitError}
 use Rattle.mte_tenant.specs.Ledger.{is_bad}
 use Rattle.mte_tenant.specs.Machines.{Machine, machine_of, start_of}
+use Rattle.heap_bounds.specs.declared.bounds.Trespass.{Trespass}
+use Rattle.heap_bounds.specs.declared.bounds.Trespass.TheVariants.{PastSize, Freed, NoChunk}
 use Rattle.tenant_snapshot.specs.Maps.{is_map_length}
 use Rattle.tenant_snapshot.specs.Snapshots.{with_input}
+use Rattle.tenant_snapshot.specs.declared.exact_watch.ExactFinding.{ExactFinding}
 use Rattle.tenant_snapshot.specs.declared.tenant.SnapshotTenant.{SnapshotTenant}
 use Rattle.tombolopan.specs.Alone.{after_slices, refusal_alone}
 use Rattle.call_reports.specs.declared.codes.TheConstants as code
 use Rattle.tombolopan_c.specs.LoneTenants.{lent_start, end_without, told_end, without_tenant}
 use Rattle.tombolopan_c.specs.declared.alone_end.AloneEnd.{AloneEnd}
+use Rattle.tombolopan_c.specs.declared.fuzz_answer.FuzzAnswer.{FuzzAnswer}
+use Rattle.tombolopan_c.specs.declared.fuzz_answer.FuzzFinding.{FuzzFinding}
 use Rattle.tombolopan_c.specs.declared.fuzz_input.LentFuzzInput.{LentFuzzInput}
 use Rattle.tombolopan_c.specs.declared.lent_terms.LentTerms.{LentTerms}
 
@@ -64,3 +70,44 @@ HasRun r counts None new e =
 HasRun r counts (Some old) new e =
     (s : SnapshotTenant) × (new ≡ Some s) × (saved_of s ≡ saved_of old)
     × HasAnswered r (is_map_length counts) old s e
+
+-- ---- what an exact run found
+
+-- The number of what an access does that a chunk's bounds forbid.
+abbrev pub trespass_code : Trespass → ℕ
+trespass_code PastSize = code.PAST_SIZE
+trespass_code Freed = code.FREED
+trespass_code NoChunk = code.NO_CHUNK
+
+-- The report of no finding.
+abbrev pub no_finding : FuzzFinding
+no_finding = record {
+  step = 0;
+  pc = 0;
+  addr = 0;
+  pointer = 0;
+  size = 0;
+  kind = 0;
+  write = 0;
+  missed = 0;
+  unused = 0;
+}
+
+-- The report of what was found, if anything was; the test says whether each chunk was entered.
+abbrev pub finding_told : Option ExactFinding → Bool → FuzzFinding
+finding_told None complete = record no_finding { missed = if complete then 0 else 1 }
+finding_told (Some f) complete = record {
+  step = f.step;
+  pc = f.pc;
+  addr = f.addr;
+  pointer = f.span.addr;
+  size = f.span.bytes;
+  kind = trespass_code f.trespass;
+  write = if f.span.is_write then 1 else 0;
+  missed = if complete then 0 else 1;
+  unused = 0;
+}
+
+-- What is told where no run was done.
+abbrev pub answer_without : ℕ → FuzzAnswer
+answer_without c = record { end = without_tenant c code.NO_REFUSAL; finding = no_finding }

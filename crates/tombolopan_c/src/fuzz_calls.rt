@@ -1,20 +1,23 @@
 //! The exports that run a tenant many times from one snapshot, each time with another input.
 
-ghost use Rattle.std.specs.Prelude.{◌≡◌, ◌≢◌, length, None, Some};
+ghost use Rattle.std.specs.Prelude.{◌≡◌, ◌≢◌, length, None, Some, IfOk};
 ghost use Rattle.mte_tenant.specs.Machines.{start_of};
 ghost use Rattle.tombolopan.specs.Alone.{after_slices, refusal_alone};
 ghost use Rattle.tenant_snapshot.specs.Maps.{is_map_length};
 ghost use Rattle.call_reports.specs.declared.codes.TheConstants.{OK};
 ghost use Rattle.tombolopan_c.specs.LoneTenants.{lent_start};
 ghost use Rattle.tombolopan_c.specs.LentFuzz.{HasSaved, HasRun, HasAnswered, now_of, saved_of};
+ghost use Rattle.tombolopan_c.specs.LentFuzz.{no_finding};
 
 use crate::alone_end::AloneEnd;
+use crate::fuzz_answer::{FuzzAnswer, FuzzFinding};
 use crate::fuzz_input::LentFuzzInput;
 use crate::lent_terms::LentTerms;
 use call_reports::{BAD_ARGUMENT, NO_MACHINE, NO_REFUSAL, OK, OUT_OF_MEMORY};
 use fuzz_handle::FuzzHandle;
-use std::alloc::Global;
-use tenant_snapshot::{EdgeMap, Edges, SnapshotTenant};
+use heap_bounds::Bounds;
+use std::alloc::{AllocError, Global};
+use tenant_snapshot::{EdgeMap, RunWatch, SnapshotTenant};
 
 /// Admits a tenant alone, runs the slices of `terms`, and keeps the machine as it is then; a
 /// machine that the handle held is freed first. OK; REFUSED and OUT_OF_MEMORY leave a handle that
@@ -37,7 +40,8 @@ pub extern "C" fn tb_fuzz_new(
     end.code
 }
 
-/// Runs the setup of a machine, keeps it as it is then, and tells how the tenant stands.
+/// Runs the setup of a machine, keeps it as it is then, and tells how the tenant stands. The setup
+/// is watched, so that a run may be exact.
 fn set_up(
     alloc: Global,
     machine: SnapshotTenant,
@@ -50,43 +54,42 @@ fn set_up(
     ensures { HasSaved terms.now fuzz.new.value result }
 {
     let mut machine = machine;
-    run_slices(&mut machine, &mut CountedEdges { map: None }, terms.slices);
+    let mut watch = RunWatch::new(None, Some(Bounds::new(alloc)));
+    run_slices(&mut machine, &mut watch, terms.slices);
     let end = AloneEnd::of_record(OK, &machine.parts.history);
-    if machine.save(alloc).is_err() {
+    let Ok(kept) = saved(alloc, machine, watch) else {
         return AloneEnd::without_tenant(OUT_OF_MEMORY, NO_REFUSAL);
-    }
-    match Box::new(alloc, machine) {
-        Ok(kept) => {
-            fuzz.put(kept);
-            end
-        }
-        Err(_) => AloneEnd::without_tenant(OUT_OF_MEMORY, NO_REFUSAL),
-    }
+    };
+    fuzz.put(kept);
+    end
 }
 
-/// The branches of a run, counted where there is a map. The setup has none and runs by the same
-/// code, which the compiler takes in line where it is there once.
-#[derive(Drop)]
-struct CountedEdges<'a> {
-    map: Option<EdgeMap<'a>>,
+/// A machine as its own snapshot, with the chunks that a watch of its setup has found.
+fn saved(
+    alloc: Global,
+    machine: SnapshotTenant,
+    watch: RunWatch<'_>,
+) -> Result<Box<SnapshotTenant>, AllocError>
+    ensures machine { IfOk result (λ kept. now_of kept.value ≡ now_of machine) }
+    ensures saved { IfOk result (λ kept. saved_of kept.value ≡ now_of machine) }
+{
+    let mut machine = machine;
+    let Some(chunks) = watch.into_chunks() else {
+        return Err(AllocError);
+    };
+    machine.chunks = chunks;
+    machine.save(alloc)?;
+    let kept = Box::new(alloc, machine)?;
+    Ok(kept)
 }
 
-impl<'a> Edges for CountedEdges<'a> {
-    #[inline(always)]
-    fn taken(&mut self, from: u64, to: u64) {
-        if let Some(map) = &mut self.map {
-            map.taken(from, to);
-        }
-    }
-}
-
-/// Runs a machine for slices.
-fn run_slices<E: Edges>(machine: &mut SnapshotTenant, edges: &mut E, slices: &[u32])
+/// Runs a machine for slices, whatever watches it.
+fn run_slices(machine: &mut SnapshotTenant, watch: &mut RunWatch<'_>, slices: &[u32])
     ensures machine { now_of machine.new ≡ after_slices (now_of machine.old) slices.now }
     ensures saved { saved_of machine.new ≡ saved_of machine.old }
 {
     for steps in slices {
-        machine.slice(edges, *steps);
+        machine.slice_with(watch, *steps);
     }
 }
 
@@ -106,38 +109,99 @@ pub extern "C" fn tb_fuzz_run(
     ensures ran { HasRun run.now (length map.old) fuzz.old.value fuzz.new.value end.new }
     ensures map { result ≢ OK → map.new ≡ map.old }
 {
-    *end = match fuzz.take(alloc) {
-        Some(mut machine) => {
-            let told = answer(alloc, &mut machine, run, map);
-            fuzz.put(machine);
-            told
-        }
-        None => AloneEnd::without_tenant(NO_MACHINE, NO_REFUSAL),
-    };
+    let told = run_kept(alloc, fuzz, run, map, false);
+    *end = told.end;
     end.code
 }
 
-/// Runs a machine with an input, and tells how the tenant ended.
+/// Does what `tb_fuzz_run` does, and tells the first access of the run to bytes of the heap that no
+/// live chunk has, or that the chunk there has not, whatever the tags. The run goes on behind it.
+/// Where no run was done, `finding` has none.
+#[unsafe(no_mangle)]
+pub extern "C" fn tb_fuzz_run_exact(
+    alloc: Global,
+    fuzz: &mut FuzzHandle,
+    run: &LentFuzzInput<'_>,
+    map: &mut [u8],
+    end: &mut AloneEnd,
+    finding: &mut FuzzFinding,
+) -> u32
+    ensures code { result ≡ end.new.code }
+    ensures ran { HasRun run.now (length map.old) fuzz.old.value fuzz.new.value end.new }
+    ensures map { result ≢ OK → map.new ≡ map.old }
+    ensures none { result ≢ OK → finding.new ≡ no_finding }
+{
+    let told = run_kept(alloc, fuzz, run, map, true);
+    *end = told.end;
+    *finding = told.finding;
+    end.code
+}
+
+/// Runs the machine that a handle holds, if it holds one, and tells how the tenant ended.
+fn run_kept(
+    alloc: Global,
+    fuzz: &mut FuzzHandle,
+    run: &LentFuzzInput<'_>,
+    map: &mut [u8],
+    is_exact: bool,
+) -> FuzzAnswer
+    ensures ran { HasRun run.now (length map.old) fuzz.old.value fuzz.new.value result.end }
+    ensures map { result.end.code ≢ OK → map.new ≡ map.old }
+    ensures none { result.end.code ≢ OK → result.finding ≡ no_finding }
+{
+    match fuzz.take(alloc) {
+        Some(mut machine) => {
+            let told = answer(alloc, &mut machine, run, map, is_exact);
+            fuzz.put(machine);
+            told
+        }
+        None => FuzzAnswer::without_run(NO_MACHINE),
+    }
+}
+
+/// Runs a machine with an input, and tells how the tenant ended, and what was found if the run is
+/// to be exact.
 fn answer(
     alloc: Global,
     machine: &mut SnapshotTenant,
     run: &LentFuzzInput<'_>,
     map: &mut [u8],
-) -> AloneEnd
+    is_exact: bool,
+) -> FuzzAnswer
     ensures answered { HasAnswered run.now (is_map_length (length map.old)) machine.old machine.new
-        result }
+        result.end }
     ensures saved { saved_of machine.new ≡ saved_of machine.old }
-    ensures map { result.code ≢ OK → map.new ≡ map.old }
+    ensures map { result.end.code ≢ OK → map.new ≡ map.old }
+    ensures none { result.end.code ≢ OK → result.finding ≡ no_finding }
 {
     if !EdgeMap::fits(map.len()) {
-        return AloneEnd::without_tenant(BAD_ARGUMENT, NO_REFUSAL);
+        return FuzzAnswer::without_run(BAD_ARGUMENT);
     }
+    let Ok(chunks) = chunks_of(alloc, machine, is_exact) else {
+        return FuzzAnswer::without_run(OUT_OF_MEMORY);
+    };
     if machine.restore(alloc, run.input).is_err() {
-        return AloneEnd::without_tenant(OUT_OF_MEMORY, NO_REFUSAL);
+        return FuzzAnswer::without_run(OUT_OF_MEMORY);
     }
-    let map = EdgeMap::new(map, run.saturating != 0);
-    run_slices(machine, &mut CountedEdges { map }, run.slices);
-    AloneEnd::of_record(OK, &machine.parts.history)
+    let mut watch = RunWatch::new(EdgeMap::new(map, run.saturating != 0), chunks);
+    run_slices(machine, &mut watch, run.slices);
+    FuzzAnswer {
+        end: AloneEnd::of_record(OK, &machine.parts.history),
+        finding: FuzzFinding::of(watch.finding(), watch.is_complete()),
+    }
+}
+
+/// The chunks with which an exact run begins; none for another run.
+fn chunks_of(
+    alloc: Global,
+    machine: &SnapshotTenant,
+    is_exact: bool,
+) -> Result<Option<Bounds>, AllocError> {
+    if !is_exact {
+        return Ok(None);
+    }
+    let chunks = machine.chunks.copy(alloc)?;
+    Ok(Some(chunks))
 }
 
 /// Frees the machine that a handle holds, if it holds one; then it holds none.

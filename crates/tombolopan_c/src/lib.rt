@@ -1,14 +1,15 @@
 //! Sessions, a tenant alone, a tagged memory, a step, a run and a heap for programs in C: exports
 //! over memory that the caller lends to each call. Nothing is kept between calls but the machine
-//! that `tb_fuzz_new` makes and `tb_fuzz_free` frees, and only these, `tb_fuzz_run`, `tb_session`,
-//! `tb_alone`, `tb_machine_acts`, `tb_machine_pages`, `tb_heap_calls`, `tb_heap_replay`,
-//! `tb_heap_pages` and `tb_heap_live` allocate.
+//! that `tb_fuzz_new` makes and `tb_fuzz_free` frees, and only these, `tb_fuzz_run`,
+//! `tb_fuzz_run_exact`, `tb_session`, `tb_alone`, `tb_machine_acts`, `tb_machine_pages`,
+//! `tb_heap_calls`, `tb_heap_replay`, `tb_heap_pages` and `tb_heap_live` allocate.
 #![tactic(auto)]
 
 mod alone_calls;
 mod alone_end;
 mod build_calls;
 mod find;
+mod fuzz_answer;
 mod fuzz_calls;
 mod fuzz_input;
 mod heap_lists;
@@ -37,7 +38,8 @@ mod traces;
 pub use alone_calls::tb_alone;
 pub use alone_end::AloneEnd;
 pub use build_calls::tb_build_info;
-pub use fuzz_calls::{tb_fuzz_free, tb_fuzz_new, tb_fuzz_run};
+pub use fuzz_answer::FuzzFinding;
+pub use fuzz_calls::{tb_fuzz_free, tb_fuzz_new, tb_fuzz_run, tb_fuzz_run_exact};
 pub use fuzz_input::LentFuzzInput;
 pub use heap_lists::tb_heap_calls;
 pub use kept_calls::KeptCall;

@@ -131,6 +131,14 @@ ACT_LOAD = 4
 ACT_STORE = 5
 ACT_LOAD_TAG = 6
 
+# tb_trespass
+PAST_SIZE = 1
+FREED = 2
+NO_CHUNK = 3
+TRESPASSES = {
+    0: "none", PAST_SIZE: "PastSize", FREED: "Freed", NO_CHUNK: "NoChunk",
+}
+
 # End of what tools/border.py writes.
 
 
@@ -186,6 +194,14 @@ class _FuzzInput(ctypes.Structure):
     _fields_ = [
         ("input", c_void_p), ("input_length", c_size_t), ("slices", c_void_p),
         ("slice_count", c_size_t), ("saturating", c_uint32), ("unused", c_uint32),
+    ]
+
+
+class _FuzzFinding(ctypes.Structure):
+    _fields_ = [
+        ("step", c_uint64), ("pc", c_uint64), ("addr", c_uint64), ("pointer", c_uint64),
+        ("size", c_uint64), ("kind", c_uint32), ("write", c_uint32), ("missed", c_uint32),
+        ("unused", c_uint32),
     ]
 
 
@@ -293,6 +309,10 @@ _CALLS = {
     "tb_fuzz_new": [POINTER(_Terms), POINTER(_Fuzz), POINTER(_AloneEnd)],
     "tb_fuzz_run": [
         POINTER(_Fuzz), POINTER(_FuzzInput), c_void_p, c_size_t, POINTER(_AloneEnd),
+    ],
+    "tb_fuzz_run_exact": [
+        POINTER(_Fuzz), POINTER(_FuzzInput), c_void_p, c_size_t, POINTER(_AloneEnd),
+        POINTER(_FuzzFinding),
     ],
     "tb_fuzz_free": [POINTER(_Fuzz)],
     "tb_machine_acts": [

@@ -10,7 +10,9 @@ from __future__ import annotations
 from collections.abc import Mapping
 from enum import IntEnum, IntFlag
 
-from .abi import CODES, FAULT_KINDS, HEAP_ABORTS, REFUSALS, SCRIPT_FAULTS, STATUSES
+from .abi import (
+    CODES, FAULT_KINDS, HEAP_ABORTS, REFUSALS, SCRIPT_FAULTS, STATUSES, TRESPASSES,
+)
 from .words import Word
 
 # Written by tools/border.py: the enums
@@ -137,6 +139,14 @@ class Act(IntEnum):
     ACT_STORE = 5
     ACT_LOAD_TAG = 6
 
+
+class Trespass(Word):
+    """What an access does that the bounds of chunks forbid; 0 is no such access."""
+
+    PAST_SIZE = 1, "PastSize"
+    FREED = 2, "Freed"
+    NO_CHUNK = 3, "NoChunk"
+
 # End of what tools/border.py writes.
 
 
@@ -173,3 +183,8 @@ def refusal_name(refusal: int) -> str:
 def tenant_status_name(status: int) -> str:
     """The name of a tenant's status, as reports have it; "none" for 0."""
     return _entry(STATUSES, status)
+
+
+def trespass_name(kind: int) -> str:
+    """The name of what an access does beyond its chunk; "none" for 0."""
+    return _entry(TRESPASSES, kind)

@@ -7,16 +7,32 @@ from ctypes import byref, c_uint8, c_uint32
 from dataclasses import dataclass
 
 from .abi import BAD_ARGUMENT, NO_MACHINE, OUT_OF_MEMORY, REFUSED
-from .abi import _AloneEnd, _Fuzz, _FuzzInput, _lend, _library, _Terms
-from .enums import Refusal, TenantStatus
+from .abi import _AloneEnd, _Fuzz, _FuzzFinding, _FuzzInput, _lend, _library, _Terms
+from .enums import Refusal, TenantStatus, Trespass
 from .faults import Fault, Refused
 from .ranges import all_in_bits, as_bytes, in_bits
 
 
 @dataclass(frozen=True)
+class Forbidden:
+    """An access that goes beyond the bytes of the tenant's chunks: what it does there, the number
+    and the address of the instruction, the plain address of the first such byte, the address that
+    was used, how many bytes it accesses, and whether it writes."""
+
+    kind: Trespass
+    step: int
+    pc: int
+    address: int
+    pointer: int
+    size: int
+    write: bool
+
+
+@dataclass(frozen=True)
 class FuzzRun:
     """How a tenant ended: `status`, `number`, `pc`, `pointer` and `fault` as Tenant has them,
-    `steps` with those of the setup, how many bytes it wrote and how many heap calls it made."""
+    `steps` with those of the setup, how many bytes it wrote and how many heap calls it made; of a
+    run that is exact its first `forbidden` access, if it had one."""
 
     status: TenantStatus
     number: int
@@ -26,11 +42,14 @@ class FuzzRun:
     steps: int
     written: int
     heap: int
+    forbidden: Forbidden | None = None
 
     @property
     def is_crash(self) -> bool:
-        """Whether it ended with a fault, an abort of the heap, an illegal word or a break."""
-        return self.status not in (TenantStatus.RUNNING, TenantStatus.EXIT)
+        """Whether it ended with a fault, an abort of the heap, an illegal word or a break, or had a
+        forbidden access."""
+        is_over = self.status not in (TenantStatus.RUNNING, TenantStatus.EXIT)
+        return is_over or self.forbidden is not None
 
 
 class Fuzz:
@@ -83,19 +102,25 @@ class Fuzz:
         """How often each hash of an edge came in the last run, 255 at most."""
         return bytes(self._map)
 
-    def run(self, input: bytes, slices: Sequence[int] = (1 << 20,)) -> FuzzRun:
-        """Runs it from its setup on, with an input."""
+    def run(
+        self, input: bytes, slices: Sequence[int] = (1 << 20,), exact: bool = False
+    ) -> FuzzRun:
+        """Runs it from its setup on, with an input. Where it is to be `exact`, the first access is
+        told that goes beyond the bytes of its chunks, whatever the tags; the rest is the same, and
+        takes longer. MemoryError where memory to follow its chunks is refused."""
         given = _lend(as_bytes("input", input))
         cuts = (c_uint32 * max(len(slices), 1))(*all_in_bits("slices", slices, 32))
         wanted = _FuzzInput(
             given.bytes, given.length, ctypes.addressof(cuts), len(slices), True, 0
         )
         ctypes.memset(self._map, 0, len(self._map))
-        end = _AloneEnd()
-        _library.tb_fuzz_run(
-            byref(self._machine), byref(wanted), self._map, len(self._map), byref(end)
-        )
-        return _run_of(end)
+        end, found = _AloneEnd(), _FuzzFinding()
+        given_to = byref(self._machine), byref(wanted), self._map, len(self._map), byref(end)
+        if exact:
+            _library.tb_fuzz_run_exact(*given_to, byref(found))
+        else:
+            _library.tb_fuzz_run(*given_to)
+        return _run_of(end, _forbidden_of(found))
 
     def close(self) -> None:
         """Frees the machine, once; a run fails then."""
@@ -112,7 +137,19 @@ class Fuzz:
             self.close()
 
 
-def _run_of(end: _AloneEnd) -> FuzzRun:
+def _forbidden_of(found: _FuzzFinding) -> Forbidden | None:
+    """What an exact run found, by what the library says."""
+    if found.missed:
+        raise MemoryError
+    if not found.kind:
+        return None
+    return Forbidden(
+        Trespass.of(found.kind), found.step, found.pc, found.addr, found.pointer, found.size,
+        bool(found.write),
+    )
+
+
+def _run_of(end: _AloneEnd, forbidden: Forbidden | None = None) -> FuzzRun:
     """A run by what the library says of it, or why there is none."""
     if end.code == OUT_OF_MEMORY:
         raise MemoryError
@@ -126,4 +163,5 @@ def _run_of(end: _AloneEnd) -> FuzzRun:
     return FuzzRun(
         TenantStatus.of(status.status), status.number, status.pc, status.pointer,
         Fault.of(status.fault) if status.fault.kind else None, end.steps, end.output, end.calls,
+        forbidden,
     )

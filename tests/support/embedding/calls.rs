@@ -385,6 +385,7 @@ fn texts(it: u32) -> String {
         script_fault_name(it),
         refusal_name(it),
         tenant_status_name(it),
+        trespass_name(it),
     ];
     format!(" {}", names.join("; "))
 }

@@ -8,6 +8,7 @@
 
 static uint8_t image[65536], counts[512];
 static tb_fuzz fuzz;
+static tb_fuzz_finding none;
 
 static void tell(const char *what, uint32_t code, const tb_alone_end *end) {
     unsigned sum = 0;
@@ -23,6 +24,7 @@ static void run(const char *text, size_t length, size_t map_length) {
     uint8_t *given = (uint8_t *)malloc(length > 0 ? length : 1);
     tb_fuzz_input input;
     tb_alone_end end;
+    tb_fuzz_finding found;
     if (given == NULL)
         exit(9);
     memcpy(given, text, length);
@@ -35,6 +37,12 @@ static void run(const char *text, size_t length, size_t map_length) {
     input.saturating = 1;
     input.unused = 0;
     tell("run", tb_fuzz_run(&fuzz, &input, counts, map_length, &end), &end);
+    memset(&end, 0xee, sizeof end);
+    memset(&found, 0xee, sizeof found);
+    memset(counts, 0, sizeof counts);
+    tell("exact", tb_fuzz_run_exact(&fuzz, &input, counts, map_length, &end, &found), &end);
+    if (memcmp(&found, &none, sizeof found) != 0)
+        exit(8);
     free(given);
 }
 

@@ -2,7 +2,7 @@
 #[allow(dead_code)]
 mod tombolopan;
 
-use tombolopan::{AloneEnd, Fuzz, Terms};
+use tombolopan::{AloneEnd, Fuzz, FuzzFinding, Terms};
 
 fn tell(what: &str, end: &AloneEnd, counts: &[u8]) {
     let sum: u32 = counts.iter().map(|it| u32::from(*it)).sum();
@@ -14,6 +14,10 @@ fn run(fuzz: &mut Fuzz, text: &[u8], map_length: usize) {
     let mut counts = vec![0; map_length];
     let end = fuzz.run(text, &[100000], &mut counts);
     tell("run", &end, &counts);
+    counts.fill(0);
+    let (end, found) = fuzz.run_exact(text, &[100000], &mut counts);
+    tell("exact", &end, &counts);
+    assert_eq!(found, FuzzFinding::default());
 }
 
 fn make(image: &[u8], pages: u32) -> Fuzz {
