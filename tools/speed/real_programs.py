@@ -76,6 +76,20 @@ FRACTIONS = (
     "adddf3 subdf3 muldf3 divdf3 comparedf2 extendsfdf2 truncdfsf2 fixdfdi fixdfsi fixunsdfdi "
     "fixunsdfsi floatdidf floatsidf floatundidf floatunsidf fp_mode"
 )
+# Of libtommath what raises to powers modulo a number: files bn_mp_* and bn_s_mp_*.
+POWERS = (
+    "2expt abs add clamp clear clear_multi cmp cmp_d cmp_mag copy count_bits div div_2 div_2d div_3 "
+    "dr_is_modulus dr_reduce dr_setup exch exptmod from_ubin grow init init_copy init_multi "
+    "init_size invmod lshd mod mod_2d montgomery_calc_normalization montgomery_reduce "
+    "montgomery_setup mul mul_2 mul_2d mul_d mulmod reduce reduce_2k reduce_2k_l reduce_2k_setup "
+    "reduce_2k_setup_l reduce_is_2k reduce_is_2k_l reduce_setup rshd set sqr sub to_ubin ubin_size "
+    "zero"
+)
+POWERS_INSIDE = (
+    "add balance_mul exptmod exptmod_fast invmod_fast invmod_slow karatsuba_mul karatsuba_sqr "
+    "montgomery_reduce_fast mul_digs mul_digs_fast mul_high_digs mul_high_digs_fast sqr sqr_fast "
+    "sub toom_mul toom_sqr"
+)
 # In Lua no order of keys depends on an address or a clock.
 LUA_FLAGS = ["-Dluai_makeseed(state)=1u", "-Dl_randomizePivot()=0u",
              "-Dlua_getlocaledecpoint()='.'"]
@@ -97,6 +111,12 @@ PROGRAMS = {
     "bzip2": Program(
         "bzip2", "", "blocksort bzlib compress crctable decompress huffman randtable",
         ["-DBZ_NO_STDIO"], (1, 30_000), (7, 30_000), (1, 230_000),
+    ),
+    "libtommath": Program(
+        "libtommath", "",
+        " ".join(["bn_cutoffs", *(f"bn_mp_{it}" for it in POWERS.split()),
+                  *(f"bn_s_mp_{it}" for it in POWERS_INSIDE.split())]),
+        [], (1, 64), (60, 64),
     ),
 }
 
@@ -134,6 +154,8 @@ class Builder:
             assert self.libraries, "without compiler-rt Lua is left out"
             builtins = [self.libraries / "builtins" / f"{file}.c" for file in FRACTIONS.split()]
             objects += self.compile([*self.compiler, *TENANT], builtins, "tenant")
+        if name == "libtommath":
+            library += [REAL / "tenant_division.c"]
         objects += self.compile([*self.compiler, *TENANT, *LIBRARY], library, "tenant")
         image = self.work / f"{name}.elf"
         run_tool(["ld.lld", "-static", "--gc-sections", "-o", image, *objects])
