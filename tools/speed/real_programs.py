@@ -142,7 +142,7 @@ PROGRAMS = {
         "libtommath", "",
         " ".join(["bn_cutoffs", *(f"bn_mp_{it}" for it in POWERS.split()),
                   *(f"bn_s_mp_{it}" for it in POWERS_INSIDE.split())]),
-        [], (1, 64), (60, 64),
+        [], (1, 0), (60, 0),
     ),
     "xz": Program(
         "xz-utils", "src/liblzma", LZMA, LZMA_FLAGS, (1, 8_000), (5, 60_000),
