@@ -95,7 +95,7 @@ no_finding = record {
 
 -- The report of what was found, if anything was; the test says whether each chunk was entered.
 abbrev pub finding_told : Option ExactFinding → Bool → FuzzFinding
-finding_told None complete = record no_finding { missed = if complete then 0 else 1 }
+finding_told None complete = record no_finding { missed = if not complete then 1 else 0 }
 finding_told (Some f) complete = record {
   step = f.step;
   pc = f.pc;
@@ -104,7 +104,7 @@ finding_told (Some f) complete = record {
   size = f.span.bytes;
   kind = trespass_code f.trespass;
   write = if f.span.is_write then 1 else 0;
-  missed = if complete then 0 else 1;
+  missed = if not complete then 1 else 0;
   unused = 0;
 }
 
