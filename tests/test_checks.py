@@ -85,7 +85,7 @@ PLAIN_PLACES = {
     19: (OVER, "0 bytes", "8-byte variable `number`"),
     21: (OVER, "0 bytes", "400-byte variable `large`"),
 }
-PLACE_IDIOMS = range(1, 27)
+PLACE_IDIOMS = range(1, 28)
 ARITHMETIC = {
     1: "0x64 of 32 bits, divided by 0", 2: "0x1 of 64 bits, divided by 0",
     3: "0x1 of 32 bits, shifted by 40", 4: "0x1 of 64 bits, shifted by 64",
@@ -252,6 +252,18 @@ def test_variables_that_are_not_told(
         path = image(tmp_path, build, "place_bugs.c", f"BUG={bug}")
         succeed(["llvm-objcopy", *words, path, stripped])
         assert "variable" not in check(alone, stripped, kinds="places").errors
+
+
+@pytest.mark.parametrize("build", [it for it in sorted(BUILDS) if it.endswith("-O0")])
+def test_an_overflow_after_a_jump(
+    alone: pathlib.Path, tmp_path: pathlib.Path, build: str
+) -> None:
+    """By an index from a pointer that was made in front of the jump over frames."""
+    for past in (1, 40):
+        path = image(tmp_path, build, "place_idioms.c", "IDIOM=27", f"PAST={past}")
+        told = check(alone, path, kinds="places")
+        wanted = OVER.format(f"{past - 1} bytes", "5000-byte variable `above`")
+        assert told.status == 137 and f"Cause: [check]: {wanted} at " in told.errors, told.errors
 
 
 @pytest.mark.parametrize("build", sorted(BUILDS))

@@ -587,7 +587,8 @@ stop 7
 @pytest.mark.parametrize("name", small_programs.NAMES)
 def test_alone_and_beside_others(host: pathlib.Path, tmp_path: pathlib.Path, name: str) -> None:
     """A tenant's lines are the whole report where it is alone, and the last lines where not."""
-    files = [getattr(programs, name), small_programs.LARGE_FREED, small_programs.UNTAGGED, small_programs.CORRUPTS]
+    files = [getattr(small_programs, name), small_programs.LARGE_FREED, small_programs.UNTAGGED,
+             small_programs.CORRUPTS]
     alone = session(host, tmp_path, 200, ALONE, files)
     beside = session(host, tmp_path, 4000, BESIDE, files)
     assert (alone.status, beside.status) == (0, 0)

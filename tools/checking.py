@@ -191,7 +191,7 @@ def main() -> None:
         return
     wrong = differences(held, new)
     if wrong:
-        # What memcheck says of a write beyond an array of the stack is chance: a cell differs twice.
+        # What memcheck says of a write beyond an array of the stack is chance: it differs twice.
         wrong &= differences(held, table(rows()))
     if wrong:
         sys.exit("\n".join(["checking.py: the page differs", *sorted(wrong)]))

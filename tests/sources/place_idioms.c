@@ -6,6 +6,9 @@
 static volatile int one = 1;
 static volatile int sink;
 static void *volatile cell;
+#ifndef PAST /* How far a correct program goes past the end of an array. */
+#define PAST 0
+#endif
 
 __attribute__((noinline)) static void fill(char *to, int count)
 {
@@ -34,6 +37,34 @@ __attribute__((noinline)) static int sum_back(const int *from, const int *to)
         sum += *--to;
     return sum;
 }
+
+#if IDIOM == 13 || IDIOM == 27 /* What a jump over frames keeps and restores. */
+static void *place[14];
+int save_place(void **to) __attribute__((returns_twice));
+_Noreturn void jump_back(void **to);
+__asm__("save_place:\n"
+        "    stp x19, x20, [x0]\n"
+        "    stp x21, x22, [x0, #16]\n"
+        "    stp x23, x24, [x0, #32]\n"
+        "    stp x25, x26, [x0, #48]\n"
+        "    stp x27, x28, [x0, #64]\n"
+        "    stp x29, x30, [x0, #80]\n"
+        "    mov x2, sp\n"
+        "    str x2, [x0, #96]\n"
+        "    mov w0, #0\n"
+        "    ret\n"
+        "jump_back:\n"
+        "    ldp x19, x20, [x0]\n"
+        "    ldp x21, x22, [x0, #16]\n"
+        "    ldp x23, x24, [x0, #32]\n"
+        "    ldp x25, x26, [x0, #48]\n"
+        "    ldp x27, x28, [x0, #64]\n"
+        "    ldp x29, x30, [x0, #80]\n"
+        "    ldr x2, [x0, #96]\n"
+        "    mov sp, x2\n"
+        "    mov w0, #1\n"
+        "    br x30\n");
+#endif
 
 #if IDIOM == 1 /* The fields of a structure, one after the other, as bytes. */
 struct mixed {
@@ -199,32 +230,7 @@ static int idiom(void)
     return outer != 0 && *(int *)cell >= 0;
 }
 #elif IDIOM == 13 /* A jump over frames to where they were left. */
-static void *place[14];
 static volatile int left;
-int save_place(void **to) __attribute__((returns_twice));
-_Noreturn void jump_back(void **to);
-__asm__("save_place:\n"
-        "    stp x19, x20, [x0]\n"
-        "    stp x21, x22, [x0, #16]\n"
-        "    stp x23, x24, [x0, #32]\n"
-        "    stp x25, x26, [x0, #48]\n"
-        "    stp x27, x28, [x0, #64]\n"
-        "    stp x29, x30, [x0, #80]\n"
-        "    mov x2, sp\n"
-        "    str x2, [x0, #96]\n"
-        "    mov w0, #0\n"
-        "    ret\n"
-        "jump_back:\n"
-        "    ldp x19, x20, [x0]\n"
-        "    ldp x21, x22, [x0, #16]\n"
-        "    ldp x23, x24, [x0, #32]\n"
-        "    ldp x25, x26, [x0, #48]\n"
-        "    ldp x27, x28, [x0, #64]\n"
-        "    ldp x29, x30, [x0, #80]\n"
-        "    ldr x2, [x0, #96]\n"
-        "    mov sp, x2\n"
-        "    mov w0, #1\n"
-        "    br x30\n");
 __attribute__((noinline)) static void go_back(int *depth)
 {
     int local[8];
@@ -479,6 +485,39 @@ static int idiom(void)
     for (int i = 1; i <= 8; i++)
         sum += small_end[-i] + large_end[-i - 8] + (second_text + 16)[-i * one];
     return sum;
+}
+#elif IDIOM == 27 /* A large frame, by one register for several variables, and jumps back to it. */
+__attribute__((noinline)) static void leave(void)
+{
+    jump_back(place);
+}
+__attribute__((noinline)) static void leave_and_return(void)
+{
+    if (save_place(place) == 0)
+        leave();
+}
+static int idiom(void)
+{
+    char below[4500], first = (char)one, second = (char)(one + 1), third = (char)(one + 2);
+    char small[15], more[21], above[5000], *kept = above;
+    fill(below, 4500);
+    fill(small, 15);
+    fill(more, 21);
+    fill(above, 5000);
+    for (volatile int turn = 0; turn < 3; turn++) {
+        if (turn != 1)
+            leave_and_return();
+        else if (save_place(place) == 0)
+            leave();
+        third += first + second;
+        for (int i = 0; i < 5; i++)
+            second += third * i, first += small[i * one] + more[i + 2];
+        fill(small, 15);
+        fill(more, 21);
+        small[14] = more[20] + first;
+    }
+    below[4499 * one] += kept[(4999 + PAST) * one];
+    return first + second + third + below[4499 * one] + small[14] + more[20 * one];
 }
 #endif
 

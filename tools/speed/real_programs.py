@@ -1,7 +1,7 @@
-"""Real programs, for `--real`: zlib, lz4, Lua, expat and bzip2 of Debian's source packages (their
-archives as they are, without Debian's changes), each with a driver of some 100 million steps
-(real/): zlib, lz4 and bzip2 pack and expand words, Lua runs real/program.lua, expat parses a
-document.
+"""Real programs, for `--real`: zlib, lz4, Lua, expat, bzip2, libtommath and XZ of Debian's source
+packages (their archives as they are, without Debian's changes), each with a driver of some 100
+million steps (real/): zlib, lz4, bzip2 and XZ pack and expand words, Lua runs real/program.lua,
+expat parses a document, libtommath raises numbers to powers.
 
 A program's first lines have each HOST's instructions a step under callgrind, of a short run less an
 admission alone. Then its whole runs: zlib, lz4, bzip2 and expat once over bytes in chunks of size
@@ -49,6 +49,9 @@ LIBRARY = ["-ffreestanding", "-fno-builtin"]
 HEAP = [f"-D{name}=scudo_{name}" for name in ("malloc", "calloc", "realloc", "free")]
 PAGES, SLICES = 2000, 200
 
+# In a program's flags, its folder.
+FOLDER = "{folder}"
+
 Run = tuple[int, int]  # rounds, and bytes
 Best = dict[tuple[str, Path], float]  # seconds, by who runs and over what
 
@@ -76,6 +79,43 @@ FRACTIONS = (
     "adddf3 subdf3 muldf3 divdf3 comparedf2 extendsfdf2 truncdfsf2 fixdfdi fixdfsi fixunsdfdi "
     "fixunsdfsi floatdidf floatsidf floatundidf floatunsidf fp_mode"
 )
+# Of libtommath what raises to powers modulo a number: files bn_mp_* and bn_s_mp_*.
+POWERS = (
+    "2expt abs add clamp clear clear_multi cmp cmp_d cmp_mag copy count_bits div div_2 div_2d "
+    "div_3 dr_is_modulus dr_reduce dr_setup exch exptmod from_ubin grow init init_copy init_multi "
+    "init_size invmod lshd mod mod_2d montgomery_calc_normalization montgomery_reduce "
+    "montgomery_setup mul mul_2 mul_2d mul_d mulmod reduce reduce_2k reduce_2k_l reduce_2k_setup "
+    "reduce_2k_setup_l reduce_is_2k reduce_is_2k_l reduce_setup rshd set sqr sub to_ubin "
+    "ubin_size zero"
+)
+POWERS_INSIDE = (
+    "add balance_mul exptmod exptmod_fast invmod_fast invmod_slow karatsuba_mul karatsuba_sqr "
+    "montgomery_reduce_fast mul_digs mul_digs_fast mul_high_digs mul_high_digs_fast sqr sqr_fast "
+    "sub toom_mul toom_sqr"
+)
+# Of XZ's library LZMA2, its format, and CRC32.
+LZMA = (
+    "common/common common/block_util common/filter_common common/vli_size common/vli_encoder "
+    "common/vli_decoder common/stream_flags_common common/stream_flags_encoder "
+    "common/stream_flags_decoder common/stream_buffer_encoder common/stream_buffer_decoder "
+    "common/stream_decoder common/block_buffer_encoder common/block_decoder "
+    "common/block_header_encoder common/block_header_decoder common/filter_encoder "
+    "common/filter_decoder common/filter_flags_encoder common/filter_flags_decoder common/index "
+    "common/index_encoder common/index_hash check/check check/crc32_fast check/crc32_table "
+    "lz/lz_encoder lz/lz_encoder_mf lz/lz_decoder lzma/fastpos_table lzma/lzma2_encoder "
+    "lzma/lzma2_decoder lzma/lzma_encoder lzma/lzma_encoder_presets "
+    "lzma/lzma_encoder_optimum_fast lzma/lzma_encoder_optimum_normal lzma/lzma_decoder "
+    "rangecoder/price_table"
+)
+LZMA_DEFINED = (
+    "HAVE_STDBOOL_H HAVE__BOOL HAVE_STDINT_H HAVE_INTTYPES_H HAVE_LIMITS_H HAVE_STRING_H "
+    "HAVE_CHECK_CRC32 HAVE_ENCODERS HAVE_DECODERS HAVE_ENCODER_LZMA2 HAVE_DECODER_LZMA2 "
+    "HAVE_ENCODER_LZMA1 HAVE_DECODER_LZMA1 HAVE_MF_HC3 HAVE_MF_HC4 HAVE_MF_BT4 SIZEOF_SIZE_T=8 "
+    "ASSUME_RAM=128 TUKLIB_FAST_UNALIGNED_ACCESS HAVE_VISIBILITY=0"
+)
+LZMA_FOLDERS = "api common check lz lzma rangecoder delta simple ../common"
+LZMA_FLAGS = [*(f"-D{it}" for it in LZMA_DEFINED.split()),
+              *(f"-I{FOLDER}/{it}" for it in LZMA_FOLDERS.split())]
 # In Lua no order of keys depends on an address or a clock.
 LUA_FLAGS = ["-Dluai_makeseed(state)=1u", "-Dl_randomizePivot()=0u",
              "-Dlua_getlocaledecpoint()='.'"]
@@ -97,6 +137,15 @@ PROGRAMS = {
     "bzip2": Program(
         "bzip2", "", "blocksort bzlib compress crctable decompress huffman randtable",
         ["-DBZ_NO_STDIO"], (1, 30_000), (7, 30_000), (1, 230_000),
+    ),
+    "libtommath": Program(
+        "libtommath", "",
+        " ".join(["bn_cutoffs", *(f"bn_mp_{it}" for it in POWERS.split()),
+                  *(f"bn_s_mp_{it}" for it in POWERS_INSIDE.split())]),
+        [], (1, 0), (60, 0),
+    ),
+    "xz": Program(
+        "xz-utils", "src/liblzma", LZMA, LZMA_FLAGS, (1, 8_000), (5, 60_000),
     ),
 }
 
@@ -123,7 +172,8 @@ class Builder:
         program = PROGRAMS[name]
         folder = self.folder[name] / program.folder
         files = [folder / f"{file}.c" for file in program.files] + [REAL / f"{name}_run.c"]
-        return files, [*program.flags, f"-I{folder}", f"-I{REAL}"]
+        flags = [flag.replace(FOLDER, str(folder)) for flag in program.flags]
+        return files, [*flags, f"-I{folder}", f"-I{REAL}"]
 
     def tenant(self, name: str) -> Path:
         files, flags = self.parts(name)
@@ -134,6 +184,8 @@ class Builder:
             assert self.libraries, "without compiler-rt Lua is left out"
             builtins = [self.libraries / "builtins" / f"{file}.c" for file in FRACTIONS.split()]
             objects += self.compile([*self.compiler, *TENANT], builtins, "tenant")
+        if name == "libtommath":
+            library += [REAL / "tenant_division.c"]
         objects += self.compile([*self.compiler, *TENANT, *LIBRARY], library, "tenant")
         image = self.work / f"{name}.elf"
         run_tool(["ld.lld", "-static", "--gc-sections", "-o", image, *objects])

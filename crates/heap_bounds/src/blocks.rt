@@ -1,7 +1,10 @@
 //! What an address is for.
 
 ghost use Rattle.std.specs.Prelude.{◌≡◌, ℕ, ◌↔◌, ◌≤◌, ◌<◌, IfSome, None};
-ghost use Rattle.heap_bounds.specs.Blocks.{IsInRegion, IsBlockAt};
+ghost use Rattle.address_map.specs.declared.ranges.TheConstants.{IMAGE_START, IMAGE_END};
+ghost use Rattle.address_map.specs.declared.ranges.TheConstants.{STACK_START, STACK_END};
+ghost use Rattle.address_map.specs.declared.ranges.TheConstants.{SECONDARY_START, SECONDARY_END};
+ghost use Rattle.heap_bounds.specs.Blocks.{IsBetween, IsInRegion, IsInNoRange, IsBlockAt};
 
 use address_map::{
     IMAGE_END, IMAGE_START, REGION_SIZE, REGIONS_START, SECONDARY_END, SECONDARY_START, STACK_END,
@@ -26,11 +29,16 @@ pub enum RangeUse {
 }
 
 impl RangeUse {
-    ghost use Rattle.heap_bounds.specs.declared.blocks.RangeUse.TheVariants.{Class};
+    ghost use Rattle.heap_bounds.specs.declared.blocks.RangeUse.TheVariants.{Image, Class, Large};
+    ghost use Rattle.heap_bounds.specs.declared.blocks.RangeUse.TheVariants.{Stack, Nothing};
 
     /// The range of a plain address.
     pub fn of(addr: u64) -> RangeUse
+        ensures image { (result ≡ Image) ↔ IsBetween IMAGE_START IMAGE_END addr }
         ensures class { (c : ℕ) → (result ≡ Class c) ↔ IsInRegion c addr }
+        ensures large { (result ≡ Large) ↔ IsBetween SECONDARY_START SECONDARY_END addr }
+        ensures stack { (result ≡ Stack) ↔ IsBetween STACK_START STACK_END addr }
+        ensures nothing { (result ≡ Nothing) ↔ IsInNoRange addr }
     {
         match addr {
             IMAGE_START..IMAGE_END => RangeUse::Image,

@@ -1,17 +1,8 @@
 //! `mte_run [OPTIONS] ELF`: runs one tenant alone, and says why it ended.
 #![tactic(auto)]
 
-mod core_dump;
-mod debugging;
-mod files;
-mod lost;
-mod map;
-mod running;
-mod telling;
-mod unadmitted;
-
+use command_run::run_program;
 use run_options::{EarlyEnd, Failure, read_command_line, report};
-use running::run_program;
 use std::process::ExitCode;
 
 fn main(rt: HostRuntime) -> ExitCode {

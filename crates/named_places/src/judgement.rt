@@ -69,14 +69,14 @@ impl NamedPlaces {
         let AddressParts { base, form } = parts;
         let is_exact = self.is_exact_at(step.before.pc);
         let (is_moved, is_fresh) = (self.marks.is_moved(base), self.marks.is_fresh(base));
-        let is_own = self.is_own(index, base);
+        let is_own = self.is_own(step, index, base);
         let is_above = match form {
             AddressForm::Indexed | AddressForm::Behind => true,
             AddressForm::Plain => is_moved,
             AddressForm::Front => is_moved || !is_own,
             AddressForm::Constant => !is_own && self.marks.is_passed(base),
         };
-        let is_shared = form == AddressForm::Constant && self.is_of_top(index);
+        let is_shared = form == AddressForm::Constant && self.may_be_of_top(step, index);
         Strictness {
             is_above: (is_exact && !is_shared) || is_above,
             is_below: is_exact && self.is_below(index, form == AddressForm::Indexed && is_fresh),
@@ -86,10 +86,10 @@ impl NamedPlaces {
 
     /// Whether a pointer to a place was made by the function that runs, so that compilers may have
     /// made one to another place of it.
-    fn is_own(&self, index: usize, base: u8) -> bool {
+    fn is_own(&self, step: &Step<'_>, index: usize, base: u8) -> bool {
         match self.table.get(index) {
             Some(place) if place.text.kind == PlaceKind::Object => self.marks.is_own(base),
-            _ => self.is_of_top(index),
+            _ => self.may_be_of_top(step, index),
         }
     }
 

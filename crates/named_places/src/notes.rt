@@ -173,7 +173,7 @@ impl NamedPlaces {
             return Ok(());
         };
         let (text, is_whole) = (place.text, place.has(addr));
-        let is_own = self.is_of_top(index);
+        let is_own = self.may_be_of_top(step, index);
         if self.is_exact_at(step.before.pc) {
             return Ok(());
         }

@@ -171,6 +171,30 @@ impl NamedPlaces {
         false
     }
 
+    /// Whether a place may be one of the frame of the function that runs. Where that frame is not
+    /// known, as after a jump over frames, one of any frame of the function may be.
+    pub(crate) fn may_be_of_top(&self, step: &Step<'_>, index: usize) -> bool {
+        if self.is_of_top(index) {
+            return true;
+        }
+        let is_known = match self.frames.top() {
+            Some(frame) => self.running(step, frame).is_some(),
+            None => false,
+        };
+        !is_known && self.is_of_function(step.before.pc, index)
+    }
+
+    /// Whether a place is one of a frame of the function at an address.
+    fn is_of_function(&self, pc: u64, index: usize) -> bool {
+        let Some(function) = self.function_at(pc) else {
+            return false;
+        };
+        match self.table.get(index).and_then(|place| place.text.function) {
+            Some(at) => function.low <= at && at < function.high,
+            None => false,
+        }
+    }
+
     /// The function that runs, where it is the one that the frame is of.
     fn running(&self, step: &Step<'_>, frame: &CalledFrame) -> Option<RunningFunction> {
         let function = self.function_at(step.before.pc)?;

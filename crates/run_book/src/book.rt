@@ -1,9 +1,10 @@
 //! The book of a tenant's heap calls.
 
-ghost use Rattle.std.specs.Prelude.{◌≡◌, drop, option_map};
+ghost use Rattle.std.specs.Prelude.{◌≡◌, ◌≢◌, drop, option_map, IfOk, None};
 ghost use Rattle.a64_bits.specs.Addresses.{plain};
 ghost use Rattle.heap_bounds.specs.Chunks.{returned_chunk, ended_chunk};
 ghost use Rattle.run_book.specs.Ends.{new_chunk, with_ending};
+ghost use Rattle.run_book.specs.Books.{seen_by, newest_call};
 
 use a64_bits::plain;
 use circular_buffer::HeapCircularBuffer;
@@ -164,16 +165,23 @@ impl BookChunk {
 
 impl Book {
     /// An empty book.
-    pub fn new(alloc: Global) -> Result<Book, AllocError> {
+    pub fn new(alloc: Global) -> Result<Book, AllocError>
+        ensures { IfOk result (λ book. seen_by book ≡ 0) }
+    {
         let entries = HeapCircularBuffer::with_capacity(alloc, KEPT)?;
         Ok(Book { entries, seen: 0 })
     }
 
     /// Enters the heap call that the last step made, if it made one, with at most eight return
     /// addresses, which are read from the tenant's memory. Returns that call.
+    #[tactic(auto, using(crate::proofs::CallLemmas::newest_is_last))]
     pub fn note<M: Tagged>(&mut self, parts: &TenantParts, memory: &mut M) -> Option<AnsweredCall>
         ensures memory { M.memory memory.new ≡ M.memory memory.old }
         ensures kept { M.kept memory.old memory.new }
+        ensures none { parts.now.history.calls.count ≡ seen_by self.old → result ≡ None }
+        ensures call { parts.now.history.calls.count ≢ seen_by self.old
+            → result ≡ newest_call parts.now.history.calls }
+        ensures seen { seen_by self.new ≡ parts.now.history.calls.count }
     {
         let calls = &parts.history.calls;
         if calls.count() == self.seen {

@@ -1,3 +1,4 @@
 mod Entering
+mod KeptMemory
 mod Runs
 mod WithoutAccess

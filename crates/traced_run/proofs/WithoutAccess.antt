@@ -3,58 +3,14 @@ use Rattle.std.proofs.Common.{◌≡◌, ℕ, Option, Some, None, Ok, Err, Resul
 use Rattle.std.specs.Prelude.{option_and_then}
 use Rattle.std.specs.Result.{result_ok}
 use Rattle.a64_instr.specs.declared.instruction.Instr.{Instr}
-use Rattle.a64_instr.specs.declared.instruction.Instr.TheVariants as instr
 use Rattle.a64_decode.specs.Decoded.{instr_of_word}
 use Rattle.mte_tags.specs.Memory.{Memory}
 use Rattle.mte_tags.specs.Accesses.{fetch_result}
 use Rattle.mte_tags.specs.declared.fault.MemFault.{MemFault}
 use Rattle.a64_registers.specs.declared.registers.Regs.{Regs}
-use Rattle.a64_step.specs.Steps.{step_of_instr, step_cases, executed_word, step_of}
+use Rattle.a64_step.specs.Steps.{step_cases, executed_word, step_of}
 use Rattle.traced_run.specs.InstructionAccesses.{accessed, next_access}
-
-memory_kept : (i : Instr) (r : Regs) (m : Memory) → accessed i r ≡ None → (step_of_instr i r m).memory ≡ m
-unfolding accessed step_of_instr
-memory_kept (instr.AddSubImm sf op s sh imm12 rn rd) r m e = refl
-memory_kept (instr.AddSubShift sf op s shift rm imm6 rn rd) r m e = refl
-memory_kept (instr.AddSubExt sf op s rm option imm3 rn rd) r m e = refl
-memory_kept (instr.LogImm sf opc n immr imms rn rd) r m e = refl
-memory_kept (instr.LogShift sf opc shift n rm imm6 rn rd) r m e = refl
-memory_kept (instr.MoveWide sf opc hw imm16 rd) r m e = refl
-memory_kept (instr.Bitfield sf opc n immr imms rn rd) r m e = refl
-memory_kept (instr.Extr sf n rm imms rn rd) r m e = refl
-memory_kept (instr.Adr op immlo immhi rd) r m e = refl
-memory_kept (instr.Branch op imm26) r m e = refl
-memory_kept (instr.BranchCond imm19 cond) r m e = refl
-memory_kept (instr.CmpBranch sf op imm19 rt) r m e = refl
-memory_kept (instr.TestBranch b5 op b40 imm14 rt) r m e = refl
-memory_kept (instr.BranchReg opc rn) r m e = refl
-memory_kept (instr.AdcSbc sf op s rm rn rd) r m e = refl
-memory_kept (instr.CondCmp sf op rm cond i rn nzcv) r m e = refl
-memory_kept (instr.CondSel sf op rm cond o2 rn rd) r m e = refl
-memory_kept (instr.TwoSource sf rm opcode rn rd) r m e = refl
-memory_kept (instr.OneSource sf opcode rn rd) r m e = refl
-memory_kept (instr.MulAdd sf rm o0 ra rn rd) r m e = refl
-memory_kept (instr.MulAddLong u rm o0 ra rn rd) r m e = refl
-memory_kept (instr.MulHigh u rm rn rd) r m e = refl
-memory_kept (instr.LdStImm size opc imm12 rn rt) r m e = cc
-memory_kept (instr.LdStUnscaled size opc imm9 rn rt) r m e = cc
-memory_kept (instr.LdStPost size opc imm9 rn rt) r m e = cc
-memory_kept (instr.LdStPre size opc imm9 rn rt) r m e = cc
-memory_kept (instr.LdStReg size opc rm option s rn rt) r m e = cc
-memory_kept (instr.LdLit opc imm19 rt) r m e = cc
-memory_kept (instr.PairPost opc l imm7 rt2 rn rt) r m e = cc
-memory_kept (instr.PairOff opc l imm7 rt2 rn rt) r m e = cc
-memory_kept (instr.PairPre opc l imm7 rt2 rn rt) r m e = cc
-memory_kept instr.Svc r m e = refl
-memory_kept (instr.Brk imm16) r m e = refl
-memory_kept (instr.Hint imm7) r m e = refl
-memory_kept (instr.AddG op uimm6 uimm4 rn rd) r m e = refl
-memory_kept (instr.SubP s rm rn rd) r m e = refl
-memory_kept (instr.Irg rm rn rd) r m e = refl
-memory_kept (instr.Gmi rm rn rd) r m e = refl
-memory_kept (instr.Ldg imm9 rn rt) r m e = cc
-memory_kept (instr.StG opc imm9 mode rn rt) r m e = cc
-memory_kept (instr.StGP mode imm7 rt2 rn rt) r m e = cc
+use Rattle.traced_run.proofs.KeptMemory.{memory_kept}
 
 by_instr : (w : ℕ) (o : Option Instr) (r : Regs) (m : Memory) → option_and_then (λ i. accessed i r) o ≡ None → (step_cases w o r m).memory ≡ m
 by_instr w None r m e = refl

@@ -1,0 +1,14 @@
+//! Runs what a command line of `mte_run` requests: a tenant alone, or one of a session, and says
+//! why it ended.
+#![tactic(auto)]
+
+mod core_dump;
+mod debugging;
+mod files;
+mod lost;
+mod map;
+mod running;
+mod telling;
+mod unadmitted;
+
+pub use running::run_program;
