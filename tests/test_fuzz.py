@@ -54,12 +54,10 @@ given = _FuzzInput(ctypes.addressof(text), 1, ctypes.addressof(cuts), 1, 0, 0)
 
 def run(machine, length):
     counts = (ctypes.c_uint8 * max(length, 1))(*[7] * max(length, 1))
-    code = _library.tb_fuzz_run(ctypes.byref(machine), ctypes.byref(given), counts, length,
-                                ctypes.byref(end))
     found = _FuzzFinding.from_buffer_copy(bytes([7]) * ctypes.sizeof(_FuzzFinding))
-    assert end.code == code == _library.tb_fuzz_run_exact(
-        ctypes.byref(machine), ctypes.byref(given), counts, length, ctypes.byref(end),
-        ctypes.byref(found)) == end.code
+    lent = [ctypes.byref(it) for it in (machine, given, end, found)]
+    code = _library.tb_fuzz_run(*lent[:2], counts, length, lent[2])
+    assert end.code == code == _library.tb_fuzz_run_exact(*lent[:2], counts, length, *lent[2:])
     assert not any(bytes(found)) and (code == OK or set(counts) == {7})
     return code
 
@@ -68,15 +66,13 @@ assert [run(fuzz._machine, it) for it in (0, 1, 128, 255, 257, 300, 4095, 65535,
     == [BAD_ARGUMENT] * 10
 assert [run(fuzz._machine, 1 << it) for it in range(8, 17)] == [OK] * 9
 assert end.status.number == ord("A")
-for terms in (dict(pages=0), dict(pages=4097), dict(room=65537), dict(pages=2)):
+of = dict(image=image)
+for terms in (of | dict(pages=0), of | dict(pages=4097), of | dict(room=65537), of | dict(pages=2),
+              dict(image=image[:60])):
     try:
-        Fuzz(image, **terms)
+        Fuzz(**terms)
     except Refused as error:
         print(error.kind)
-try:
-    Fuzz(image[:60])
-except Refused as error:
-    print(error.kind)
 _library.tb_fuzz_free(ctypes.byref(none))
 fuzz.close()
 fuzz.close()

@@ -5,7 +5,8 @@ use Rattle.tombolopan_c.proofs.fuzz_calls.run_slices.Goals as goal
 pub loop-steps-preserved : goal.loop-steps-preserved
 loop-steps-preserved g c = record {
   machine =
-      slices_next _ _ c.args.slices.now c.loop-steps.steps-index 0 c.loop-steps-test.true c.slice_with.ensures.machine
+      slices_next _ _ c.args.slices.now c.loop-steps.steps-index 0 c.loop-steps-test.true
+      c.slice_with.ensures.machine
       ∙ c.loop-steps.invariant.machine;
   saved = c.slice_with.ensures.saved ∙ c.loop-steps.invariant.saved;
 }
