@@ -4,6 +4,8 @@ import pathlib
 import re
 import sys
 
+from tests.support import samples
+from tests.support.library import static_library
 from tests.support.places import ROOT
 from tests.support.running import run, succeed
 from tests.support.tools import need
@@ -30,3 +32,20 @@ def test_a_step_takes_few_instructions(host: pathlib.Path) -> None:
              re.findall(r"^(\w+) +\S+: ([0-9.]+) instructions$", ran.output, re.M)}
     assert found.keys() >= MOST.keys(), ran.output
     assert {name: found[name] for name, most in MOST.items() if found[name] > most} == {}
+
+
+# The most that a fuzzed step may cost, with its edges counted, beside the same step of a run alone.
+MOST_TIMES = 1.3
+
+
+def test_a_fuzzed_step_takes_few_more(shared: pathlib.Path, tmp_path: pathlib.Path) -> None:
+    """A run from a snapshot, with its edges and what restores the machine."""
+    need("clang", "ld.lld", "valgrind")
+    image = samples.tenant(shared, ROOT / "tests/sources/mixed_bytes.c")
+    data = tmp_path / "input"
+    data.write_bytes(b"")
+    ran = run([sys.executable, ROOT / "tools/speed/fuzzed.py", "--library", static_library(shared),
+               "--setup", "0", image, data], seconds=600)
+    assert ran.status == 0, ran.errors
+    found = re.search(r"([0-9.]+) times that of the library", ran.output)
+    assert found and float(found[1]) <= MOST_TIMES, ran.output

@@ -1,12 +1,12 @@
 -- What is kept of a setup, and what becomes of a run, by cases of the handle.
-use Rattle.std.proofs.Common.{◌≡◌, ℕ, [], sym, refl, subst, false, Option, None, Some}
+use Rattle.std.proofs.Common.{◌≡◌, ℕ, [], sym, subst, false, Option, None, Some}
 use Rattle.obstacle.specs.declared.Obstacle.TheVariants.{OutOfMemory}
 use Rattle.mte_tenant.specs.Ledger.{admission_refusal, charge_of, facts_of, is_bad}
 use Rattle.mte_tenant.proofs.Refusals.{each_passed}
 use Rattle.tenant_snapshot.specs.Maps.{is_map_length}
 use Rattle.tenant_snapshot.specs.declared.tenant.SnapshotTenant.{SnapshotTenant}
 use Rattle.tombolopan.specs.Alone.{refusal_alone}
-use Rattle.call_reports.specs.declared.codes.TheConstants.{OUT_OF_MEMORY, NO_REFUSAL, NO_MACHINE}
+use Rattle.call_reports.specs.declared.codes.TheConstants.{OUT_OF_MEMORY, NO_REFUSAL}
 use Rattle.tombolopan_c.specs.LoneTenants.{lent_start, without_tenant}
 use Rattle.tombolopan_c.specs.LentFuzz.{HasSaved, HasRun, HasAnswered, saved_of}
 use Rattle.tombolopan_c.specs.declared.alone_end.AloneEnd.{AloneEnd}
@@ -14,9 +14,9 @@ use Rattle.tombolopan_c.specs.declared.fuzz_input.LentFuzzInput.{LentFuzzInput}
 use Rattle.tombolopan_c.specs.declared.lent_terms.LentTerms.{LentTerms}
 
 -- the reservation of a tenant that is admitted is within its limits
-good : (t : LentTerms) → refusal_alone 0 (lent_start t) ≡ None → is_bad (lent_start t).terms ≡ false
+pub is_in_limits : (t : LentTerms) → refusal_alone 0 (lent_start t) ≡ None → is_bad (lent_start t).terms ≡ false
 unfolding admission_refusal
-good t accepted =
+is_in_limits t accepted =
     (each_passed (facts_of (charge_of (lent_start t).terms.pages) [] 0) (lent_start t) accepted).good
 
 -- memory is refused to a tenant that is admitted
@@ -24,13 +24,7 @@ pub without_memory :
     (t : LentTerms) (held : Option SnapshotTenant) (e : AloneEnd) → held ≡ None → refusal_alone 0 (lent_start t) ≡ None
     → e ≡ without_tenant OUT_OF_MEMORY NO_REFUSAL → HasSaved t held e
 without_memory t held e none accepted is =
-    subst (λ h. HasSaved t h e) (sym none) (OutOfMemory, tt, (λ _. good t accepted), is)
-
--- the handle holds no machine
-pub not_run :
-    (r : LentFuzzInput) (n : ℕ) (held new : Option SnapshotTenant) (e : AloneEnd) → held ≡ None → new ≡ None
-    → e ≡ without_tenant NO_MACHINE NO_REFUSAL → HasRun r n held new e
-not_run r n held new e none left is = subst (λ h. HasRun r n h new e) (sym none) (left, is)
+    subst (λ h. HasSaved t h e) (sym none) (OutOfMemory, tt, (λ _. is_in_limits t accepted), is)
 
 -- the machine of the handle is run, and is in it again
 pub has_run :

@@ -1,5 +1,5 @@
 -- What is told of a traced run.
-use Rattle.std.proofs.Common.{◌≡◌, ◌≤◌, ◌∙◌, ℕ, length, None, true, false, sym, ap, subst}
+use Rattle.std.proofs.Common.{◌≡◌, ◌≤◌, ◌∙◌, length, None, true, false, sym, ap, subst}
 use Rattle.mte_tags.specs.Memory.{Memory}
 use Rattle.a64_registers.specs.declared.registers.Regs.{Regs}
 use Rattle.traced_run.specs.Traces.{Trace, trace_of, Arrays, Holds, IsTraced, IsFull}

@@ -1,6 +1,6 @@
 //! What a call reports of a run of a machine that is kept.
 
-ghost use Rattle.std.specs.Prelude.{◌≡◌};
+ghost use Rattle.std.specs.Prelude.{◌≡◌, if◌then◌else◌};
 ghost use Rattle.tombolopan_c.specs.LentFuzz.{answer_without, finding_told, trespass_code};
 
 use crate::alone_end::AloneEnd;
@@ -47,7 +47,7 @@ impl FuzzFinding {
             size: 0,
             kind: 0,
             write: 0,
-            missed: u32::from(!is_complete),
+            missed: one_if(!is_complete),
             unused: 0,
         };
         match found {
@@ -58,12 +58,19 @@ impl FuzzFinding {
                 pointer: it.span.addr,
                 size: it.span.bytes,
                 kind: code_of_trespass(it.trespass),
-                write: u32::from(it.span.is_write),
+                write: one_if(it.span.is_write),
                 ..none
             },
             None => none,
         }
     }
+}
+
+/// 1 where a fact holds, else 0.
+fn one_if(fact: bool) -> u32
+    ensures { result ≡ if fact then 1 else 0 }
+{
+    if fact { 1 } else { 0 }
 }
 
 fn code_of_trespass(trespass: Trespass) -> u32

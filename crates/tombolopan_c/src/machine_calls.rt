@@ -1,6 +1,7 @@
 //! The export that runs a tenant's machine which is changed between its slices.
 
-ghost use Rattle.std.specs.Prelude.{◌≡◌, ◌≢◌, ◌≤◌, ◌<◌, ◌⊎◌, length, None};
+ghost use Rattle.std.specs.Prelude.{◌≡◌, ◌≢◌, ◌≤◌, ◌<◌, ◌⊎◌, length, None, false};
+ghost use Rattle.mte_tenant.specs.Ledger.{is_bad};
 ghost use Rattle.tombolopan.specs.Alone.{refusal_alone};
 ghost use Rattle.call_reports.specs.declared.codes.TheConstants.{OK, NO_ROOM, REFUSED};
 ghost use Rattle.call_reports.specs.declared.codes.TheConstants.{OUT_OF_MEMORY};
@@ -67,6 +68,7 @@ pub extern "C" fn tb_machine_acts(
 /// does not: `mapped` says how many there are. REFUSED and OUT_OF_MEMORY, where it is 0, leave the
 /// array as it was, and REFUSED the acts too.
 #[unsafe(no_mangle)]
+#[tactic(auto, using(crate::proofs::Fuzzed::is_in_limits))]
 pub extern "C" fn tb_machine_pages(
     alloc: Global,
     terms: &LentTerms<'_>,
@@ -87,6 +89,7 @@ pub extern "C" fn tb_machine_pages(
     ensures kept { (result ≡ REFUSED) ⊎ (result ≡ OUT_OF_MEMORY)
         → (pages.new ≡ pages.old) × (mapped.new ≡ 0) }
     ensures refused { result ≡ REFUSED → refusal_alone 0 (lent_start terms.now) ≢ None }
+    ensures memory { result ≡ OUT_OF_MEMORY → is_bad (lent_start terms.now).terms ≡ false }
 {
     *mapped = 0;
     let mut machine = match ActedMachine::new(alloc, &terms.admission()) {

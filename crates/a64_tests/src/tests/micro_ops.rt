@@ -24,11 +24,11 @@ fn blocks_go_on_behind_sums_and_not_behind_branches(rt: HostRuntime) -> Result<(
         rn: 1,
         rd: 0,
     };
-    let goes_on = execute_op(&add, CODE, &mut regs, &mut memory, &mut outcome);
+    let goes_on = execute_op(&add, &CODE, &mut regs, &mut memory, &mut outcome);
     assert!(rt; goes_on && regs.x[0] == 42 && regs.pc == 0);
     outcome = Outcome::Next;
     let jump = Op::Jump { imm26: 2 };
-    let goes_on = execute_op(&jump, CODE, &mut regs, &mut memory, &mut outcome);
+    let goes_on = execute_op(&jump, &CODE, &mut regs, &mut memory, &mut outcome);
     assert!(rt; !goes_on && regs.pc == CODE + 8);
     outcome = Outcome::Next;
     // ldr x0, [x1] faults, since no page is mapped, at its own address.
@@ -37,7 +37,7 @@ fn blocks_go_on_behind_sums_and_not_behind_branches(rt: HostRuntime) -> Result<(
         rn: 1,
         rt: 0,
     };
-    let goes_on = execute_op(&load, CODE, &mut regs, &mut memory, &mut outcome);
+    let goes_on = execute_op(&load, &CODE, &mut regs, &mut memory, &mut outcome);
     assert!(rt; !goes_on && regs.pc == CODE && regs.x[0] == 42);
     assert!(rt; outcome != Outcome::Next);
     assert_eq!(rt;

@@ -1,4 +1,4 @@
-use Rattle.std.proofs.Common.{◌≡◌, ◌<◌, ◌∙◌, ◌+◌, ◌-◌, ◌/◌, ◌%◌, ◌^◌, inl, inr, ap, sym, arith, is_some, true, false}
+use Rattle.std.proofs.Common.{◌≡◌, ◌<◌, ◌∙◌, ◌+◌, ◌-◌, ◌/◌, ◌%◌, ◌^◌, inl, inr, ap, sym, arith, is_some, true}
 use Rattle.mte_tags.specs.Accesses.{addresses}
 use Rattle.mte_tags.specs.Memory.{page_at}
 use Rattle.mte_tags.specs.declared.state.TagState.{TagState}

@@ -3,7 +3,7 @@ use Rattle.tombolopan.proofs.Slices.{slices_next, slices_done}
 use Rattle.tombolopan_c.proofs.fuzz_calls.run_slices.Goals as goal
 
 pub loop-steps-preserved : goal.loop-steps-preserved
-loop-steps-preserved g c = record {
+loop-steps-preserved c = record {
   machine =
       slices_next _ _ c.args.slices.now c.loop-steps.steps-index 0 c.loop-steps-test.true
       c.slice_with.ensures.machine
@@ -12,7 +12,7 @@ loop-steps-preserved g c = record {
 }
 
 pub returns : goal.returns
-returns g c = record {
+returns c = record {
   machine =
       sym (slices_done _ c.args.slices.now c.loop-steps.steps-index c.loop-steps-test.false)
       ∙ c.loop-steps.invariant.machine;

@@ -5,7 +5,7 @@ use Rattle.tombolopan_c.proofs.fuzz_calls.run_slices.Given as goal
 
 -- the slices that are left, from here, come to what all do from the start
 abbrev pub invariant-loop-steps : goal.invariant-loop-steps
-invariant-loop-steps g l = record {
+invariant-loop-steps l = record {
   machine :
       after_slices (now_of l.machine) (drop l.steps-index l.slices)
       ≡ after_slices (now_of l.fn.machine) l.slices;

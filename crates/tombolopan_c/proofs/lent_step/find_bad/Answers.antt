@@ -1,4 +1,4 @@
-use Rattle.std.proofs.Common.{◌≡◌, ◌<◌, ◌≤◌, ◌∙◌, length, sym, arith}
+use Rattle.std.proofs.Common.{◌<◌, ◌≤◌, ◌∙◌, length, sym, arith}
 use Rattle.tombolopan_c.proofs.HeapReplays.{bad_here, bad_next, bad_none}
 use Rattle.tombolopan_c.proofs.lent_step.find_bad.Goals as goal
 
