@@ -177,7 +177,11 @@ PLANTED = {
         r"pub ptr_tag: u32,((?:.|\n)*?)pub mem_tag: u32,",
         r"pub mem_tag: u32,\1pub ptr_tag: u32,"),
     "pc and pointer of a status": (
-        r"pub pc: u64,((?:.|\n)*?)pub pointer: u64,", r"pub pointer: u64,\1pub pc: u64,"),
+        r"(struct StatusReport(?:.|\n)*?)pub pc: u64,((?:.|\n)*?)pub pointer: u64,",
+        r"\1pub pointer: u64,\2pub pc: u64,"),
+    "pc and pointer of a finding": (
+        r"(struct FuzzFinding(?:.|\n)*?)pub pc: u64,((?:.|\n)*?)pub pointer: u64,",
+        r"\1pub pointer: u64,\2pub pc: u64,"),
     "the arguments of tb_map": (
         r"tb_map\((.*), number: u64, attrs: u32\)", r"tb_map(\1, attrs: u32, number: u64)"),
     "no refusal is 7": (r"NO_REFUSAL: u32 = 0", "NO_REFUSAL: u32 = 7"),

@@ -294,11 +294,10 @@ def test_fuzzers_by_exact_runs(shared: pathlib.Path, tmp_path: pathlib.Path) -> 
     for name in ("libfuzzer", "afl"):
         folder = fuzzers.fuzzers(shared, name)
         words: list[Word] = [folder / name, text] if name == "libfuzzer" else [folder / name]
-        tenant = {"TENANT": str(folder / "labels.elf")}
-        plain = fuzzers.fuzz(folder, words, cwd=tmp_path, given=text.read_bytes(), **tenant)
+        tenant, given = str(folder / "labels.elf"), text.read_bytes()
+        plain = fuzzers.fuzz(folder, words, cwd=tmp_path, given=given, TENANT=tenant)
         assert plain.status == 0, plain.errors
-        exact = fuzzers.fuzz(folder, words, cwd=tmp_path, given=text.read_bytes(), EXACT="1",
-                             **tenant)
+        exact = fuzzers.fuzz(folder, words, cwd=tmp_path, given=given, TENANT=tenant, EXACT="1")
         assert exact.status != 0 and "PastSize: 1 bytes written" in exact.errors
 
 

@@ -11,7 +11,7 @@ from tests.support.running import run, succeed
 from tests.support.tools import need
 
 # The most instructions a step; docs/SPEED.md has what was measured.
-MOST = {"alu": 25.8, "memory": 41.2, "offsets": 33.3, "mix": 34.9, "svc18": 36.0, "slices16": 112.0}
+MOST = {"alu": 24.2, "memory": 38.6, "offsets": 31.3, "mix": 32.8, "svc18": 33.8, "slices16": 112.0}
 
 
 def test_a_step_calls_nothing(host: pathlib.Path) -> None:

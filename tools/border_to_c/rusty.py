@@ -11,7 +11,8 @@ GHOST = re.compile(r"^ *(?:pub )?ghost \w+: \{[^}]*\}(?: by \{[^}]*\})?,\n", re.
 CONSTANT = re.compile(r"^\s*pub const (\w+): (?:u\d+|usize|Attrs) = (?:Attrs\()?([^;)]+)\)?;", re.M)
 STRUCT = re.compile(r"#\[repr\(C\)\]\s*(?:#\[[^]]*\]\s*)*(?:pub )?struct (\w+)[^{]*\{(.*?)\}", re.S)
 EXPORT = re.compile(
-    r'#\[unsafe\(no_mangle\)\]\s*pub extern "C" fn (\w+)\(([^)]*)\)\s*(?:->\s*(\w+))?'
+    r'#\[unsafe\(no_mangle\)\]\s*(?:#\[tactic\(.*\)\]\s*)?pub extern "C" fn (\w+)'
+    r"\(([^)]*)\)\s*(?:->\s*(\w+))?"
 )
 IMPORTS = re.compile(r'unsafe extern "C" \{(.*?)\n\}', re.S)
 IMPORT = re.compile(r"fn (\w+)\(([^)]*)\)\s*(?:->\s*(\w+))?;")
