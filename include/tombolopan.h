@@ -501,6 +501,7 @@ uint32_t tb_alone(const tb_terms *terms, uint8_t *output, size_t output_room, tb
  * slice that is long enough. `end` tells how the tenant stands: end->status is TB_STATUS_RUNNING
  * where it will go on. A machine that `fuzz` holds is freed first. TB_REFUSED and TB_OUT_OF_MEMORY
  * leave `fuzz` without a machine. It takes some 5,000 bytes twice for each page of the reservation.
+ * The setup is watched: its steps take some ten times as long as those of a run.
  */
 uint32_t tb_fuzz_new(const tb_terms *terms, tb_fuzz *fuzz, tb_alone_end *end);
 
@@ -522,10 +523,10 @@ uint32_t tb_fuzz_run(tb_fuzz *fuzz, const tb_fuzz_input *run, uint8_t *map, size
 /*
  * Does what tb_fuzz_run does, and tells in `finding` the first access of the run that goes beyond
  * the bytes of the tenant's chunks, within a granule too, whatever the tags: of a load or a store
- * that completed, or of a service that read or wrote. The chunks are those that its heap calls
- * made, the setup's among them; accesses of the setup are not judged. The run goes on behind it: it
- * leaves the same machine, the same counts and the same `end`. Where no run was done, `finding` is
- * zero. It takes some ten times as long for each step.
+ * that completed, but for STZG and STZ2G, or of a service that read or wrote. The chunks are those
+ * that its heap calls made, the setup's among them; accesses of the setup are not judged. The run
+ * goes on behind it: it leaves the same machine, the same counts and the same `end`. Where no run
+ * was done, `finding` is zero. It takes some ten times as long for each step.
  */
 uint32_t tb_fuzz_run_exact(tb_fuzz *fuzz, const tb_fuzz_input *run, uint8_t *map,
                            size_t map_length, tb_alone_end *end, tb_fuzz_finding *finding);

@@ -104,7 +104,7 @@ NAMES = (
 
 
 def texts_of(number: int) -> list[str]:
-    """The seven texts of a number, by the names that docs/HOST.md and docs/REPORT.md have."""
+    """The seven texts of a number: names of docs/HOST.md and docs/REPORT.md, and of a trespass."""
     lists = [names.replace("+", "\0").split(" ") for names in NAMES]
     return [(it[number] if number < len(it) else "unknown").replace("\0", " ") for it in lists]
 

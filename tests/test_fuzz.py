@@ -213,27 +213,27 @@ fuzz = Fuzz(pathlib.Path({str(image)!r}).read_bytes())
 def both(text, slices=(1 << 20,)):
     plain, counts = fuzz.run(text, slices), fuzz.counts
     exact = fuzz.run(text, slices, exact=True)
-    assert fuzz.counts == counts and plain.forbidden is None
-    assert repr(dataclasses.replace(exact, forbidden=None)) == repr(plain)
+    assert fuzz.counts == counts and plain.finding is None
+    assert repr(dataclasses.replace(exact, finding=None)) == repr(plain)
     return plain, exact
 
 for text in (b"", b"red,green,", b"#", b"0123456789abcdef,", b",,,"):
     plain, exact = both(text)
     assert plain == exact and not exact.is_crash
 plain, exact = both(b"red,ab#defg,")
-found = exact.forbidden
+found = exact.finding
 assert (plain.status, plain.number) == (TenantStatus.EXIT, 2)
 assert exact.is_crash and not plain.is_crash
 assert (found.kind, found.size, found.write) == (Trespass.PAST_SIZE, 1, True)
 assert found.address % 16 == 7 and found.pointer % (1 << 56) == found.address
 assert 0 < found.step < exact.steps
 # The first of several is told, whatever the slices, and no finding stays.
-assert both(b"red,ab#defg,#,##,")[1].forbidden == found
-assert both(b"red,ab#defg,", [7] * 200)[1].forbidden == found
-assert both(b"red,green,")[1].forbidden is None
+assert both(b"red,ab#defg,#,##,")[1].finding == found
+assert both(b"red,ab#defg,", [7] * 200)[1].finding == found
+assert both(b"red,green,")[1].finding is None
 # Where the label fills its granules, the tag differs.
 plain, exact = both(b"0123456789abcde#,")
-assert plain.status == TenantStatus.FAULT and exact.forbidden is None
+assert plain.status == TenantStatus.FAULT and exact.finding is None
 """ + DONE) == "done\n"
 
 
@@ -247,7 +247,7 @@ for image, kind in ((bytes.fromhex('{IMAGE.hex()}'), None), (header, Trespass.NO
     with Fuzz(image, pages=64, room=16) as fuzz:
         for _ in range(3):
             run = fuzz.run(b"ABC", exact=True)
-            found = run.forbidden
+            found = run.finding
             assert run.status == TenantStatus.EXIT
             assert (found.kind if found else None) == kind
 assert (found.step, found.size, found.write) == (8, 8, False) and found.address % 16 == 0
@@ -272,9 +272,9 @@ for asynchronous in (False, True):
         plain, counts = fuzz.run(text), fuzz.counts
         exact = fuzz.run(text, exact=True)
         assert fuzz.counts == counts
-        assert repr(dataclasses.replace(exact, forbidden=None)) == repr(plain)
-        if not asynchronous and exact.forbidden:
-            seen.setdefault(exact.forbidden.pc, (bytes(text), exact.forbidden))
+        assert repr(dataclasses.replace(exact, finding=None)) == repr(plain)
+        if not asynchronous and exact.finding:
+            seen.setdefault(exact.finding.pc, (bytes(text), exact.finding))
 for text, found in list(seen.values())[:3]:
     print(f"{{text.hex()}} {{found.pc:#018x}} {{found.address:#018x}} {{found.step}}")
 """).splitlines()

@@ -61,6 +61,29 @@ def test_an_input_without_a_crash(
     assert ran.status == 1 and "no crash (status 0)" in ran.errors
 
 
+def test_a_finding_is_replayed(
+    shared: pathlib.Path, alone: pathlib.Path, tmp_path: pathlib.Path
+) -> None:
+    """What no tag shows is a crash by --exact alone."""
+    image, text = fuzzers.labels(shared), tmp_path / "label"
+    text.write_bytes(b"red,ab#defg,")
+    words = [sys.executable, FUZZ / "replay.py", "--times", "3", "--program", alone]
+    assert "no crash (status 2)" in run([*words, image, text]).errors
+    assert "3 runs alike: " in succeed([*words, "--exact", image, text]).output
+
+
+def test_a_campaign_by_exact_runs(
+    shared: pathlib.Path, alone: pathlib.Path, tmp_path: pathlib.Path
+) -> None:
+    """libFuzzer finds the overflow within a granule in seconds, and the campaign tells it."""
+    need("clang", "ld.lld")
+    folder = tmp_path / "fuzz"
+    shutil.copytree(fuzzers.fuzzers(shared, "libfuzzer"), folder)
+    ran = succeed([sys.executable, FUZZ / "campaign.py", folder, "labels", "--exact", "--seconds",
+                   "60", "--until", "1", "--program", alone], seconds=180)
+    assert re.search(r"\boverflow\b|\bPastSize\b|Buffer Overflow", ran.output), ran.output
+
+
 # By the bug: what GDB watches behind the fault, what it prints of it, and who freed the chunk.
 WATCHED = {
     "use after free": ("*(char *)$_siginfo._sifields._sigfault.si_addr", "SIGSEGV",

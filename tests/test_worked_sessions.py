@@ -584,6 +584,13 @@ stop 7
 """
 
 
+def test_each_program_is_named() -> None:
+    """All programs of the file run beside others but the one that needs an input."""
+    programs = {name for name, it in vars(small_programs).items()
+                if name.isupper() and isinstance(it, list)}
+    assert programs - {"NAMES", "CALLS_FROM_INPUT"} == set(small_programs.NAMES)
+
+
 @pytest.mark.parametrize("name", small_programs.NAMES)
 def test_alone_and_beside_others(host: pathlib.Path, tmp_path: pathlib.Path, name: str) -> None:
     """A tenant's lines are the whole report where it is alone, and the last lines where not."""

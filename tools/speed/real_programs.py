@@ -5,22 +5,23 @@ expat parses a document, libtommath raises numbers to powers.
 
 A program's first lines have each HOST's instructions a step under callgrind, of a short run less an
 admission alone. Then its whole runs: zlib, lz4, bzip2 and expat once over bytes in chunks of size
-classes, and once over larger ones, whose pages Scudo leaves without tags for the most part. Each
-runs in turns, N times (5), as a tenant of each HOST, as the same program of AArch64 Linux under
-`qemu-aarch64`, and with `--scudo` as one on LLVM's Scudo with memory tagging, synchronous checks
-(`-cpu max`), and with `--native` as a program of this machine: as it is, under AddressSanitizer,
-and under Valgrind's memcheck. A figure is the best user time of the whole run less the best of a
-start, a run over next to nothing: a program on Scudo starts for a tenth of a second, one under
-memcheck for half a second. Each run writes a sum of what it made, which has to be that of the same
-program on this machine. `--ir` has the instructions alone.
+classes, and once over larger ones, whose pages Scudo leaves without tags for the most part; Lua,
+libtommath and XZ once. Each runs in turns, N times (5), as a tenant of each HOST, as the same
+program of AArch64 Linux under `qemu-aarch64`, and with `--scudo` as one on LLVM's Scudo with memory
+tagging, synchronous checks (`-cpu max`), and with `--native` as a program of this machine: as it
+is, under AddressSanitizer, and under Valgrind's memcheck. A figure is the best user time of the
+whole run less the best of a start, a run over next to nothing: a program on Scudo starts for a
+tenth of a second, one under memcheck for half a second. Each run writes a sum of what it made,
+which has to be that of the same program on this machine. `--ir` has the instructions alone.
 
-One compiler builds all, with -O2. A tenant has no registers of floating point and SIMD
-(-mgeneral-regs-only); its C library is real/strings.c and real/tenant_libc.c, and Lua's numbers
-with a fraction are computed by compiler-rt and real/tenant_math.c (gcc refuses them, so with it
-there is no Lua). The Linux programs have all registers and Debian's glibc.
+One compiler builds all, with -O2. A tenant has no registers of floating point and SIMD (-mgeneral-
+regs-only); its C library is real/strings.c and real/tenant_libc.c, and Lua's numbers with a
+fraction are computed by compiler-rt and real/tenant_math.c (gcc refuses them, so with it there is
+no Lua), libtommath's divisions of 128 bits by real/tenant_division.c. The Linux programs have all
+registers and Debian's glibc.
 
 Sources come by apt-get from where apt's own configuration says, and stay in FOLDER, outside the
-repository, for the next time (a temporary folder): 12 MB, and for Lua and `--scudo`
+repository, for the next time (a temporary folder): 14 MB, and for Lua and `--scudo`
 llvm-toolchain-14 of 130 MB. Fetched in half a minute, all programs with `--scudo` and one HOST take
 five minutes, with `--ir` two.
 """

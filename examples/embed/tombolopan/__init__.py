@@ -135,7 +135,7 @@ from .enums import (
     text, trespass_name,
 )
 from .faults import Fault, MappingError, Refused, ScriptError
-from .fuzzing import Forbidden, Fuzz, FuzzRun
+from .fuzzing import Fuzz, FuzzFinding, FuzzRun
 from .heaps import HeapAnswer, heap_calls
 from .hooks import Block, Hooked, Instruction, TracedAccess, hook_block, hook_code, hook_mem
 from .machines import Machine
@@ -151,8 +151,8 @@ __all__ = [
     "ABORT", "ACCESS_READ", "ACCESS_READ_TAG", "ACCESS_WRITE", "ACCESS_WRITE_TAG", "ALIGNMENT",
     "ALREADY_FREE", "ALREADY_MAPPED", "Access", "AccessKind", "Answer", "Attrs", "BAD_ARGUMENT",
     "BAD_HEADERS", "BAD_NUMBER", "BAD_RESERVATION", "BREAKPOINT", "Block", "CALLOC", "CODES",
-    "Code", "EXEC", "FAULT", "FAULT_KINDS", "FREE", "FREED", "Fault", "FaultKind", "Forbidden",
-    "Fuzz", "FuzzRun", "HEADER_CORRUPT", "HEAP_ABORTS", "Heap", "HeapAbort", "HeapAnswer",
+    "Code", "EXEC", "FAULT", "FAULT_KINDS", "FREE", "FREED", "Fault", "FaultKind", "Fuzz",
+    "FuzzFinding", "FuzzRun", "HEADER_CORRUPT", "HEAP_ABORTS", "Heap", "HeapAbort", "HeapAnswer",
     "HeapCall", "HeapOp", "Hooked", "ILLEGAL", "INTERPRETER", "INVALID_STATE", "Instruction",
     "LOAD", "LOAD_TAG", "LiveChunk", "MALLOC", "MEMALIGN", "MISALIGNED", "Machine", "MappingError",
     "Memory", "NOT_AARCH64", "NOT_A_BLOCK", "NOT_ELF64", "NOT_EXEC", "NOT_MAPPED", "NO_CHUNK",
@@ -171,7 +171,7 @@ __all__ = [
 ]
 # Their names in tracebacks and in what is pickled.
 for _it in (Fault, MappingError, Refused, ScriptError, Memory, Region, Regs, Session, Answer,
-            Forbidden, FuzzRun, LiveChunk, Block, Instruction, TracedAccess):
+            FuzzFinding, FuzzRun, LiveChunk, Block, Instruction, TracedAccess):
     _it.__module__ = __name__
 
 

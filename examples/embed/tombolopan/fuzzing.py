@@ -14,7 +14,7 @@ from .ranges import all_in_bits, as_bytes, in_bits
 
 
 @dataclass(frozen=True)
-class Forbidden:
+class FuzzFinding:
     """An access that goes beyond the bytes of the tenant's chunks: what it does there, the number
     and the address of the instruction, the plain address of the first such byte, the address that
     was used, how many bytes it accesses, and whether it writes."""
@@ -32,7 +32,7 @@ class Forbidden:
 class FuzzRun:
     """How a tenant ended: `status`, `number`, `pc`, `pointer` and `fault` as Tenant has them,
     `steps` with those of the setup, how many bytes it wrote and how many heap calls it made; of a
-    run that is exact its first `forbidden` access, if it had one."""
+    run that is exact what it found first, if it found anything."""
 
     status: TenantStatus
     number: int
@@ -42,14 +42,14 @@ class FuzzRun:
     steps: int
     written: int
     heap: int
-    forbidden: Forbidden | None = None
+    finding: FuzzFinding | None = None
 
     @property
     def is_crash(self) -> bool:
-        """Whether it ended with a fault, an abort of the heap, an illegal word or a break, or had a
-        forbidden access."""
-        is_over = self.status not in (TenantStatus.RUNNING, TenantStatus.EXIT)
-        return is_over or self.forbidden is not None
+        """Whether it ended with a fault, an abort of the heap, an illegal word or a break, or an
+        exact run found an access beyond a chunk."""
+        has_failed = self.status not in (TenantStatus.RUNNING, TenantStatus.EXIT)
+        return has_failed or self.finding is not None
 
 
 class Fuzz:
@@ -120,7 +120,7 @@ class Fuzz:
             _library.tb_fuzz_run_exact(*given_to, byref(found))
         else:
             _library.tb_fuzz_run(*given_to)
-        return _run_of(end, _forbidden_of(found))
+        return _run_of(end, _finding_of(found))
 
     def close(self) -> None:
         """Frees the machine, once; a run fails then."""
@@ -137,19 +137,19 @@ class Fuzz:
             self.close()
 
 
-def _forbidden_of(found: _FuzzFinding) -> Forbidden | None:
+def _finding_of(found: _FuzzFinding) -> FuzzFinding | None:
     """What an exact run found, by what the library says."""
     if found.missed:
         raise MemoryError
     if not found.kind:
         return None
-    return Forbidden(
+    return FuzzFinding(
         Trespass.of(found.kind), found.step, found.pc, found.addr, found.pointer, found.size,
         bool(found.write),
     )
 
 
-def _run_of(end: _AloneEnd, forbidden: Forbidden | None = None) -> FuzzRun:
+def _run_of(end: _AloneEnd, finding: FuzzFinding | None = None) -> FuzzRun:
     """A run by what the library says of it, or why there is none."""
     if end.code == OUT_OF_MEMORY:
         raise MemoryError
@@ -163,5 +163,5 @@ def _run_of(end: _AloneEnd, forbidden: Forbidden | None = None) -> FuzzRun:
     return FuzzRun(
         TenantStatus.of(status.status), status.number, status.pc, status.pointer,
         Fault.of(status.fault) if status.fault.kind else None, end.steps, end.output, end.calls,
-        forbidden,
+        finding,
     )
