@@ -14,11 +14,11 @@ whole run less the best of a start, a run over next to nothing: a program on Scu
 tenth of a second, one under memcheck for half a second. Each run writes a sum of what it made,
 which has to be that of the same program on this machine. `--ir` has the instructions alone.
 
-One compiler builds all, with -O2. A tenant has no registers of floating point and SIMD (-mgeneral-
-regs-only); its C library is real/strings.c and real/tenant_libc.c, and Lua's numbers with a
-fraction are computed by compiler-rt and real/tenant_math.c (gcc refuses them, so with it there is
-no Lua), libtommath's divisions of 128 bits by real/tenant_division.c. The Linux programs have all
-registers and Debian's glibc.
+One compiler builds all, with -O2. A tenant has no registers of floating point and SIMD
+(-mgeneral-regs-only); its C library is real/strings.c and real/tenant_libc.c, and Lua's numbers
+with a fraction are computed by compiler-rt and real/tenant_math.c (gcc refuses them, so with it
+there is no Lua), libtommath's divisions of 128 bits by real/tenant_division.c. The Linux programs
+have all registers and Debian's glibc.
 
 Sources come by apt-get from where apt's own configuration says, and stay in FOLDER, outside the
 repository, for the next time (a temporary folder): 14 MB, and for Lua and `--scudo`
