@@ -11,7 +11,7 @@ import pytest
 from tests.support import fuzzers
 from tests.support.debugger import asked, target
 from tests.support.fuzzers import ENTER, FUZZ, NAME, PLANTED, card, field
-from tests.support.running import run, succeed
+from tests.support.running import Word, run, succeed
 from tests.support.tools import need
 
 TIMES = 100
@@ -67,7 +67,7 @@ def test_a_finding_is_replayed(
     """What no tag shows is a crash by --exact alone."""
     image, text = fuzzers.labels(shared), tmp_path / "label"
     text.write_bytes(b"red,ab#defg,")
-    words = [sys.executable, FUZZ / "replay.py", "--times", "3", "--program", alone]
+    words: list[Word] = [sys.executable, FUZZ / "replay.py", "--times", "3", "--program", alone]
     assert "no crash (status 2)" in run([*words, image, text]).errors
     assert "3 runs alike: " in succeed([*words, "--exact", image, text]).output
 
