@@ -4,11 +4,13 @@ import pathlib
 import re
 import sys
 
+import pytest
+
 from tests.support import samples
 from tests.support.library import static_library
 from tests.support.places import ROOT
 from tests.support.running import run, succeed
-from tests.support.tools import need
+from tests.support.tools import give_up, need
 
 # The most instructions a step; docs/SPEED.md has what was measured.
 MOST = {"alu": 24.2, "memory": 38.6, "offsets": 31.3, "mix": 32.8, "svc18": 33.8, "slices16": 112.0}
@@ -32,6 +34,24 @@ def test_a_step_takes_few_instructions(host: pathlib.Path) -> None:
              re.findall(r"^(\w+) +\S+: ([0-9.]+) instructions$", ran.output, re.M)}
     assert found.keys() >= MOST.keys(), ran.output
     assert {name: found[name] for name, most in MOST.items() if found[name] > most} == {}
+
+
+# The same of programs over Debian's sources.
+MOST_REAL = {"zlib": 41.2, "lz4": 55.5, "expat": 41.3, "bzip2": 44.8, "libtommath": 44.8,
+             "xz": 44.5}
+
+
+@pytest.mark.parametrize("name", sorted(MOST_REAL))
+def test_a_step_of_a_real_program(host: pathlib.Path, shared: pathlib.Path, name: str) -> None:
+    """A short run of a library of others, as a tenant."""
+    need("clang", "ld.lld", "valgrind", "qemu-aarch64", "apt-get")
+    ran = run([sys.executable, ROOT / "tools/speed/measure.py", "--real", "--ir", "--only", name,
+               "--work", shared / f"real-{name}", host], seconds=600)
+    if f"without {name}" in ran.errors:
+        give_up(ran.errors.strip()[-300:])
+    assert ran.status == 0, ran.errors
+    found = re.search(rf"^{name}: ([0-9.]+) instructions a step", ran.output, re.M)
+    assert found and float(found[1]) <= MOST_REAL[name], ran.output
 
 
 # The most that a fuzzed step may cost, with its edges counted, beside the same step of a run alone.
