@@ -89,7 +89,7 @@ fn key(address: u64, is_permitted: bool) -> u64
 }
 
 /// How many pages of data are remembered, one for each place.
-pub(crate) const DATA_PAGES: usize = 64;
+pub(crate) const DATA_PAGES: usize = 256;
 
 /// The place of the page that instructions were fetched from, behind those of data.
 pub(crate) const CODE_PLACE: usize = DATA_PAGES;
@@ -97,19 +97,19 @@ pub(crate) const CODE_PLACE: usize = DATA_PAGES;
 /// How many pages are remembered.
 pub(crate) const PLACES: usize = DATA_PAGES + 1;
 
-/// The pages from the start of one region of the heap to the start of the next.
-const REGION_PAGES: u64 = 4096;
+/// An odd number whose multiples spread over the 32 bits of a word.
+const SPREAD: u32 = 0x85EB_CA77;
 
-/// The place of a page of data. The first pages of the regions of all size classes, 16 MiB apart,
-/// have places of their own.
+/// The place of a page of data: the high byte of a product, so that pages in a row, and the first
+/// pages of the heap's regions, have places of their own.
 #[inline(always)]
 pub(crate) fn data_place(page: u64) -> usize
     ensures { result < DATA_PAGES }
 {
-    ((page ^ page / REGION_PAGES) % DATA_PAGES as u64) as usize
+    ((page as u32).wrapping_mul(SPREAD) >> 24) as usize
 }
 
-/// Where the last accesses of a tenant found their pages: one page for fetches, and sixty-four for
+/// Where the last accesses of a tenant found their pages: one page for fetches, and 256 for
 /// data. It is the tenant's own, so that it outlives a slice.
 #[derive(Drop)]
 pub struct RememberedPages {

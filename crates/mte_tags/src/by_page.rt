@@ -23,7 +23,8 @@ use crate::state::TagMode;
 use crate::tagged::{ChunkAccess, Tagged};
 use crate::within_page::{
     code_has_attrs, fault_of_run, fetch_aligned, granule_tag_at, read_in_page, store_tags_in_page,
-    try_read, try_read_in_page, try_write, try_write_in_page, write_in_page,
+    try_read, try_read_in_page, try_read_unaligned, try_write, try_write_in_page,
+    try_write_unaligned, write_in_page,
 };
 use a64_bits::plain;
 
@@ -148,9 +149,10 @@ fn read_across_pages<S: PageStore>(
     Ok(())
 }
 
-/// Copies bytes out where that was not quick, or returns the fault of the first that fails.
-#[inline(always)]
-fn read_far<S: PageStore>(
+/// Copies bytes out of pages that are found first, or returns the fault of the first that fails.
+#[cold]
+#[inline(never)]
+fn read_found<S: PageStore>(
     store: &mut S,
     addr: u64,
     buffer: &mut [u8],
@@ -163,7 +165,25 @@ fn read_far<S: PageStore>(
     if try_read_in_page(store, addr, buffer, checked) {
         return Ok(());
     }
-    by_fields(read_across_pages(store, addr, buffer, checked))
+    read_across_pages(store, addr, buffer, checked)
+}
+
+/// Copies bytes out where that was not quick, or returns the fault of the first that fails.
+#[inline(always)]
+fn read_far<S: PageStore>(
+    store: &mut S,
+    addr: u64,
+    buffer: &mut [u8],
+    checked: bool,
+) -> Result<(), MemFault>
+    ensures read { IsRead (S.memory store.old) (S.memory store.new) (read_access addr checked)
+        (plain addr) buffer.old buffer.new result }
+    ensures kept { S.kept store.old store.new }
+{
+    if try_read_unaligned(store, addr, buffer, checked) {
+        return Ok(());
+    }
+    by_fields(read_found(store, addr, buffer, checked))
 }
 
 /// Reads where that was not quick. A copy of a short buffer goes along, and the result comes back
@@ -242,6 +262,25 @@ fn write_across_pages<S: PageStore>(
     Ok(())
 }
 
+/// Copies bytes into pages that are found first, or returns the fault of the first that fails.
+#[cold]
+#[inline(never)]
+fn write_found<S: PageStore>(
+    store: &mut S,
+    addr: u64,
+    bytes: &[u8],
+    checked: bool,
+) -> Result<(), MemFault>
+    ensures written { IsWritten (S.memory store.old) (S.memory store.new)
+        (write_access addr checked) (plain addr) bytes.now result }
+    ensures kept { S.kept store.old store.new }
+{
+    if try_write_in_page(store, addr, bytes, checked) {
+        return Ok(());
+    }
+    write_across_pages(store, addr, bytes, checked)
+}
+
 /// Writes where that was not quick. The result comes back field by field, so that quick accesses
 /// hold it in registers.
 #[inline(always)]
@@ -255,10 +294,10 @@ fn write_slowly<S: PageStore>(
         (write_access addr checked) (plain addr) bytes.now result }
     ensures kept { S.kept store.old store.new }
 {
-    if try_write_in_page(store, addr, bytes, checked) {
+    if try_write_unaligned(store, addr, bytes, checked) {
         return Ok(());
     }
-    by_fields(write_across_pages(store, addr, bytes, checked))
+    by_fields(write_found(store, addr, bytes, checked))
 }
 
 /// Copies bytes in, or returns the fault of the first that fails.

@@ -11,6 +11,7 @@ mod generator;
 mod laws;
 mod page;
 mod page_store;
+mod size;
 mod state;
 mod tagged;
 mod tags;

@@ -80,7 +80,33 @@ pub(crate) fn granule_passes<S: PageStore>(
     store.granule_tag(place, (at % 4096 / 16) as usize) == access.tag
 }
 
-/// Whether a run of at most 16 bytes passes, which two granules hold at most. It builds no fault.
+/// Whether a run of at most 16 bytes passes, which two granules hold at most, of an access that its
+/// page permits. It builds no fault.
+#[inline(always)]
+pub(crate) fn granules_pass<S: PageStore>(
+    store: &S,
+    place: usize,
+    at: u64,
+    count: usize,
+    access: &Access,
+) -> bool
+    requires place { S.is_place store.now place }
+    requires run { IsPageRun at count }
+    requires most { count ≤ 16 }
+    requires permitted { has (S.page_in store.now place).attrs access.now.need ≡ true }
+    ensures { result ≡ run_passes_in access.now (S.page_in store.now place) at count }
+{
+    if !access.is_compared(store.attrs(place)) {
+        return true;
+    }
+    if store.granule_tag(place, (at % 4096 / 16) as usize) != access.tag {
+        return false;
+    }
+    let last = at + count as u64 - 1;
+    store.granule_tag(place, (last % 4096 / 16) as usize) == access.tag
+}
+
+/// Whether a run of at most 16 bytes passes. It builds no fault.
 #[inline(always)]
 pub(crate) fn run_passes<S: PageStore>(
     store: &S,
@@ -94,15 +120,10 @@ pub(crate) fn run_passes<S: PageStore>(
     requires most { count ≤ 16 }
     ensures { result ≡ run_passes_in access.now (S.page_in store.now place) at count }
 {
-    let attrs = store.attrs(place);
-    if !access.is_compared(attrs) || !access.is_permitted(attrs) {
-        return access.is_permitted(attrs);
-    }
-    if store.granule_tag(place, (at % 4096 / 16) as usize) != access.tag {
+    if !access.is_permitted(store.attrs(place)) {
         return false;
     }
-    let last = at + count as u64 - 1;
-    store.granule_tag(place, (last % 4096 / 16) as usize) == access.tag
+    granules_pass(store, place, at, count, access)
 }
 
 /// How the first byte of a run fails where tags are compared.

@@ -16,10 +16,11 @@ use crate::access::Access;
 use crate::attrs::Attrs;
 use crate::fault::{FaultKind, MemFault};
 use crate::page::{
-    copy_out, fits_one_page, granule_passes, is_register_size, run_fault, run_passes, tag_in_page,
+    copy_out, fits_one_page, granule_passes, granules_pass, is_register_size, run_fault, run_passes, tag_in_page,
     word_in_page,
 };
 use crate::page_store::PageStore;
+use crate::size::{Eight, Four, Size, Sixteen, Two};
 use a64_bits::plain;
 
 /// The fault of the first byte of a run that fails, if any.
@@ -133,6 +134,56 @@ pub(crate) fn try_read<S: PageStore>(
     true
 }
 
+/// The same at any address whose page holds them, out of line: in one granule or two.
+#[inline(never)]
+fn try_read_sized<S: PageStore, A: Size>(
+    store: &mut S,
+    addr: u64,
+    buffer: &mut [u8],
+    checked: bool,
+) -> bool
+    requires size { length buffer.old ≡ A.BYTES }
+    ensures read { IsReadOrLeft (S.memory store.old) (S.memory store.new)
+        (read_access addr checked) (plain addr) buffer.old buffer.new result }
+    ensures kept { S.kept store.old store.new }
+{
+    let at = plain(addr);
+    let size = A::bytes();
+    if !fits_one_page(at, size as u64) {
+        return false;
+    }
+    let Some(place) = store.readable_place(addr, 1) else {
+        return false;
+    };
+    let access = Access::reading(addr, checked);
+    if !granules_pass(store, place, at, size, &access) {
+        return false;
+    }
+    copy_out(store, place, at, &mut buffer[..size]);
+    true
+}
+
+/// The same of any size.
+#[inline(always)]
+pub(crate) fn try_read_unaligned<S: PageStore>(
+    store: &mut S,
+    addr: u64,
+    buffer: &mut [u8],
+    checked: bool,
+) -> bool
+    ensures read { IsReadOrLeft (S.memory store.old) (S.memory store.new)
+        (read_access addr checked) (plain addr) buffer.old buffer.new result }
+    ensures kept { S.kept store.old store.new }
+{
+    match buffer.len() {
+        2 => try_read_sized::<S, Two>(store, addr, buffer, checked),
+        4 => try_read_sized::<S, Four>(store, addr, buffer, checked),
+        8 => try_read_sized::<S, Eight>(store, addr, buffer, checked),
+        16 => try_read_sized::<S, Sixteen>(store, addr, buffer, checked),
+        _ => false,
+    }
+}
+
 /// Copies bytes out where one page holds them and none fails, and returns whether it did. `false`
 /// changes nothing, and does not say that an access fails.
 #[inline(never)]
@@ -211,6 +262,56 @@ pub(crate) fn try_write<S: PageStore>(store: &mut S, addr: u64, bytes: &[u8], ch
     }
     store.replace_run(place, at, bytes);
     true
+}
+
+/// The same at any address whose page holds them, out of line: in one granule or two.
+#[inline(never)]
+fn try_write_sized<S: PageStore, A: Size>(
+    store: &mut S,
+    addr: u64,
+    bytes: &[u8],
+    checked: bool,
+) -> bool
+    requires size { length bytes.now ≡ A.BYTES }
+    ensures written { IsWrittenOrLeft (S.memory store.old) (S.memory store.new)
+        (write_access addr checked) (plain addr) bytes.now result }
+    ensures kept { S.kept store.old store.new }
+{
+    let at = plain(addr);
+    let size = A::bytes();
+    if !fits_one_page(at, size as u64) {
+        return false;
+    }
+    let Some(place) = store.writable_place(addr, 1) else {
+        return false;
+    };
+    let access = Access::writing(addr, checked);
+    if !granules_pass(store, place, at, size, &access) {
+        return false;
+    }
+    store.replace_run(place, at, &bytes[..size]);
+    true
+}
+
+/// The same of any size.
+#[inline(always)]
+pub(crate) fn try_write_unaligned<S: PageStore>(
+    store: &mut S,
+    addr: u64,
+    bytes: &[u8],
+    checked: bool,
+) -> bool
+    ensures written { IsWrittenOrLeft (S.memory store.old) (S.memory store.new)
+        (write_access addr checked) (plain addr) bytes.now result }
+    ensures kept { S.kept store.old store.new }
+{
+    match bytes.len() {
+        2 => try_write_sized::<S, Two>(store, addr, bytes, checked),
+        4 => try_write_sized::<S, Four>(store, addr, bytes, checked),
+        8 => try_write_sized::<S, Eight>(store, addr, bytes, checked),
+        16 => try_write_sized::<S, Sixteen>(store, addr, bytes, checked),
+        _ => false,
+    }
 }
 
 /// Copies bytes in where one page holds them and none fails, and returns whether it did. `false`

@@ -4,9 +4,9 @@ use Rattle.mte_tags.specs.Accesses.{result_of, addresses, with_bytes, write_acce
 use Rattle.mte_tags.proofs.ModeLaws.{access_fault-none, after_access-none}
 use Rattle.mte_tags.proofs.by_page.write_slowly.Goals as goal
 
-pub returns-then-try_write_in_page-clause-written : goal.returns-then-try_write_in_page-clause-written
-returns-then-try_write_in_page-clause-written g c =
-    let made = c.if-try_write_in_page.ensures.written in
+pub returns-then-try_write_unaligned-clause-written : goal.returns-then-try_write_unaligned-clause-written
+returns-then-try_write_unaligned-clause-written g c =
+    let made = c.if-try_write_unaligned.ensures.written in
     let none = made.passed refl in
     let x = write_access c.args.addr c.args.checked in
     let places = addresses (plain c.args.addr) (length c.args.bytes.now) in
