@@ -106,7 +106,8 @@ const SPREAD: u32 = 0x85EB_CA77;
 pub(crate) fn data_place(page: u64) -> usize
     ensures { result < DATA_PAGES }
 {
-    ((page as u32).wrapping_mul(SPREAD) >> 24) as usize
+    let low = (page % (1 << 32)) as u32;
+    (low.wrapping_mul(SPREAD) >> 24) as usize
 }
 
 /// Where the last accesses of a tenant found their pages: one page for fetches, and 256 for
