@@ -16,11 +16,11 @@ use crate::access::Access;
 use crate::attrs::Attrs;
 use crate::fault::{FaultKind, MemFault};
 use crate::page::{
-    copy_out, fits_one_page, granule_passes, granules_pass, is_register_size, run_fault, run_passes, tag_in_page,
-    word_in_page,
+    copy_out, fits_one_page, granule_passes, granules_pass, is_register_size, run_fault,
+    run_passes, tag_in_page, word_in_page,
 };
 use crate::page_store::PageStore;
-use crate::size::{Eight, Four, Size, Sixteen, Two};
+use crate::size::{Eight, Four, Sixteen, Size, Two};
 use a64_bits::plain;
 
 /// The fault of the first byte of a run that fails, if any.

@@ -20,7 +20,7 @@ returns-clause-read g c =
     let inside = subst (λ k. k % 4096 + n ≤ 4096) e (subst (λ k. c.plain-at.result % 4096 + k ≤ 4096) all (c.if-not-fits_one_page.ensures.inside refl)) in
     let passed = subst (λ k. is_none (first_in x (Some p) (range_with_len at k)) ≡ true) all (subst (λ k. is_none (first_in x (Some p) (range_with_len k c.bytes-size.result)) ≡ true) e (sym c.granules_pass.ensures ∙ c.if-not-granules_pass.false)) in
     let rest : piece ++ lib.ListN.drop c.bytes-size.result c.args.buffer.now ≡ piece =
-        ap (λ r. piece ++ r) (drop_all c.bytes-size.result c.args.buffer.now (omega arith)) ∙ append-nil piece in
+    ap (λ r. piece ++ r) (drop_all c.bytes-size.result c.args.buffer.now (omega arith)) ∙ append-nil piece in
     record {
       passed = λ _. subst (λ y. first_fault m y (addresses at n) ≡ None) c.reading-access.ensures (page_run_passed m p at n x c.in-Some.ensures.page inside (search arith) passed);
       bytes = rest ∙ page_read m p at n n piece c.in-Some.ensures.page inside (search arith) (search arith) refl (search arith);
