@@ -187,6 +187,34 @@ def test_exact_shows_the_moment_of_the_access(alone: pathlib.Path, tmp_path: pat
     assert tag and tags and int(tag[1], 16) >> 56 == int(tags[1], 16)
 
 
+ZEROED = """#include "tenant.h"
+int main(void)
+{
+    char *at = tenant_malloc(SIZE);
+    __asm__ volatile(".arch_extension memtag\\n\\tINSTRUCTION" : "+r"(at) : : "memory");
+    return 0;
+}
+"""
+
+
+@pytest.mark.parametrize(("instruction", "size", "is_beyond"), [
+    ("stzg %0, [%0]", 16, False), ("stzg %0, [%0]", 15, True),
+    ("stzg %0, [%0], #16", 16, False), ("stzg %0, [%0, #16]!", 16, True),
+    ("stzg %0, [%0, #16]", 32, False), ("stzg %0, [%0, #16]", 31, True),
+    ("stz2g %0, [%0]", 32, False), ("stz2g %0, [%0]", 16, True),
+    ("stg %0, [%0]", 15, False), ("st2g %0, [%0]", 31, False),
+])
+def test_exact_compares_the_granules_that_are_cleared(
+    alone: pathlib.Path, tmp_path: pathlib.Path, instruction: str, size: int, is_beyond: bool
+) -> None:
+    """STZG clears sixteen bytes and STZ2G 32, a post-indexed one at its base; STG and ST2G none."""
+    source = ZEROED.replace("SIZE", str(size)).replace("INSTRUCTION", instruction)
+    ran = run([alone, "--exact", compiled(tmp_path, "zeroed", source)])
+    assert ran.status == (137 if is_beyond else 0)
+    cause = f"Cause: [exact]: Buffer Overflow, 0 bytes right of a {size}-byte allocation"
+    assert (cause in ran.errors) == is_beyond
+
+
 SMASHED = """#include "tenant.h"
 __attribute__((noinline)) static void fill(volatile char *to, unsigned long count)
 {
