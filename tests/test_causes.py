@@ -197,22 +197,27 @@ int main(void)
 """
 
 
-@pytest.mark.parametrize(("instruction", "size", "is_beyond"), [
-    ("stzg %0, [%0]", 16, False), ("stzg %0, [%0]", 15, True),
-    ("stzg %0, [%0], #16", 16, False), ("stzg %0, [%0, #16]!", 16, True),
-    ("stzg %0, [%0, #16]", 32, False), ("stzg %0, [%0, #16]", 31, True),
-    ("stz2g %0, [%0]", 32, False), ("stz2g %0, [%0]", 16, True),
-    ("stg %0, [%0]", 15, False), ("st2g %0, [%0]", 31, False),
+PAST, NONE = "is past the size of its chunk", "is of no chunk"
+
+
+@pytest.mark.parametrize(("instruction", "size", "offset", "said"), [
+    ("stzg %0, [%0]", 16, 0, ""), ("stzg %0, [%0]", 15, 15, PAST),
+    ("stzg %0, [%0], #16", 16, 0, ""), ("stzg %0, [%0, #16]!", 16, 16, NONE),
+    ("stzg %0, [%0, #16]", 32, 0, ""), ("stzg %0, [%0, #16]", 31, 31, PAST),
+    ("stz2g %0, [%0]", 32, 0, ""), ("stz2g %0, [%0]", 16, 16, NONE),
+    ("stg %0, [%0]", 15, 0, ""), ("st2g %0, [%0]", 31, 0, ""),
 ])
 def test_exact_compares_the_granules_that_are_cleared(
-    alone: pathlib.Path, tmp_path: pathlib.Path, instruction: str, size: int, is_beyond: bool
+    alone: pathlib.Path, tmp_path: pathlib.Path, instruction: str, size: int, offset: int,
+    said: str
 ) -> None:
-    """STZG clears sixteen bytes and STZ2G 32, a post-indexed one at its base; STG and ST2G none."""
+    """STZG clears sixteen bytes and STZ2G 32, a post-indexed one at its base; STG and ST2G none.
+    The byte that is told is at an offset from the chunk's first, at 0x10 of its class."""
     source = ZEROED.replace("SIZE", str(size)).replace("INSTRUCTION", instruction)
     ran = run([alone, "--exact", compiled(tmp_path, "zeroed", source)])
-    assert ran.status == (137 if is_beyond else 0)
-    cause = f"Cause: [exact]: Buffer Overflow, 0 bytes right of a {size}-byte allocation"
-    assert (cause in ran.errors) == is_beyond
+    assert ran.status == (137 if said else 0)
+    told = re.search(r"the byte at 0x\w*00(\w\w) (.*)", ran.errors)
+    assert (told and (int(told[1], 16) - 16, told[2])) == ((offset, said) if said else None)
 
 
 SMASHED = """#include "tenant.h"
