@@ -187,6 +187,39 @@ def test_exact_shows_the_moment_of_the_access(alone: pathlib.Path, tmp_path: pat
     assert tag and tags and int(tag[1], 16) >> 56 == int(tags[1], 16)
 
 
+ZEROED = """#include "tenant.h"
+int main(void)
+{
+    char *at = tenant_malloc(SIZE);
+    __asm__ volatile(".arch_extension memtag\\n\\tINSTRUCTION" : "+r"(at) : : "memory");
+    return 0;
+}
+"""
+
+
+PAST, NONE = "is past the size of its chunk", "is of no chunk"
+
+
+@pytest.mark.parametrize(("instruction", "size", "offset", "said"), [
+    ("stzg %0, [%0]", 16, 0, ""), ("stzg %0, [%0]", 15, 15, PAST),
+    ("stzg %0, [%0], #16", 16, 0, ""), ("stzg %0, [%0, #16]!", 16, 16, NONE),
+    ("stzg %0, [%0, #16]", 32, 0, ""), ("stzg %0, [%0, #16]", 31, 31, PAST),
+    ("stz2g %0, [%0]", 32, 0, ""), ("stz2g %0, [%0]", 16, 16, NONE),
+    ("stg %0, [%0]", 15, 0, ""), ("st2g %0, [%0]", 31, 0, ""),
+])
+def test_exact_compares_the_granules_that_are_cleared(
+    alone: pathlib.Path, tmp_path: pathlib.Path, instruction: str, size: int, offset: int,
+    said: str
+) -> None:
+    """STZG clears sixteen bytes and STZ2G 32, a post-indexed one at its base; STG and ST2G none.
+    The byte that is told is at an offset from the chunk's first, at 0x10 of its class."""
+    source = ZEROED.replace("SIZE", str(size)).replace("INSTRUCTION", instruction)
+    ran = run([alone, "--exact", compiled(tmp_path, "zeroed", source)])
+    assert ran.status == (137 if said else 0)
+    told = re.search(r"the byte at 0x\w*00(\w\w) (.*)", ran.errors)
+    assert (told and (int(told[1], 16) - 16, told[2])) == ((offset, said) if said else None)
+
+
 SMASHED = """#include "tenant.h"
 __attribute__((noinline)) static void fill(volatile char *to, unsigned long count)
 {

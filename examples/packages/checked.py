@@ -288,7 +288,9 @@ def keep(path: pathlib.Path, finding: Finding) -> Finding:
     kept = json.loads(path.read_text(encoding="utf-8")) if path.exists() else []
     own = vars(finding)
     others = [each for each in kept if any(each[it] != own[it] for it in KEY)]
-    path.write_text(json.dumps([*others, own], indent=1), encoding="utf-8")
+    beside = path.with_suffix(".part")
+    beside.write_text(json.dumps([*others, own], indent=1), encoding="utf-8")
+    beside.replace(path)
     return finding
 
 

@@ -1,8 +1,6 @@
 -- What a plain address is for, and which block of a size class it is in.
 use Rattle.std.specs.Prelude.{◌≡◌, ℕ, ◌+◌, ◌-◌, ◌%◌, ◌<◌, ◌≤◌}
-use Rattle.address_map.specs.declared.ranges.TheConstants.{REGION_SIZE, IMAGE_START, IMAGE_END}
-use Rattle.address_map.specs.declared.ranges.TheConstants.{SECONDARY_START, SECONDARY_END}
-use Rattle.address_map.specs.declared.ranges.TheConstants.{STACK_START, STACK_END}
+use Rattle.address_map.specs.declared.ranges.TheConstants.{REGION_SIZE}
 use Rattle.scudo_header.specs.Classes.{IsClass, size_of}
 use Rattle.scudo_header.specs.Regions.{region_of}
 use Rattle.heap_bounds.specs.declared.blocks.Block.{Block}
@@ -17,13 +15,6 @@ pub record IsInRegion (c addr : ℕ) : Type 0 where
   pub class : IsClass c
   pub first : region_of c ≤ addr
   pub last : addr < region_of c + REGION_SIZE
-
--- A plain address that no range is for: it is in no image, of no chunk and not in the stack.
-pub record IsInNoRange (addr : ℕ) : Type 0 where
-  pub image : IsBetween IMAGE_START IMAGE_END addr → ⊥
-  pub class : (c : ℕ) → IsInRegion c addr → ⊥
-  pub large : IsBetween SECONDARY_START SECONDARY_END addr → ⊥
-  pub stack : IsBetween STACK_START STACK_END addr → ⊥
 
 -- The block that a plain address is in: blocks of one size follow one another from the start of the
 -- region of their class on.

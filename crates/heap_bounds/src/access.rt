@@ -1,6 +1,6 @@
 //! What a load or store accesses.
 
-use crate::addressing::{base, register_offset, scaled_offset, signed_offset, unit};
+use crate::addressing::{base, register_offset, scaled_offset, signed_offset, tag_offset, unit};
 use a64_instr::Instr;
 use a64_registers::Regs;
 
@@ -34,7 +34,7 @@ impl MemoryAccess {
 }
 
 /// What the instruction loads or stores, by the registers before it. `None` where it does neither,
-/// or loads or stores tags alone.
+/// loads or stores tags alone, or stores zeros with tags (STZG, STZ2G).
 pub fn access_of(instr: &Instr, regs: &Regs) -> Option<MemoryAccess> {
     match *instr {
         Instr::LdStImm {
@@ -135,7 +135,10 @@ fn pair_of(instr: &Instr, regs: &Regs) -> Option<MemoryAccess> {
             rt2,
             rn,
             rt,
-        } => Some(tagged_pair(regs, rn, tag_offset(mode, imm7), rt, rt2)),
+        } => {
+            let offset = tag_offset(mode, i64::from(imm7));
+            Some(tagged_pair(regs, rn, offset, rt, rt2))
+        }
         _ => None,
     }
 }
@@ -190,16 +193,6 @@ fn pair(regs: &Regs, rn: u8, imm7: i64, fields: PairForm) -> MemoryAccess {
         second: Some(rt2),
         is_write: l == 0,
         is_checked: true,
-    }
-}
-
-/// Where STGP stores, from its base on: behind the base's old value where that is written after
-/// the access (mode 1, post-index), in granules otherwise.
-fn tag_offset(mode: u8, imm7: i8) -> u64 {
-    if mode == 1 {
-        0
-    } else {
-        signed_offset(i64::from(imm7)).wrapping_mul(16)
     }
 }
 

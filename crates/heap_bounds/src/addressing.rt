@@ -38,6 +38,16 @@ pub fn signed_offset(offset: i64) -> u64 {
     u64::from_le_bytes(offset.to_le_bytes())
 }
 
+/// Where a store of tags begins, from its base on: at the base's old value where that is written
+/// after the access (mode 1, post-index), a number of granules behind it otherwise.
+pub(crate) fn tag_offset(mode: u8, granules: i64) -> u64 {
+    if mode == 1 {
+        0
+    } else {
+        signed_offset(granules).wrapping_mul(16)
+    }
+}
+
 /// An offset register as its option extends it: UXTW 2, LSL 3, SXTW 6, SXTX 7.
 fn extended(value: u64, option: u8) -> u64 {
     let low = value % 4_294_967_296;

@@ -4,7 +4,7 @@ ghost use Rattle.std.specs.Prelude.{◌≡◌, ℕ, ◌↔◌, ◌≤◌, ◌<�
 ghost use Rattle.address_map.specs.declared.ranges.TheConstants.{IMAGE_START, IMAGE_END};
 ghost use Rattle.address_map.specs.declared.ranges.TheConstants.{STACK_START, STACK_END};
 ghost use Rattle.address_map.specs.declared.ranges.TheConstants.{SECONDARY_START, SECONDARY_END};
-ghost use Rattle.heap_bounds.specs.Blocks.{IsBetween, IsInRegion, IsInNoRange, IsBlockAt};
+ghost use Rattle.heap_bounds.specs.Blocks.{IsBetween, IsInRegion, IsBlockAt};
 
 use address_map::{
     IMAGE_END, IMAGE_START, REGION_SIZE, REGIONS_START, SECONDARY_END, SECONDARY_START, STACK_END,
@@ -30,7 +30,7 @@ pub enum RangeUse {
 
 impl RangeUse {
     ghost use Rattle.heap_bounds.specs.declared.blocks.RangeUse.TheVariants.{Image, Class, Large};
-    ghost use Rattle.heap_bounds.specs.declared.blocks.RangeUse.TheVariants.{Stack, Nothing};
+    ghost use Rattle.heap_bounds.specs.declared.blocks.RangeUse.TheVariants.{Stack};
 
     /// The range of a plain address.
     pub fn of(addr: u64) -> RangeUse
@@ -38,7 +38,6 @@ impl RangeUse {
         ensures class { (c : ℕ) → (result ≡ Class c) ↔ IsInRegion c addr }
         ensures large { (result ≡ Large) ↔ IsBetween SECONDARY_START SECONDARY_END addr }
         ensures stack { (result ≡ Stack) ↔ IsBetween STACK_START STACK_END addr }
-        ensures nothing { (result ≡ Nothing) ↔ IsInNoRange addr }
     {
         match addr {
             IMAGE_START..IMAGE_END => RangeUse::Image,

@@ -1,6 +1,6 @@
 //! The bytes that a tenant may access in its heap: those of its live chunks, to the byte.
 
-ghost use Rattle.std.specs.Prelude.{◌≡◌, ◌≤◌, ◌↔◌, None, true, false, IsTrue, IfOk};
+ghost use Rattle.std.specs.Prelude.{◌≡◌, ◌≤◌, ◌↔◌, [], None, true, false, IsTrue, IfOk};
 ghost use Rattle.heap_bounds.specs.Extents.{IsByteOf, IsGranuleOf};
 
 use crate::blocks::{Block, RangeUse};
@@ -95,7 +95,9 @@ impl Model for Bounds {
 
 impl Bounds {
     /// The bounds of a tenant without chunks.
-    pub fn new(alloc: Global) -> Bounds {
+    pub fn new(alloc: Global) -> Bounds
+        ensures { result ≡ record { blocks = []; large = [] } }
+    {
         Bounds {
             blocks: BTreeMap::new(alloc),
             large: Vec::new(alloc),

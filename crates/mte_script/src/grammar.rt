@@ -57,10 +57,12 @@ fn read_slice(words: &[&[u8]]) -> Result<Event, ScriptFault>
     requires { 3 ≤ length words.now }
     ensures { result ≡ slice_event (map (λ w. w.now) words.now) }
 {
-    if !(is(words[0], b"slice") && is_number(words[1]) && is_number(words[2])) {
+    if !is(words[0], b"slice") {
         return Err(ScriptFault::Syntax);
     }
-    let (id, steps) = (number_at(words, 1), number_at(words, 2));
+    let (Some(id), Some(steps)) = (decimal(words[1]), decimal(words[2])) else {
+        return Err(ScriptFault::Syntax);
+    };
     if id > ID_LIMIT || steps > MAX_STEPS {
         return Err(ScriptFault::BadNumber);
     }

@@ -1,10 +1,10 @@
 //! The book of a tenant's heap calls.
 
-ghost use Rattle.std.specs.Prelude.{◌≡◌, ◌≢◌, drop, option_map, IfOk, None};
+ghost use Rattle.std.specs.Prelude.{◌≡◌, ◌≢◌, [], drop, option_map, IfOk, IfSome, None};
 ghost use Rattle.a64_bits.specs.Addresses.{plain};
 ghost use Rattle.heap_bounds.specs.Chunks.{returned_chunk, ended_chunk};
 ghost use Rattle.run_book.specs.Ends.{new_chunk, with_ending};
-ghost use Rattle.run_book.specs.Books.{seen_by, newest_call};
+ghost use Rattle.run_book.specs.Books.{seen_by, entries_of, room_of, newest_call, IsEntered};
 
 use a64_bits::plain;
 use circular_buffer::HeapCircularBuffer;
@@ -166,7 +166,9 @@ impl BookChunk {
 impl Book {
     /// An empty book.
     pub fn new(alloc: Global) -> Result<Book, AllocError>
-        ensures { IfOk result (λ book. seen_by book ≡ 0) }
+        ensures seen { IfOk result (λ book. seen_by book ≡ 0) }
+        ensures entries { IfOk result (λ book. entries_of book ≡ []) }
+        ensures room { IfOk result (λ book. room_of book ≡ KEPT) }
     {
         let entries = HeapCircularBuffer::with_capacity(alloc, KEPT)?;
         Ok(Book { entries, seen: 0 })
@@ -182,6 +184,9 @@ impl Book {
         ensures call { parts.now.history.calls.count ≢ seen_by self.old
             → result ≡ newest_call parts.now.history.calls }
         ensures seen { seen_by self.new ≡ parts.now.history.calls.count }
+        ensures entered { IfSome result (IsEntered parts.now self.old self.new) }
+        ensures others { result ≡ None → entries_of self.new ≡ entries_of self.old }
+        ensures room { room_of self.new ≡ room_of self.old }
     {
         let calls = &parts.history.calls;
         if calls.count() == self.seen {

@@ -74,7 +74,7 @@ impl Exact {
         self.finding.as_ref()
     }
 
-    /// Whether each chunk could be entered, so that no access was missed.
+    /// Whether each chunk could be entered. Where one could not, nothing is judged from there on.
     pub fn is_complete(&self) -> bool {
         self.is_complete
     }
@@ -109,7 +109,7 @@ impl Exact {
 
     /// What an instruction that completed accessed and may not.
     fn check(&self, moment: &Moment, parts: &TenantParts) -> Option<ForbiddenAccess> {
-        if self.finding.is_some() || !parts.is_running() {
+        if !self.is_complete || self.finding.is_some() || !parts.is_running() {
             return None;
         }
         let span = span_of(moment.word?, &moment.regs, &parts.regs)?;

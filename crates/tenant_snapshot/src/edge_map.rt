@@ -3,7 +3,6 @@
 ghost use Rattle.std.specs.Prelude.{◌≡◌, length, is_some};
 ghost use Rattle.tenant_snapshot.specs.Maps.{is_map_length, edge_hash, count_after, counts_after};
 
-use a64_execute::behind;
 use a64_run::Edges;
 
 /// The fewest counts of a map.
@@ -83,16 +82,6 @@ impl<'a> Edges for EdgeMap<'a> {
 pub struct CountedEdges<'a> {
     /// The map.
     pub map: Option<EdgeMap<'a>>,
-}
-
-impl<'a> CountedEdges<'a> {
-    /// Counts the edge between the addresses of two instructions that are attempted in turn, where
-    /// the first is a branch that is taken.
-    pub(crate) fn count(&mut self, from: u64, to: u64) {
-        if to != behind(from) {
-            self.taken(from, to);
-        }
-    }
 }
 
 impl<'a> Edges for CountedEdges<'a> {

@@ -4,6 +4,7 @@ ghost use Rattle.std.specs.Prelude.{None};
 
 use crate::edge_map::{CountedEdges, EdgeMap};
 use a64_registers::Regs;
+use a64_run::count_edge;
 use heap_bounds::{Bounds, Span, Trespass, span_of};
 use mte_svc::{HeapCalls, TenantParts};
 use mte_tags::Paged;
@@ -97,7 +98,7 @@ impl<'a> Watch for ExactWatch<'a> {
         if calls.count() != before.calls {
             self.is_complete = enter_last(&mut self.chunks, calls) && self.is_complete;
         } else if parts.is_running() {
-            self.edges.count(before.regs.pc, parts.regs.pc);
+            count_edge(&mut self.edges, before.regs.pc, parts.regs.pc);
             if self.is_complete && self.finding.is_none() {
                 self.finding = judge(&self.chunks, before, parts);
             }

@@ -57,6 +57,7 @@ impl SnapshotTenant {
         ensures refused { IfErr result (λ o. IfRefused o (λ e.
             admission_refusal (charge_of admission.now.terms.pages) []
             admission.now.id (start_in admission.now) ≡ Some e)) }
+        ensures chunks { IfOk result (λ t. t.chunks ≡ record { blocks = []; large = [] }) }
         ensures memory { IsErrOf result Obstacle.OutOfMemory
             → is_bad admission.now.terms ≡ false }
     {
@@ -83,6 +84,7 @@ impl SnapshotTenant {
             ≡ after_slice steps (machine_of self.old.parts self.old.memory.now) }
         ensures saved { machine_of self.new.saved self.new.memory.saved
             ≡ machine_of self.old.saved self.old.memory.saved }
+        ensures chunks { self.new.chunks ≡ self.old.chunks }
     {
         slice_with_edges(
             &mut self.words,
@@ -99,6 +101,7 @@ impl SnapshotTenant {
             ≡ after_slice steps (machine_of self.old.parts self.old.memory.now) }
         ensures saved { machine_of self.new.saved self.new.memory.saved
             ≡ machine_of self.old.saved self.old.memory.saved }
+        ensures chunks { self.new.chunks ≡ self.old.chunks }
     {
         slice_watched(watch, &mut self.parts, &mut self.memory, steps);
     }
@@ -109,6 +112,7 @@ impl SnapshotTenant {
             ≡ after_slice steps (machine_of self.old.parts self.old.memory.now) }
         ensures saved { machine_of self.new.saved self.new.memory.saved
             ≡ machine_of self.old.saved self.old.memory.saved }
+        ensures chunks { self.new.chunks ≡ self.old.chunks }
     {
         match watch {
             RunWatch::Edges(edges) => self.slice(edges, steps),
@@ -124,6 +128,7 @@ impl SnapshotTenant {
             ≡ machine_of self.old.parts self.old.memory.now) }
         ensures err { OnErr result (machine_of self.new.saved self.new.memory.saved
             ≡ machine_of self.old.saved self.old.memory.saved) }
+        ensures chunks { self.new.chunks ≡ self.old.chunks }
     {
         let saved = self.parts.copy(alloc)?;
         self.memory.save(alloc)?;
@@ -140,6 +145,7 @@ impl SnapshotTenant {
             ≡ machine_of self.old.parts self.old.memory.now) }
         ensures saved { machine_of self.new.saved self.new.memory.saved
             ≡ machine_of self.old.saved self.old.memory.saved }
+        ensures chunks { self.new.chunks ≡ self.old.chunks }
     {
         let history = self.saved.history.copy(alloc)?;
         let heap = self.saved.heap.copy(alloc)?;
