@@ -57,7 +57,6 @@ impl SnapshotTenant {
         ensures refused { IfErr result (λ o. IfRefused o (λ e.
             admission_refusal (charge_of admission.now.terms.pages) []
             admission.now.id (start_in admission.now) ≡ Some e)) }
-        ensures chunks { IfOk result (λ t. t.chunks ≡ record { blocks = []; large = [] }) }
         ensures memory { IsErrOf result Obstacle.OutOfMemory
             → is_bad admission.now.terms ≡ false }
     {
