@@ -328,7 +328,7 @@ REFUSED_FORMS = [
     ("Hint {} done r m |  | no_operation | Hints: NOP, BTI and their kind. | \n",
      "Hint {} done r m |  | no_operation | Hints: NOP, BTI and their kind. | is_rare\n",
      "Hint: a rare form is a row with constants"),
-    *(("Svc Svc |  |", "".join(f"Svc{n} Svc |  | call_supervisor | SVC. |\n" for n in range(58))
+    *(("Svc Svc |  |", "".join(f"Svc{n} Svc |  | call_supervisor | SVC. |\n" for n in range(56))
        + "Svc Svc |  |", "Svc: Op has 254 forms, and may have 253: a rare form has the family "
        "is_rare or is_rare_access"),),
 ]

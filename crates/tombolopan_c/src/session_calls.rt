@@ -1,6 +1,6 @@
 //! The export that runs a session.
 
-ghost use Rattle.std.specs.Prelude.{◌≡◌, ◌≤◌, true, false};
+ghost use Rattle.std.specs.Prelude.{◌≡◌, true, false};
 ghost use Rattle.tombolopan_c.specs.LentSessions.{lent_input, is_frames, HasEnded, without_report};
 ghost use Rattle.call_reports.specs.declared.codes.TheConstants.{BAD_ARGUMENT};
 
@@ -41,9 +41,7 @@ pub extern "C" fn tb_session(
 
 /// Whether a host may have `frames` frames.
 fn is_few(frames: u32) -> bool
-    ensures few { result ≡ is_frames frames }
-    ensures some { result ≡ true → 1 ≤ frames }
-    ensures most { result ≡ true → frames ≤ 65536 }
+    ensures { result ≡ is_frames frames }
 {
     frames != 0 && frames as usize <= MAX_FRAMES
 }
@@ -56,8 +54,7 @@ fn ended(
     files: &[LentBytes<'_>],
     report: &mut [u8],
 ) -> SessionEnd
-    requires some { 1 ≤ frames }
-    requires few { frames ≤ 65536 }
+    requires frames { is_frames frames ≡ true }
     ensures { HasEnded (lent_input frames script.now files.now) report.old report.new result }
 {
     let Ok(copies) = copy_files(alloc, files) else {
