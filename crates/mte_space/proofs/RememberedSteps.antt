@@ -1,5 +1,5 @@
 -- Remembered pages where the pages of a tenant's table change.
-use Rattle.std.proofs.Common.{◌≡◌, ◌∙◌, ℕ, ◌<◌, ◌*◌, ◌/◌, ◌%◌, ◌^◌, List, [], ◌∷◌, Some, length, replicate, slice_set, refl, sym, ap, subst, arith}
+use Rattle.std.proofs.Common.{◌≡◌, ◌∙◌, ℕ, ◌<◌, ◌*◌, ◌/◌, ◌^◌, List, [], ◌∷◌, Some, length, replicate, refl, sym, ap, subst, arith}
 use Rattle.std.specs.FinMap.{get}
 use Rattle.std.proofs.lemmas.List.{length-replicate, length-set}
 use Rattle.std.specs.Prelude.{All}
@@ -8,6 +8,7 @@ use Rattle.mte_translate.specs.Tables.{Pages, Agrees, IsCached}
 use Rattle.mte_translate.specs.declared.translation.Translation.{Translation}
 use Rattle.mte_tags.specs.declared.attrs.Attrs.{Attrs}
 use Rattle.mte_space.specs.Remembered.{attrs_of, IsKey, IsUpToDate, IsRemembered, with_page_at}
+use Rattle.mte_space.specs.declared.remembered.TheConstants.{PLACES}
 use Rattle.mte_space.specs.declared.remembered.RememberedPage.{RememberedPage}
 use Rattle.mte_space.specs.declared.remembered.RememberedPages.{RememberedPages}
 
@@ -53,10 +54,10 @@ nothing_is m = record {
   writable = λ low. absurd (omega (arith, low));
 }
 
-pub nothing_remembered : (m : Pages) (r : RememberedPages) → r.pages.value ≡ replicate 65 nothing → IsRemembered m r
+pub nothing_remembered : (m : Pages) (r : RememberedPages) → r.pages.value ≡ replicate PLACES nothing → IsRemembered m r
 nothing_remembered m r e = record {
-  places = ap length e ∙ length-replicate 65 nothing;
-  pages = subst (All (IsUpToDate m)) (sym e) (All-replicate (IsUpToDate m) 65 nothing (nothing_is m));
+  places = ap length e ∙ length-replicate PLACES nothing;
+  pages = subst (All (IsUpToDate m)) (sym e) (All-replicate (IsUpToDate m) PLACES nothing (nothing_is m));
 }
 
 -- one more page
