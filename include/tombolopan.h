@@ -523,10 +523,10 @@ uint32_t tb_fuzz_run(tb_fuzz *fuzz, const tb_fuzz_input *run, uint8_t *map, size
 /*
  * Does what tb_fuzz_run does, and tells in `finding` the first access of the run that goes beyond
  * the bytes of the tenant's chunks, within a granule too, whatever the tags: of a load or a store
- * that completed, but for STZG and STZ2G, or of a service that read or wrote. The chunks are those
- * that its heap calls made, the setup's among them; accesses of the setup are not judged. The run
- * goes on behind it: it leaves the same machine, the same counts and the same `end`. Where no run
- * was done, `finding` is zero. It takes some ten times as long for each step.
+ * that completed, the zeros of STZG and STZ2G too, or of a service that read or wrote. The chunks
+ * are those that its heap calls made, the setup's among them; accesses of the setup are not judged.
+ * The run goes on behind it: it leaves the same machine, the same counts and the same `end`. Where
+ * no run was done, `finding` is zero. It takes some ten times as long for each step.
  */
 uint32_t tb_fuzz_run_exact(tb_fuzz *fuzz, const tb_fuzz_input *run, uint8_t *map,
                            size_t map_length, tb_alone_end *end, tb_fuzz_finding *finding);
