@@ -37,8 +37,8 @@ def test_a_step_takes_few_instructions(host: pathlib.Path) -> None:
 
 
 # The same of programs over Debian's sources.
-MOST_REAL = {"zlib": 41.2, "lz4": 55.5, "expat": 41.3, "bzip2": 44.8, "libtommath": 44.8,
-             "xz": 44.5}
+MOST_REAL = {"zlib": 39.9, "lz4": 45.2, "expat": 38.2, "bzip2": 42.0, "libtommath": 43.8,
+             "xz": 41.8}
 
 
 @pytest.mark.parametrize("name", sorted(MOST_REAL))
