@@ -111,9 +111,10 @@ impl Host {
         let facts = self.ledger_facts(admission.id);
         let plan = accept(alloc, admission, facts)?;
         accepted_means(facts, admission);
+        // In front of the output's room, so that the next tenant takes the same block.
+        let remembered = RememberedPages::new(alloc)?;
         let first = start_parts(alloc, admission, &plan)?;
         let parts = Box::new(alloc, first)?;
-        let remembered = RememberedPages::new(alloc)?;
         make_room(&mut self.tenants)?;
         let asid = self.tenants.len();
         self.index.enter(admission.id, asid);
