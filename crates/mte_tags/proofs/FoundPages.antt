@@ -1,11 +1,11 @@
 -- What an access is in the page that was found for it, in whatever memory that has this page.
-use Rattle.std.proofs.Common.{◌≡◌, ℕ, ◌+◌, ◌-◌, ◌*◌, ◌/◌, ◌%◌, ◌^◌, ◌<◌, ◌≤◌, Bool, Option, Some, None, is_none, Err, List, length, take, drop, true, false, refl, sym, ap, ◌∙◌, arith, eq-eqb}
+use Rattle.std.proofs.Common.{◌≡◌, ℕ, ◌+◌, ◌-◌, ◌*◌, ◌/◌, ◌%◌, ◌^◌, ◌<◌, ◌≤◌, Bool, Option, Some, None, is_none, Ok, Err, List, length, take, drop, true, false, refl, sym, ap, ◌∙◌, arith, eq-eqb}
 use Rattle.std.proofs.lemmas.Bool.{cond-true}
 use Rattle.std.proofs.lemmas.List.{length-take}
 use Rattle.std.specs.Int.{from_le_bytes, w32}
 use Rattle.a64_bits.specs.Addresses.{plain}
 use Rattle.std.specs.List.{range_with_len, slice_range}
-use Rattle.mte_tags.specs.Memory.{Memory, Page, page_at, with_page, tag_at, tag_cases, with_granules}
+use Rattle.mte_tags.specs.Memory.{Memory, Page, page_at, with_page, has, has_cases, attrs_cases, attrs_at, page_has, tag_at, tag_cases, with_granules}
 use Rattle.mte_tags.specs.declared.fault.FaultKind.TheVariants.{Translation}
 use Rattle.mte_tags.specs.Accesses.{addresses, granules, byte_fault, first_fault, fault, fault_cases, bytes_at, with_bytes, fetch_result, fetch_cases, fetch_access, word_at, read_bytes}
 use Rattle.mte_tags.specs.Runs.{with_bytes_run, with_bytes_in, with_granule_tags}
@@ -14,7 +14,7 @@ use Rattle.mte_tags.specs.declared.access.Access.{Access}
 use Rattle.mte_tags.specs.declared.fault.MemFault.{MemFault}
 use Rattle.mte_tags.proofs.AddressLists.{addresses_in_page}
 use Rattle.mte_tags.proofs.GranuleLists.{first_fault_in_run, first_fault_one}
-use Rattle.mte_tags.proofs.PageRuns.{first_fault_in, first_in-none, bytes_at-run, with_bytes-run}
+use Rattle.mte_tags.proofs.PageRuns.{first_fault_in, first_in-none, first_in-untagged, bytes_at-run, with_bytes-run}
 use Rattle.mte_tags.proofs.RunSteps.{length_range}
 use Rattle.mte_tags.proofs.Pages.{page_at-with_page_same}
 use Rattle.mte_tags.proofs.TagRuns.{with_granules-run}
@@ -116,6 +116,26 @@ page_word m p pc at found g e long =
     let size : length (slice_range bs (at % 4096) (at % 4096 + 4)) ≡ 4 = length_range bs (at % 4096) 4 (omega arith) in
     ap (from_le_bytes w32) (page_read m p at 4 4 (slice_range bs (at % 4096) (at % 4096 + 4)) found (omega arith) (omega arith) size refl refl)
     ∙ ap (λ a. from_le_bytes w32 (bytes_at m (addresses a 4))) e
+
+-- the attributes of the page that was looked for
+pub found_has : (m : Memory) (o : Option Page) (pc at need : ℕ) → page_at m (at / 4096) ≡ o → at ≡ plain pc → page_has m (plain pc / 4096) need ≡ has_cases (attrs_cases o) need
+unfolding page_has attrs_at
+found_has m o pc at need found e = ap (λ q. has_cases (attrs_cases q) need) (ap (λ a. page_at m (a / 4096)) (sym e) ∙ found)
+
+-- one of 16 words that a page with EXEC holds from an aligned address on
+pub page_fetches : (m : Memory) (p : Page) (pc at i : ℕ) → page_at m (at / 4096) ≡ Some p → pc % 4 ≡ 0 → pc % 4096 ≤ 4032 → at ≡ plain pc → has p.attrs 4 ≡ true → length p.bytes ≡ 4096 → i < 16
+    → fetch_result m (pc + 4 * i) ≡ Ok (from_le_bytes w32 (slice_range p.bytes (at % 4096 + 4 * i) (at % 4096 + 4 * i + 4)))
+page_fetches m p pc at i found g low e permitted long b =
+    let next = pc + 4 * i in
+    let to : at + 4 * i ≡ plain next = omega (arith, g, low, e, b) in
+    let same : (at + 4 * i) / 4096 ≡ at / 4096 = omega (arith, g, low, e, b) in
+    let offset : (at + 4 * i) % 4096 ≡ at % 4096 + 4 * i = omega (arith, g, low, e, b) in
+    let aligned : next % 4 ≡ 0 = omega (arith, g) in
+    let there : page_at m ((at + 4 * i) / 4096) ≡ Some p = ap (page_at m) same ∙ found in
+    sym (page_fetched m p next (at + 4 * i) (fetch_access next) there aligned to refl)
+    ∙ ap (fetch_cases m next) (first_in-untagged (fetch_access next) p (at + 4 * i) 4 permitted refl)
+    ∙ ap (λ w. Ok w) (sym (page_word m p next (at + 4 * i) there aligned to long))
+    ∙ ap (λ o. Ok (from_le_bytes w32 (slice_range p.bytes o (o + 4)))) offset
 
 pub page_tag : (m : Memory) (p : Page) (at : ℕ) → page_at m (at / 4096) ≡ Some p → tag_at m at ≡ tag_cases (Some p) (at % 4096 / 16)
 unfolding tag_at

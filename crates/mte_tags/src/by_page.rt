@@ -22,9 +22,9 @@ use crate::page_store::PageStore;
 use crate::state::TagMode;
 use crate::tagged::{ChunkAccess, Tagged};
 use crate::within_page::{
-    code_has_attrs, fault_of_run, fetch_aligned, granule_tag_at, read_in_page, store_tags_in_page,
-    try_read, try_read_in_page, try_read_unaligned, try_write, try_write_in_page,
-    try_write_unaligned, write_in_page,
+    code_has_attrs, fault_of_run, fetch_aligned, fetch_words_in_page, granule_tag_at, read_in_page,
+    store_tags_in_page, try_read, try_read_in_page, try_read_unaligned, try_write,
+    try_write_in_page, try_write_unaligned, write_in_page,
 };
 use a64_bits::plain;
 
@@ -470,6 +470,11 @@ impl<S: PageStore> Tagged for S {
     #[inline(always)]
     fn fetch(&mut self, pc: u64) -> Result<u32, MemFault> {
         fetch_word(self, pc)
+    }
+
+    #[inline(always)]
+    fn fetch_words(&mut self, pc: u64, words: &mut [u32; 16]) -> bool {
+        fetch_words_in_page(self, pc, words)
     }
 
     #[inline(always)]

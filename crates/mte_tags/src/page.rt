@@ -1,7 +1,7 @@
 //! What is done within the page that a place holds.
 
-ghost use Rattle.std.specs.Prelude.{◌≡◌, ℕ, ◌<◌, ◌≤◌, ◌+◌, ◌%◌, ◌/◌, ◌^◌, ◌&&◌};
-ghost use Rattle.std.specs.Prelude.{true, Some, IsTrue, is_none, length, slice_range};
+ghost use Rattle.std.specs.Prelude.{◌≡◌, ℕ, ◌<◌, ◌≤◌, ◌+◌, ◌*◌, ◌%◌, ◌/◌, ◌^◌, ◌&&◌};
+ghost use Rattle.std.specs.Prelude.{true, Some, IsTrue, is_none, length, slice_index, slice_range};
 ghost use Rattle.std.specs.List.{range_with_len};
 ghost use Rattle.std.specs.Int.{from_le_bytes, w32};
 ghost use Rattle.a64_bits.specs.Addresses.{plain};
@@ -193,6 +193,28 @@ pub(crate) fn word_in_page<S: PageStore>(store: &S, place: usize, at: u64) -> u3
     let mut word = [0; 4];
     copy_out(store, place, at, &mut word);
     u32::from_le_bytes(word)
+}
+
+/// Copies the 16 instruction words from an address on out.
+#[inline(always)]
+pub(crate) fn words_in_page<S: PageStore>(store: &S, place: usize, at: u64, words: &mut [u32; 16])
+    requires place { S.is_place store.now place }
+    requires inside { at % 4096 + 64 ≤ 4096 }
+    ensures long { length (S.page_in store.now place).bytes ≡ 4096 }
+    ensures words { (i : ℕ) → i < 16
+        → slice_index words.new i
+        ≡ from_le_bytes w32
+        (slice_range (S.page_in store.now place).bytes
+        (at % 4096 + 4 * i) (at % 4096 + 4 * i + 4)) }
+{
+    let from = (at % 4096) as usize;
+    let bytes = store.bytes(place);
+    for i in 0..16 {
+        let start = from + 4 * i;
+        let mut word = [0; 4];
+        word.copy_from_slice(&bytes[start..start + 4]);
+        words[i] = u32::from_le_bytes(word);
+    }
 }
 
 /// Replaces a run of the 4096 bytes of a page. Runs of one register go through a copy that is no

@@ -3,6 +3,7 @@
 ghost use Rattle.std.specs.Prelude.{◌≡◌, ◌<◌, ◌≤◌, ◌+◌, ◌-◌, ◌/◌, ◌%◌, ◌↔◌, ◌^◌, true, false};
 ghost use Rattle.std.specs.Prelude.{IsOk, OnErr, OnOk, IfOk, IfSome, is_ok};
 ghost use Rattle.std.specs.Prelude.{length, if◌then◌else◌, Bool};
+ghost use Rattle.std.specs.Prelude.{◌==◌, ◌&&◌, ◌*◌, ℕ, Ok, IsTrue, IsFalse, nat_le, slice_index};
 ghost use Rattle.std.specs.Int.{from_le_bytes, w64};
 ghost use Rattle.a64_bits.specs.Addresses.{plain};
 ghost use Rattle.mte_tags.specs.Memory.{Memory, pages_left, with_new_pages, without_pages, IsFree};
@@ -33,6 +34,19 @@ pub trait Tagged {
     /// else.
     fn fetch(&mut self, pc: u64) -> Result<u32, MemFault>
         ensures answer { result ≡ fetch_result (memory self.old) pc }
+        ensures memory { memory self.new ≡ memory self.old }
+        ensures kept { kept self.old self.new };
+
+    /// The 16 instruction words from an address on, where one page with EXEC holds them and the
+    /// address is a multiple of 4; it says whether that is so. Each is what `fetch` gives there.
+    /// Elsewhere the words stay as they were.
+    fn fetch_words(&mut self, pc: u64, words: &mut [u32; 16]) -> bool
+        ensures answer { result
+            ≡ (pc % 4 == 0 && nat_le (pc % 4096) 4032
+            && page_has (memory self.old) (plain pc / 4096) 4) }
+        ensures words { IsTrue result → (i : ℕ) → i < 16
+            → fetch_result (memory self.old) (pc + 4 * i) ≡ Ok (slice_index words.new i) }
+        ensures left { IsFalse result → words.new ≡ words.old }
         ensures memory { memory self.new ≡ memory self.old }
         ensures kept { kept self.old self.new };
 

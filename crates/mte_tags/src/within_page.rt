@@ -4,7 +4,8 @@
 //! them a tag that differs is a fault, and none sets the flag.
 
 ghost use Rattle.std.specs.Prelude.{◌≡◌, ◌<◌, ◌≤◌, ◌+◌, ◌*◌, ◌/◌, ◌%◌, ◌^◌, false, None, IfOk};
-ghost use Rattle.std.specs.Prelude.{IsTrue, is_ok, length, if◌then◌else◌};
+ghost use Rattle.std.specs.Prelude.{◌==◌, ◌&&◌, ℕ, Ok, nat_le, slice_index};
+ghost use Rattle.std.specs.Prelude.{IsTrue, IsFalse, is_ok, length, if◌then◌else◌};
 ghost use Rattle.mte_tags.specs.Inner.{IsPageRun, IsReadOrLeft, IsWrittenOrLeft};
 ghost use Rattle.a64_bits.specs.Addresses.{plain};
 ghost use Rattle.mte_tags.specs.Memory.{tag_at, page_has, with_granules};
@@ -17,7 +18,7 @@ use crate::attrs::Attrs;
 use crate::fault::{FaultKind, MemFault};
 use crate::page::{
     copy_out, fits_one_page, granule_passes, granules_pass, is_register_size, run_fault,
-    run_passes, tag_in_page, word_in_page,
+    run_passes, tag_in_page, word_in_page, words_in_page,
 };
 use crate::page_store::PageStore;
 use crate::size::{Eight, Four, Sixteen, Size, Two};
@@ -74,6 +75,37 @@ pub(crate) fn code_has_attrs<S: PageStore>(store: &mut S, at: u64, attrs: Attrs)
         None => false,
         Some(place) => store.attrs(place).contains(attrs),
     }
+}
+
+/// The 16 instruction words from an address on, where one page with EXEC holds them and the address
+/// is a multiple of 4; it says whether that is so, and else leaves the words as they were.
+#[inline(always)]
+pub(crate) fn fetch_words_in_page<S: PageStore>(
+    store: &mut S,
+    pc: u64,
+    words: &mut [u32; 16],
+) -> bool
+    ensures answer { result
+        ≡ (pc % 4 == 0 && nat_le (pc % 4096) 4032
+        && page_has (S.memory store.old) (plain pc / 4096) 4) }
+    ensures words { IsTrue result → (i : ℕ) → i < 16
+        → fetch_result (S.memory store.old) (pc + 4 * i) ≡ Ok (slice_index words.new i) }
+    ensures left { IsFalse result → words.new ≡ words.old }
+    ensures memory { S.memory store.new ≡ S.memory store.old }
+    ensures kept { S.kept store.old store.new }
+{
+    if pc % 4 != 0 || pc % 4096 > 4032 {
+        return false;
+    }
+    let at = plain(pc);
+    let Some(place) = store.find_code(at / 4096) else {
+        return false;
+    };
+    if !store.attrs(place).contains(Attrs::EXEC) {
+        return false;
+    }
+    words_in_page(store, place, at, words);
+    true
 }
 
 /// Copies a run of bytes out, or returns the fault of the first that fails.
