@@ -70,6 +70,11 @@ impl Tagged for Flat {
     }
 
     #[inline(always)]
+    fn fetch_words(&mut self, pc: u64, words: &mut [u32; 16]) -> bool {
+        self.pages.fetch_words(pc, words)
+    }
+
+    #[inline(always)]
     fn read(&mut self, addr: u64, buffer: &mut [u8], check: bool) -> Result<(), MemFault> {
         self.pages.read(addr, buffer, check)
     }
