@@ -194,6 +194,11 @@ impl Tagged for Watched {
     }
 
     #[inline(always)]
+    fn fetch_words(&mut self, pc: u64, words: &mut [u32; 16]) -> bool {
+        self.flat.fetch_words(pc, words)
+    }
+
+    #[inline(always)]
     fn read(&mut self, addr: u64, buffer: &mut [u8], check: bool) -> Result<(), MemFault> {
         let len = buffer.len() as u64;
         let answer = self.flat.read(addr, buffer, check);
