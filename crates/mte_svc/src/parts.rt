@@ -13,10 +13,10 @@ use std::alloc::{AllocError, Global};
 /// All of a tenant's machine but its memory.
 #[derive(Drop)]
 pub struct TenantParts {
+    /// Its registers. They are the first field, so that a run holds one address for both.
+    pub regs: Regs,
     /// Its record.
     pub history: Record,
-    /// Its registers.
-    pub regs: Regs,
     /// Its heap.
     pub heap: Heap,
     /// What it has not yet read.
