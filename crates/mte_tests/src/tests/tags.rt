@@ -230,7 +230,31 @@ fn loading(rt: HostRuntime) -> Result<(), Fail> {
     let mut memory = Flat::new(rt.alloc(), 2, TagMode::Sync)?;
     memory.map_pages(16, 2, Attrs::READ)?;
     memory.load_bytes(0x0400_0000_0001_0FFC, &[1, 2, 3, 4, 5, 6, 7, 8]);
-    assert!(rt; answers(&mut memory, &LOADED));
+    assert!(rt; answers(&mut memory, &LOADED) && gives_no_words(&mut memory));
+    Ok(())
+}
+
+/// Whether a memory whose pages hold no instructions gives no words, and leaves what is there.
+fn gives_no_words(memory: &mut Flat) -> bool {
+    let mut words = [9; 16];
+    !memory.fetch_words(0x10FC0, &mut words) && words[15] == 9
+}
+
+/// Whether a memory gives the last 16 words of its page, and none where the page holds 15.
+fn gives_last_words(memory: &mut Flat) -> bool {
+    let mut words = [9; 16];
+    memory.fetch_words(0x0100_0000_0001_0FC0, &mut words)
+        && words[0] == 0
+        && words[15] == 0x0403_0201
+        && !memory.fetch_words(0x10FC4, &mut words)
+}
+
+#[test]
+fn words_in_a_row(rt: HostRuntime) -> Result<(), Fail> {
+    let mut memory = Flat::new(rt.alloc(), 1, TagMode::Sync)?;
+    memory.map_pages(16, 1, Attrs::TEXT)?;
+    memory.load_bytes(0x10FFC, &[1, 2, 3, 4]);
+    assert!(rt; gives_last_words(&mut memory));
     Ok(())
 }
 
