@@ -60,7 +60,10 @@ fn read_slice(words: &[&[u8]]) -> Result<Event, ScriptFault>
     if !is(words[0], b"slice") {
         return Err(ScriptFault::Syntax);
     }
-    let (Some(id), Some(steps)) = (decimal(words[1]), decimal(words[2])) else {
+    let Some(id) = decimal(words[1]) else {
+        return Err(ScriptFault::Syntax);
+    };
+    let Some(steps) = decimal(words[2]) else {
         return Err(ScriptFault::Syntax);
     };
     if id > ID_LIMIT || steps > MAX_STEPS {
