@@ -1,5 +1,5 @@
 -- The first line of a text: its words, and the lines after it.
-use Rattle.std.proofs.Common.{◌≡◌, ℕ, suc, ◌+◌, ◌-◌, ◌<◌, ◌≤◌, ◌==◌, ◌||◌, nat_le, Bool, true, false, List}
+use Rattle.std.proofs.Common.{◌≡◌, ℕ, suc, ◌+◌, ◌-◌, ◌<◌, ◌≤◌, ◌==◌, nat_le, Bool, true, false, List}
 use Rattle.std.proofs.Common.{[], ◌∷◌, ◌++◌, length, take, drop, get_or, refl, ap, sym, ◌∙◌, arith, add-one}
 use Rattle.std.proofs.Common.{length-drop, inl, inr, append_assoc, Some, None, Result}
 use Rattle.std.specs.Prelude.{if◌then◌else◌, filter}
@@ -22,21 +22,20 @@ word_len text = piece_len_of 32 (line_of text)
 abbrev pub is_last : List ℕ → Bool
 is_last text = get_or text (word_len text) 10 == 10
 
-pub end_found : (text : List ℕ) (i d : ℕ) (line space : Bool) → i < length text
-    → (get_or text i d == 10) ≡ line → (get_or text i d == 32) ≡ space → (line || space) ≡ true
+pub found_lf : (text : List ℕ) (i d : ℕ) → i < length text → (get_or text i d == 10) ≡ true → i + word_len (drop i text) ≡ i
+unfolding piece_len_of line_of
+found_lf text i d below e = rw (drop_more text i d below, e) (omega arith)
+
+pub found_space : (text : List ℕ) (i d : ℕ) (line : Bool) → i < length text → (get_or text i d == 10) ≡ line → (get_or text i d == 32) ≡ true
     → i + word_len (drop i text) ≡ i
 unfolding piece_len_of line_of
-end_found text i d true space below e s found = rw (drop_more text i d below, e) (omega arith)
-end_found text i d false true below e s found = rw (drop_more text i d below, e, s) (omega arith)
-end_found text i d false false below e s found = cc
+found_space text i d true below e s = rw (drop_more text i d below, e) (omega arith)
+found_space text i d false below e s = rw (drop_more text i d below, e, s) (omega arith)
 
-pub end_step : (text : List ℕ) (i d : ℕ) (line space : Bool) → i < length text
-    → (get_or text i d == 10) ≡ line → (get_or text i d == 32) ≡ space → (line || space) ≡ false
+pub end_step : (text : List ℕ) (i d : ℕ) → i < length text → (get_or text i d == 10) ≡ false → (get_or text i d == 32) ≡ false
     → i + word_len (drop i text) ≡ (i + 1) + word_len (drop (i + 1) text)
 unfolding piece_len_of line_of
-end_step text i d true space below e s other = cc
-end_step text i d false true below e s other = cc
-end_step text i d false false below e s other = rw (drop_more text i d below, e, s) (omega arith)
+end_step text i d below e s = rw (drop_more text i d below, e, s) (omega arith)
 
 pub end_text : (text : List ℕ) (i : ℕ) → length text ≤ i → i ≤ length text → i + word_len (drop i text) ≡ length text
 unfolding piece_len_of line_of

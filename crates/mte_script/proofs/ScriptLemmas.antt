@@ -1,5 +1,5 @@
 -- Texts cut at separators, and numbers read digit by digit.
-use Rattle.std.proofs.Common.{◌≡◌, ℕ, suc, ◌+◌, ◌-◌, ◌*◌, ◌^◌, ◌<◌, ◌≤◌, ◌==◌, Bool}
+use Rattle.std.proofs.Common.{◌≡◌, ℕ, suc, ◌+◌, ◌-◌, ◌*◌, ◌^◌, ◌<◌, ◌≤◌, ◌==◌, ◌&&◌, Bool}
 use Rattle.std.proofs.Common.{true, false, List, [], ◌∷◌, ◌++◌, length, take, drop, get_or, Option}
 use Rattle.std.proofs.Common.{Some, None, Result, Ok, Err, nat_lt, append_assoc}
 use Rattle.std.specs.Prelude.{option_map, option_to_list, if◌then◌else◌}
@@ -91,6 +91,10 @@ digits_step word i d all below least most h =
     let split = rw (drop_more word i d below) at h in
     let first : is_digit (get_or word i d) ≡ true = rw (le-leb 48 (get_or word i d) least, le-leb (get_or word i d) 57 most) refl in
     rw first at split
+
+pub both_true : (a b : Bool) → (a && b) ≡ true → (a ≡ true) × (b ≡ true)
+both_true true b h = (refl, h)
+both_true false b h = cc
 
 pub below_step : (value i x : ℕ) → value < 10 ^ i → x ≤ 9 → value * 10 + x < 10 ^ (i + 1)
 below_step value i x below small = rw (add-one, pow-suc 10 i) (omega arith)

@@ -1,6 +1,6 @@
 //! Texts cut at separators, and the numbers of words.
 
-ghost use Rattle.std.specs.Prelude.{◌≡◌, ◌+◌, ◌≤◌, ◌==◌, ◌||◌, [], ◌∷◌, ◌++◌, length, map, take, drop};
+ghost use Rattle.std.specs.Prelude.{◌≡◌, ◌+◌, ◌≤◌, [], ◌∷◌, ◌++◌, length, map, take, drop};
 ghost use Rattle.std.specs.Prelude.{filter};
 ghost use Rattle.mte_script.specs.Scripts.{words_of, is_some_text, piece_len_of, decimal_of, seed_of};
 ghost use Rattle.mte_script.specs.Scripts.{is_word};
@@ -44,18 +44,15 @@ fn word_end(text: &[u8], start: usize) -> usize
     ensures within { result ≤ length text.now }
 {
     for i in start..text.len() {
-        if ends_word(text[i]) {
+        let byte = text[i];
+        if byte > b' ' {
+            continue;
+        }
+        if byte == b' ' || byte == b'\n' {
             return i;
         }
     }
     text.len()
-}
-
-/// Whether a byte is none of a word. Most bytes are known by one comparison.
-fn ends_word(byte: u8) -> bool
-    ensures { result ≡ (byte == 10 || byte == 32) }
-{
-    byte <= b' ' && (byte == b' ' || byte == b'\n')
 }
 
 /// Writes a word behind the first `count` of a list, unless it is empty or the list is full. The
@@ -91,10 +88,11 @@ pub fn decimal(word: &[u8]) -> Option<u64>
     }
     let mut value = 0;
     for byte in word {
-        if *byte < b'0' || *byte > b'9' {
+        let code = u64::from(*byte);
+        if code < 48 || code > 57 {
             return None;
         }
-        value = value * 10 + u64::from(*byte - b'0');
+        value = value * 10 + (code - 48);
     }
     Some(value)
 }
