@@ -2,8 +2,8 @@
 
 ghost use Rattle.std.specs.Prelude.{◌≡◌, ◌+◌, ◌≤◌, [], ◌∷◌, ◌++◌, length, map, take, drop};
 ghost use Rattle.std.specs.Prelude.{filter};
-ghost use Rattle.mte_script.specs.Scripts.{words_of, is_some_text, piece_len_of, decimal_of, seed_of};
-ghost use Rattle.mte_script.specs.Scripts.{is_word};
+ghost use Rattle.mte_script.specs.Scripts.{words_of, is_some_text, piece_len_of, decimal_of};
+ghost use Rattle.mte_script.specs.Scripts.{seed_of, is_word};
 ghost use Rattle.mte_script.specs.Lines.{line_of};
 
 /// How many words of a line are read: one more than an event may have, by which a line with too
