@@ -1,6 +1,6 @@
 //! The event of a line's words.
 
-ghost use Rattle.std.specs.Prelude.{◌≡◌, ◌<◌, ◌≤◌, length, map};
+ghost use Rattle.std.specs.Prelude.{◌≡◌, ◌≢◌, ◌<◌, ◌≤◌, length, map};
 ghost use Rattle.mte_script.specs.Scripts.{event_by, stop_event, slice_event, admit_event};
 ghost use Rattle.mte_script.specs.Scripts.{is_admission, is_number, is_seed, number_at, seed_at};
 
@@ -22,10 +22,22 @@ const NUMBER_LIMIT: u64 = 4_294_967_295;
 pub fn event_of(words: &[&[u8]], files: usize) -> Result<Event, ScriptFault>
     ensures { result ≡ event_by files (map (λ w. w.now) words.now) }
 {
+    if words.len() == 3 {
+        read_slice(words)
+    } else {
+        read_other(words, files)
+    }
+}
+
+/// The event of other than three words: apart, since nearly all lines are slices.
+#[inline(never)]
+#[tactic(auto, unfolding(crate::specs::Scripts::event_by))]
+fn read_other(words: &[&[u8]], files: usize) -> Result<Event, ScriptFault>
+    requires { length words.now ≢ 3 }
+    ensures { result ≡ event_by files (map (λ w. w.now) words.now) }
+{
     if words.len() == 2 {
         read_stop(words)
-    } else if words.len() == 3 {
-        read_slice(words)
     } else if words.len() == 12 {
         read_admission(words, files, TagMode::Sync)
     } else if words.len() == 13 && is(words[12], b"async") {
@@ -60,7 +72,10 @@ fn read_slice(words: &[&[u8]]) -> Result<Event, ScriptFault>
     if !is(words[0], b"slice") {
         return Err(ScriptFault::Syntax);
     }
-    let (Some(id), Some(steps)) = (decimal(words[1]), decimal(words[2])) else {
+    let Some(id) = decimal(words[1]) else {
+        return Err(ScriptFault::Syntax);
+    };
+    let Some(steps) = decimal(words[2]) else {
         return Err(ScriptFault::Syntax);
     };
     if id > ID_LIMIT || steps > MAX_STEPS {

@@ -1,16 +1,15 @@
 //! Scripts: one event per line.
 
-ghost use Rattle.std.specs.Prelude.{◌≡◌, ◌≤◌, ◌+◌, length, vec_capacity, option_map};
-ghost use Rattle.std.specs.Prelude.{Ok, IfOk, IfErr};
+ghost use Rattle.std.specs.Prelude.{◌≡◌, ◌≤◌, ◌+◌, length, vec_capacity, Some};
+ghost use Rattle.std.specs.Prelude.{Ok, Err, IfOk, IfErr};
 ghost use Rattle.obstacle.specs.Obstacles.{IfRefused};
-ghost use Rattle.mte_script.specs.Scripts.{script_events, event_of_line};
+ghost use Rattle.mte_script.specs.Scripts.{script_events};
 ghost use Rattle.mte_script.specs.Faults.{IsFirstFault, IsLineFault};
 
 use crate::error::{ScriptError, ScriptFault};
 use crate::event::Event;
 use crate::grammar::event_of;
-use crate::text::{WORD_LIMIT, cut, read_words};
-use arrayvec::ArrayVec;
+use crate::text::{WORD_LIMIT, read_words};
 use obstacle::Obstacle;
 use std::alloc::Global;
 
@@ -36,54 +35,33 @@ pub fn parse_script(
 {
     let most = (script.len() + 1).min(EVENT_LIMIT);
     let mut events = Vec::with_capacity(alloc, most)?;
-    let mut words = ArrayVec::new();
-    let mut rest = Some(script);
+    let mut words: [&[u8]; WORD_LIMIT] = [&[]; WORD_LIMIT];
+    let mut next = 0;
     let mut number = 0;
-    while let Some(text) = rest {
-        let (line, more) = cut(text, b'\n');
+    while next <= script.len() {
+        let start = next;
+        let (count, end) = read_words(script, start, &mut words);
+        next = end + 1;
         number += 1;
-        match read_event(line, &mut words, number, files.len()) {
-            Err(error) => return Err(Obstacle::Refused(error)),
-            Ok(None) => {}
-            Ok(Some(event)) => {
+        if count == 0 || script[start] == b'#' {
+            continue;
+        }
+        match event_of(&words[..count], files.len()) {
+            Err(fault) => return Err(refusal(number, fault)),
+            Ok(event) => {
                 if events.len() >= EVENT_LIMIT {
-                    return Err(Obstacle::Refused(ScriptError {
-                        line: number,
-                        fault: ScriptFault::TooManyEvents,
-                    }));
+                    return Err(refusal(number, ScriptFault::TooManyEvents));
                 }
                 events.push_reserved(event);
             }
         }
-        rest = more;
     }
     Ok(events)
 }
 
-/// The event of a line, if it is one; `number` is the line's. Its words go into a list that serves
-/// all lines.
-#[tactic(auto, unfolding(crate::specs::Scripts::event_of_line))]
-fn read_event<'a>(
-    line: &'a [u8],
-    words: &mut ArrayVec<&'a [u8], WORD_LIMIT>,
-    number: u64,
-    files: usize,
-) -> Result<Option<Event>, ScriptError>
-    ensures event { IfOk result (λ event. option_map Ok event ≡ event_of_line files line.now) }
-    ensures fault { IfErr result (IsLineFault number (event_of_line files line.now)) }
+/// What a script is refused with: a line's number and its fault.
+fn refusal(line: u64, fault: ScriptFault) -> Obstacle<ScriptError>
+    ensures { IfRefused result (IsLineFault line (Some (Err fault))) }
 {
-    if line.starts_with(b"#") {
-        return Ok(None);
-    }
-    read_words(line, words);
-    if words.is_empty() {
-        return Ok(None);
-    }
-    match event_of(words.as_slice(), files) {
-        Ok(event) => Ok(Some(event)),
-        Err(fault) => Err(ScriptError {
-            line: number,
-            fault,
-        }),
-    }
+    Obstacle::Refused(ScriptError { line, fault })
 }

@@ -1,56 +1,74 @@
 //! Texts cut at separators, and the numbers of words.
 
-ghost use Rattle.std.specs.Prelude.{◌≡◌, ◌∷◌, [], ◌<◌, ◌≤◌, length, map, take, IfSome, IsNone, true};
-ghost use Rattle.std.specs.List.{list_all};
-ghost use Rattle.mte_script.specs.Scripts.{words_of, pieces_at, piece_len_of, decimal_of};
-ghost use Rattle.mte_script.specs.Scripts.{digits_value, seed_of, is_word, is_digit};
+ghost use Rattle.std.specs.Prelude.{◌≡◌, ◌+◌, ◌≤◌, [], ◌∷◌, ◌++◌, length, map, take, drop};
+ghost use Rattle.std.specs.Prelude.{filter};
+ghost use Rattle.mte_script.specs.Scripts.{words_of, is_some_text, piece_len_of, decimal_of};
+ghost use Rattle.mte_script.specs.Scripts.{seed_of, is_word};
+ghost use Rattle.mte_script.specs.Lines.{line_of};
 
-use arrayvec::ArrayVec;
+/// How many words of a line are read: one more than an event may have, by which a line with too
+/// many is known.
+pub const WORD_LIMIT: usize = 14;
 
-/// The part of a text before the first separator, and the text after it, if there is one.
-pub fn cut(text: &[u8], separator: u8) -> (&[u8], Option<&[u8]>)
-    ensures some { IfSome result.1 (λ rest.
-        pieces_at separator text.now ≡ result.0.now ∷ pieces_at separator rest.now) }
-    ensures none { IsNone result.1 → pieces_at separator text.now ≡ result.0.now ∷ [] }
-    ensures fewer { IfSome result.1 (λ rest. length rest.now < length text.now) }
+/// Reads the words of the line that begins at `start` into a list, as many as it has room for. The
+/// results are their number and where the line ends.
+pub fn read_words<'a>(
+    script: &'a [u8],
+    start: usize,
+    words: &mut [&'a [u8]; WORD_LIMIT],
+) -> (usize, usize)
+    requires { start ≤ length script.now }
+    ensures words { map (λ w. w.now) (take result.0 words.new)
+        ≡ take WORD_LIMIT (words_of (line_of (drop start script.now))) }
+    ensures count { result.0 ≤ WORD_LIMIT }
+    ensures kept { length words.new ≡ WORD_LIMIT }
+    ensures end { result.1 ≡ start + length (line_of (drop start script.now)) }
+    ensures within { result.1 ≤ length script.now }
 {
-    let end = piece_len(text, separator);
-    if end < text.len() {
-        (&text[..end], Some(&text[end + 1..]))
-    } else {
-        (text, None)
+    let mut count = 0;
+    let mut at = start;
+    loop {
+        let end = word_end(script, at);
+        count = add_word(words, count, &script[at..end]);
+        if end >= script.len() || script[end] == b'\n' {
+            return (count, end);
+        }
+        at = end + 1;
     }
 }
 
-/// How many bytes are before the first separator, or in all.
-fn piece_len(text: &[u8], separator: u8) -> usize
-    ensures { result ≡ piece_len_of separator text.now }
+/// Where the word ends that begins at `start`: at a space, at an LF, or with the text.
+fn word_end(text: &[u8], start: usize) -> usize
+    requires { start ≤ length text.now }
+    ensures end { result ≡ start + piece_len_of 32 (line_of (drop start text.now)) }
+    ensures within { result ≤ length text.now }
 {
-    for (i, b) in text.iter().enumerate() {
-        if *b == separator {
+    for i in start..text.len() {
+        let byte = text[i];
+        if byte > b' ' {
+            continue;
+        }
+        if byte == b' ' || byte == b'\n' {
             return i;
         }
     }
     text.len()
 }
 
-/// How many words of a line are read: one more than an event may have, by which a line with too
-/// many is known.
-pub const WORD_LIMIT: usize = 14;
-
-/// Makes a list the first words of a line, as many as are read.
-pub fn read_words<'a>(line: &'a [u8], words: &mut ArrayVec<&'a [u8], WORD_LIMIT>)
-    ensures { map (λ w. w.now) words.new.items ≡ take WORD_LIMIT (words_of line.now) }
+/// Writes a word behind the first `count` of a list, unless it is empty or the list is full. The
+/// result is the number of words.
+fn add_word<'a>(words: &mut [&'a [u8]; WORD_LIMIT], count: usize, word: &'a [u8]) -> usize
+    requires { count ≤ WORD_LIMIT }
+    ensures words { map (λ w. w.now) (take result words.new) ≡ take WORD_LIMIT
+        (map (λ w. w.now) (take count words.old) ++ filter is_some_text (word.now ∷ [])) }
+    ensures count { result ≤ WORD_LIMIT }
+    ensures kept { length words.new ≡ WORD_LIMIT }
 {
-    words.clear();
-    let mut rest = Some(line);
-    while let Some(text) = rest {
-        let (word, more) = cut(text, b' ');
-        if !word.is_empty() && !words.is_full() {
-            words.push(word);
-        }
-        rest = more;
+    if word.is_empty() || count >= WORD_LIMIT {
+        return count;
     }
+    words[count] = word;
+    count + 1
 }
 
 /// Whether a word is a text.
@@ -65,31 +83,18 @@ pub fn is(word: &[u8], text: &[u8]) -> bool
 pub fn decimal(word: &[u8]) -> Option<u64>
     ensures { result ≡ decimal_of word.now }
 {
-    let fits = !word.is_empty() && word.len() <= 10;
-    if fits && are_digits(word) {
-        Some(value_of(word))
-    } else {
-        None
+    if word.is_empty() || word.len() > 10 {
+        return None;
     }
-}
-
-fn are_digits(word: &[u8]) -> bool
-    ensures { result ≡ list_all is_digit word.now }
-{
-    word.iter().all(|b| b'0' <= *b && *b <= b'9')
-}
-
-/// The number of at most 10 decimal digits.
-fn value_of(word: &[u8]) -> u64
-    requires digits { list_all is_digit word.now ≡ true }
-    requires few { length word.now ≤ 10 }
-    ensures { result ≡ digits_value word.now }
-{
     let mut value = 0;
-    for digit in word {
-        value = value * 10 + u64::from(*digit - b'0');
+    for byte in word {
+        let code = u64::from(*byte);
+        if code < 48 || code > 57 {
+            return None;
+        }
+        value = value * 10 + (code - 48);
     }
-    value
+    Some(value)
 }
 
 /// The number of 16 hexadecimal digits of either case.

@@ -1,13 +1,15 @@
-use Rattle.std.proofs.Common.{◌≡◌, ◌≤◌, ◌++◌, length, map, take}
+use Rattle.std.proofs.Common.{◌≡◌, ◌≤◌, ◌+◌, ◌-◌, ◌++◌, length, map, take, drop}
 use Rattle.mte_script.specs.Scripts.{words_of}
-use Rattle.mte_script.proofs.ScriptLemmas.{measure_of, words_left}
+use Rattle.mte_script.specs.Lines.{line_of}
 use Rattle.mte_script.proofs.text.read_words.Given as goal
 
-abbrev pub decreases-loop-rest : goal.decreases-loop-rest
-decreases-loop-rest l = measure_of l.rest
+abbrev pub decreases-loop-at : goal.decreases-loop-at
+decreases-loop-at l = length l.script + 1 - l.at
 
-abbrev pub invariant-loop-rest : goal.invariant-loop-rest
-invariant-loop-rest l = record {
-  read : take 14 (map (λ w. w.now) l.words.items ++ words_left l.rest) ≡ take 14 (words_of l.line);
-  few : length l.words.items ≤ 14;
+abbrev pub invariant-loop-at : goal.invariant-loop-at
+invariant-loop-at l = record {
+  read : take 14 (map (λ w. w.now) (take l.count l.words) ++ words_of (line_of (drop l.at l.script))) ≡ take 14 (words_of (line_of (drop l.start l.script)));
+  end : l.at + length (line_of (drop l.at l.script)) ≡ l.start + length (line_of (drop l.start l.script));
+  few : l.count ≤ 14;
+  within : l.at ≤ length l.script;
 }
