@@ -17,11 +17,13 @@ MOST = {"alu": 24.2, "memory": 38.6, "offsets": 31.3, "mix": 32.8, "svc18": 33.8
 
 
 def test_a_step_calls_nothing(host: pathlib.Path) -> None:
-    """The match over the forms is in line in the loop of a run: the toolchain calls a function
-    that it finds too large for that, with no message, and a step then takes twice as much."""
+    """The match over the forms is in line in the loop of a run, and that in a slice: the toolchain
+    calls a function that it finds too large for that, with no message, and a step then takes twice
+    as much."""
     need("nm")
     names = succeed(["nm", "-C", host]).output
-    assert "run_known" in names
+    assert "slice_with_edges" in names
+    assert not re.search(r"op_cache::run_known\b", names)
     assert not re.search(r"execute_op::execute_op\b", names)
 
 
@@ -52,6 +54,24 @@ def test_a_step_of_a_real_program(host: pathlib.Path, shared: pathlib.Path, name
     assert ran.status == 0, ran.errors
     found = re.search(rf"^{name}: ([0-9.]+) instructions a step", ran.output, re.M)
     assert found and float(found[1]) <= MOST_REAL[name], ran.output
+
+
+# The most instructions of what room.py counts; docs/SPEED.md has what was measured.
+MOST_OF = {"slice": {"1 live in turns": 700, "64 live in turns": 700, "255 live in turns": 720},
+           "rounds": {"a service that does nothing": 225, "malloc and free": 1_480},
+           "start": {"hi.script": 300_000}}
+
+
+@pytest.mark.parametrize("kind", sorted(MOST_OF))
+def test_calls_take_few_instructions(host: pathlib.Path, kind: str) -> None:
+    """A slice of one step with its line of the script, a round with services, a whole session."""
+    need("valgrind")
+    ran = run([sys.executable, ROOT / "tools/speed/room.py", "--only", kind, host], seconds=600)
+    assert ran.status == 0, ran.errors
+    found = {name: int(number) for name, number in
+             re.findall(rf"^\S+: {kind}, (.+): (\d+) instructions$", ran.output, re.M)}
+    assert found.keys() == MOST_OF[kind].keys(), ran.output
+    assert {name: found[name] for name, most in MOST_OF[kind].items() if found[name] > most} == {}
 
 
 # The most that a fuzzed step may cost, with its edges counted, beside the same step of a run alone.

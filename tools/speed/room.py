@@ -11,6 +11,9 @@ For each built mte_host, one line a figure:
 - admission: host instructions of an admission and its stop, by pages of the reservation, and of the
   one that comes after 4,000 others;
 - slice: those of a slice of one step, by the number of live, running tenants that have it in turns;
+- rounds: those of a round of a loop with a service that does nothing, of six steps, and with a pair
+  of malloc and free of 24 bytes, of eight;
+- start: those of the session of examples/hi.script, from start to end;
 - loads: those of a round of two loads from two pages, of different hashes in the lookaside buffer
   or of one, with few or with 64 other translations;
 - refusals: how often a session with 10 and with 10,000 refused events allocates.
@@ -35,10 +38,13 @@ from build_image import image  # noqa: E402
 Word = Union[str, pathlib.Path]  # of a command
 Figures = Iterator[tuple[str, str]]  # each with its name
 
-HI = HERE.parents[1] / "examples" / "hi.elf"
+EXAMPLES = HERE.parents[1] / "examples"
+HI = EXAMPLES / "hi.elf"
 ROUNDS = 20_000
 STEPS_A_ROUND = 6
 BRANCH_TO_ITSELF = 0x14000000
+SVC, MOVE, ADD = 0xD4000001, 0xAA0103E2, 0x91000421  # svc #0; mov x2, x1; add x1, x1, #1
+MALLOC, FREE, NO_SERVICE = 3, 4, 99
 CODE, FIRST, OTHERS = 0x10000, 0x14000, 0x800000
 # Page numbers with the sums 20 and 20 + 3 + 1 of their digits to the base 256 and 1024: one hash,
 # and two.
@@ -128,6 +134,34 @@ def constant(register: int, value: int) -> list[int]:
             0xF2A00000 | (value >> 16) << 5 | register]
 
 
+def number(register: int, value: int) -> int:
+    """MOVZ of a number below 65536."""
+    return 0xD2800000 | value << 5 | register
+
+
+def back(words: list[int]) -> bytes:
+    """An image that executes some words for ever."""
+    return image([*words, 0x14000000 | (-len(words) & 0x3FFFFFF)])
+
+
+def round_costs(sessions: Sessions) -> Figures:
+    path = sessions.folder / "round"
+    rounds = {
+        "a service that does nothing": [number(8, NO_SERVICE), SVC, MOVE, ADD, MOVE],
+        "malloc and free": [number(8, MALLOC), number(0, 24), SVC, number(8, FREE), SVC, MOVE, ADD],
+    }
+    for name, words in rounds.items():
+        path.write_bytes(back(words))
+        slices = [f"slice 1 {(len(words) + 1) * count}\n" for count in (2_000, 12_000)]
+        costs = [sessions.instructions(admit(1, 64) + line, 129, path) for line in slices]
+        yield name, f"{(costs[1] - costs[0]) / 10_000:.0f} instructions"
+
+
+def start_cost(sessions: Sessions) -> Figures:
+    script = (EXAMPLES / "hi.script").read_text(encoding="utf-8")
+    yield "hi.script", f"{sessions.instructions(script, 64)} instructions"
+
+
 def two_loads(other: int, touched: int) -> bytes:
     """Loads from FIRST and from `other` for ever, after one from each of `touched` other pages."""
     words = constant(0, FIRST) + constant(1, other) + constant(7, OTHERS)
@@ -163,8 +197,8 @@ def refusal_counts(sessions: Sessions) -> Figures:
 
 
 FIGURES: dict[str, Callable[[Sessions], Figures]] = {
-    "peak": peaks, "admission": admission_costs, "slice": slice_costs, "loads": load_costs,
-    "refusals": refusal_counts,
+    "peak": peaks, "admission": admission_costs, "slice": slice_costs,
+    "rounds": round_costs, "start": start_cost, "loads": load_costs, "refusals": refusal_counts,
 }
 
 

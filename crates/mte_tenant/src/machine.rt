@@ -84,6 +84,7 @@ pub fn fill<M: Paged>(plan: &Plan, image: &[u8], pages: u32, mode: TagMode, memo
 /// ends where its flag is set then. A table may serve any number of slices, of any tenants. A slice
 /// is one run of kept instructions, since no service changes a page without WRITE. What counts the
 /// branches that it takes changes nothing of it.
+#[inline(never)]
 pub fn slice_with_edges<M: Paged, E: Edges>(
     ops: &mut OpCache,
     parts: &mut TenantParts,
@@ -120,6 +121,7 @@ pub fn slice<M: Paged>(ops: &mut OpCache, parts: &mut TenantParts, memory: &mut 
 
 /// Runs to the next service, fault or end, or for `left` instructions; returns how many the slice
 /// has left, 0 after a yield.
+#[inline(always)]
 fn run_on<M: Paged, E: Edges>(
     ops: &mut OpCache,
     parts: &mut TenantParts,
@@ -141,18 +143,18 @@ fn run_on<M: Paged, E: Edges>(
     steps_keep_pages();
     condition_of_calls();
     known_words_stay();
-    let stop = run_with_edges(ops, &mut parts.regs, memory, edges, left);
-    parts.history.steps = parts.history.steps.saturating_add(left - stop.left);
-    parts.left = stop.left;
-    match stop.outcome {
-        Some(outcome) => {
+    let progress = run_with_edges(ops, &mut parts.regs, memory, edges, left);
+    parts.history.steps = parts.history.steps.saturating_add(left - progress.left);
+    parts.left = progress.left;
+    match progress.outcome {
+        Outcome::Next => progress.left,
+        outcome => {
             if handle(outcome, parts, memory) {
-                stop.left
+                progress.left
             } else {
                 0
             }
         }
-        None => stop.left,
     }
 }
 
