@@ -1,11 +1,11 @@
 -- A tenant stands where the index has its number, and nowhere else.
-use Rattle.std.proofs.Common.{◌≡◌, ◌≢◌, ℕ, zero, suc, ◌<◌, ◌≤◌, ◌==◌, ◌||◌, Bool, true, false, List, [], ◌∷◌, ◌++◌, map, length}
-use Rattle.std.proofs.Common.{IfSome, is_some, option_copied, eqb, get_or, slice_set, Option, Some, None, option_map, if◌then◌else◌, refl, ap, sym, subst, ◌∙◌, arith, inl, inr, length-append}
+use Rattle.std.proofs.Common.{◌≡◌, ◌≢◌, ℕ, zero, suc, ◌+◌, ◌-◌, ◌<◌, ◌≤◌, ◌==◌, ◌||◌, Bool, true, false, List, [], ◌∷◌, ◌++◌, map, length}
+use Rattle.std.proofs.Common.{IfSome, is_some, option_copied, eqb, get_or, slice_set, Option, Some, None, option_map, if◌then◌else◌, refl, ap, sym, subst, ◌∙◌, arith, inl, inr, length-append, replicate}
 use Rattle.std.specs.Borrow.{Bor}
 use Rattle.std.specs.Slice.{IsItemAt}
 use Rattle.std.specs.List.{list_any, slice_get, IsDistinct, AllByRecursion}
 use Rattle.std.proofs.lemmas.Bool.{cases_eq, eqb-true, eq-eqb, ne_eqb}
-use Rattle.std.proofs.lemmas.List.{length-set, length-map}
+use Rattle.std.proofs.lemmas.List.{length-set, length-map, length-replicate}
 use Rattle.std.proofs.lemmas.Map.Steps.{length-le_from_distinct_below}
 use Rattle.std.proofs.lemmas.Option.{slice_get_within, slice_get_past, slice_get_read, slice_get-map, get_or_from_slice_get}
 use Rattle.mte_frames.specs.Pool.{Pool}
@@ -14,8 +14,8 @@ use Rattle.mte_sched.specs.declared.tenant.Tenant as code
 use Rattle.mte_tenant.specs.Ledger.{LedgerEntry, has_id, without_live, numbers_of}
 use Rattle.mte_sched.specs.Contents.{machine, entry_of, tenant_after_slice, tenant_after_stop}
 use Rattle.mte_sched.specs.Tenants.{record_in, tenants_in, entry_in, entries_in}
-use Rattle.mte_sched.specs.Sharing.{HasId, IsIndexed}
-use Rattle.mte_sched.proofs.PlaceLists.{some_same, get-set-same, get-set-other, get-last, get-before}
+use Rattle.mte_sched.specs.Sharing.{HasId, IsIndexed, lengthened}
+use Rattle.mte_sched.proofs.PlaceLists.{some_same, get-set-same, get-set-other, get-last, get-before, get-append}
 use Rattle.mte_sched.proofs.EachLemmas.{or_left, or_right, id_there, ledger_is}
 use Rattle.mte_sched.proofs.BehaviourLemmas.{ledger_sliced, ledger_stopped}
 
@@ -84,20 +84,24 @@ fresh_at id (t ∷ ts) none zero = λ e.
     let z : true ≡ false = sym yes ∙ no in cc
 fresh_at id (t ∷ ts) none (suc i) = fresh_at id ts (or_right ((record_in t).id == id) _ none) i
 
-more_index : (positions ids : List ℕ) (id : ℕ) → IsIndexed positions ids → id < NUMBERS → ((i : ℕ) → slice_get ids i ≢ Some id) → IsIndexed (slice_set positions id (length ids)) (ids ++ id ∷ [])
-more_index positions ids id h within fresh = record {
-  numbers = length-set positions id (length ids) ∙ h.numbers;
-  position = λ i k e. elim (cases_eq i (length ids)) [
-    | inl last ↦
-        let same : id ≡ k = some_same id k (sym (get-last ids id) ∙ ap (slice_get (ids ++ id ∷ [])) (sym last) ∙ e) in
-        subst (λ z. slice_get (slice_set positions id (length ids)) z ≡ Some i) same (get-set-same positions id (length ids) (omega (arith, within, h.numbers)) ∙ ap (λ z. Some z) (sym last))
-    | inr d ↦
-        let was : slice_get ids i ≡ Some k = sym (get-before ids id i d) ∙ e in
-        get-set-other positions id k (length ids) (λ s. fresh i (was ∙ ap (λ z. Some z) s)) ∙ h.position i k was
-  ];
-}
+more_index : (positions ids : List ℕ) (id : ℕ) → IsIndexed positions ids → id < NUMBERS → ((i : ℕ) → slice_get ids i ≢ Some id) → IsIndexed (slice_set (lengthened positions (id + 1)) id (length ids)) (ids ++ id ∷ [])
+more_index positions ids id h within fresh =
+    let more : List ℕ = lengthened positions (id + 1) in
+    let long : length more ≡ length positions + (id + 1 - length positions) =
+    length-append positions (replicate (id + 1 - length positions) 0) ∙ ap (λ n. length positions + n) (length-replicate (id + 1 - length positions) 0) in
+    record {
+      numbers = omega (arith, length-set more id (length ids), long, h.numbers, within);
+      position = λ i k e. elim (cases_eq i (length ids)) [
+        | inl last ↦
+            let same : id ≡ k = some_same id k (sym (get-last ids id) ∙ ap (slice_get (ids ++ id ∷ [])) (sym last) ∙ e) in
+            subst (λ z. slice_get (slice_set more id (length ids)) z ≡ Some i) same (get-set-same more id (length ids) (omega (arith, long)) ∙ ap (λ z. Some z) (sym last))
+        | inr d ↦
+            let was : slice_get ids i ≡ Some k = sym (get-before ids id i d) ∙ e in
+            get-set-other more id k (length ids) (λ s. fresh i (was ∙ ap (λ z. Some z) s)) ∙ get-append positions (replicate (id + 1 - length positions) 0) k i (h.position i k was)
+      ];
+    }
 
--- ---- there are as many positions as numbers
+-- ---- there are at least as many positions as tenants
 
 all_apart : (x : ℕ) (xs : List ℕ) → ((j : ℕ) → slice_get xs j ≢ Some x) → AllByRecursion (λ y. eqb x y ≡ false) xs
 all_apart x [] h = tt
@@ -132,18 +136,18 @@ module _ (positions : List ℕ) (ts : List code.Tenant) (id : ℕ) (indexed : Is
   many : length (numbers_of (entries_in ts)) ≡ length ts
   many = length-map (entries_in ts) (λ (e : LedgerEntry). e.id) ∙ length-map ts entry_in
 
-  more : IsIndexed (slice_set positions id (length ts)) (numbers_of (entries_in ts) ++ id ∷ [])
-  more = subst (λ k. IsIndexed (slice_set positions id k) (numbers_of (entries_in ts) ++ id ∷ [])) many (more_index positions (numbers_of (entries_in ts)) id indexed within (fresh_at id ts none))
+  more : IsIndexed (slice_set (lengthened positions (id + 1)) id (length ts)) (numbers_of (entries_in ts) ++ id ∷ [])
+  more = subst (λ k. IsIndexed (slice_set (lengthened positions (id + 1)) id k) (numbers_of (entries_in ts) ++ id ∷ [])) many (more_index positions (numbers_of (entries_in ts)) id indexed within (fresh_at id ts none))
 
   pub entered_position : length ts < NUMBERS
   entered_position =
-      let all = few (slice_set positions id (length ts)) (numbers_of (entries_in ts) ++ id ∷ []) more in
+      let all = few (slice_set (lengthened positions (id + 1)) id (length ts)) (numbers_of (entries_in ts) ++ id ∷ []) more in
       omega (arith, all, many, length-append (numbers_of (entries_in ts)) (id ∷ []), more.numbers)
 
-  pub entered_index : (t : code.Tenant) → (record_in t).id ≡ id → IsIndexed (slice_set positions id (length ts)) (numbers_of (entries_in (ts ++ t ∷ [])))
+  pub entered_index : (t : code.Tenant) → (record_in t).id ≡ id → IsIndexed (slice_set (lengthened positions (id + 1)) id (length ts)) (numbers_of (entries_in (ts ++ t ∷ [])))
   entered_index t number =
       let numbers : numbers_of (entries_in (ts ++ t ∷ [])) ≡ numbers_of (entries_in ts) ++ id ∷ [] = numbers_more ts ∙ ap (λ k. numbers_of (entries_in ts) ++ k ∷ []) number in
-      subst (IsIndexed (slice_set positions id (length ts))) (sym numbers) more
+      subst (IsIndexed (slice_set (lengthened positions (id + 1)) id (length ts))) (sym numbers) more
     where
       numbers_more : (us : List code.Tenant) → numbers_of (entries_in (us ++ t ∷ [])) ≡ numbers_of (entries_in us) ++ (record_in t).id ∷ []
       numbers_more [] = refl

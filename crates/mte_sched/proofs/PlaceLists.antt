@@ -32,6 +32,11 @@ get-before [] x (suc i) d = refl
 get-before (y ∷ ys) x zero d = refl
 get-before (y ∷ ys) x (suc i) d = get-before ys x i (λ e. d (ap suc e))
 
+pub get-append : {X : Type 0} (xs ys : List X) (i : ℕ) (x : X) → slice_get xs i ≡ Some x → slice_get (xs ++ ys) i ≡ Some x
+get-append [] ys i x h = absurd cc
+get-append (z ∷ zs) ys zero x h = h
+get-append (z ∷ zs) ys (suc i) x h = get-append zs ys i x h
+
 -- ys is xs with x at the place i, which may be a new one.
 pub record HasAt {X : Type 0} (xs ys : List X) (i : ℕ) (x : X) : Type 0 where
   pub here : slice_get ys i ≡ Some x

@@ -1,7 +1,8 @@
 -- What holds of every host: its live tenants share a pool of frames and a translation lookaside
 -- buffer, and have nothing in common in them. A tenant's ASID is its place in the order of the
 -- admissions.
-use Rattle.std.specs.Prelude.{◌≡◌, ℕ, Bool, true, false, List, All, length, sum, sum_by, Option}
+use Rattle.std.specs.Prelude.{◌≡◌, ℕ, ◌-◌, ◌≤◌, Bool, true, false, List, ◌++◌, All, length}
+use Rattle.std.specs.Prelude.{replicate, sum, sum_by, Option}
 use Rattle.std.specs.Prelude.{Some}
 use Rattle.std.specs.Prelude.{None}
 use Rattle.std.specs.List.{slice_get}
@@ -60,8 +61,12 @@ pub record IsSharing (p : Pool) (us : List Translation) (ts : List Tenant) : Typ
   -- what is reserved is what live tenants are charged
   pub reserved : sum p.reserved ≡ sum_by charge_of_entry (entries_in ts)
 
--- A table has a position for each number, and of each number of a list the one where it is. So
--- a number that is not at its position is none of the list.
+-- A list of positions for at least n numbers: the list, and 0 for each number that it lacks.
+abbrev pub lengthened : List ℕ → ℕ → List ℕ
+lengthened positions n = positions ++ replicate (n - length positions) 0
+
+-- A table has at most a position for each number, and of each number of a list the one where it is.
+-- So a number that is not at its position, and one past the table's end, is none of the list.
 pub record IsIndexed (positions ids : List ℕ) : Type 0 where
-  pub numbers : length positions ≡ NUMBERS
+  pub numbers : length positions ≤ NUMBERS
   pub position : (i id : ℕ) → slice_get ids i ≡ Some id → slice_get positions id ≡ Some i

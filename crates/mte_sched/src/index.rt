@@ -1,7 +1,8 @@
 //! Where a tenant is, by its number.
 
-ghost use Rattle.std.specs.Prelude.{◌≡◌, ◌<◌, length, get_or, slice_set};
+ghost use Rattle.std.specs.Prelude.{◌≡◌, ◌+◌, ◌<◌, ◌≤◌, [], get_or, slice_set};
 ghost use Rattle.std.specs.Prelude.{IfOk, vec_capacity};
+ghost use Rattle.mte_sched.specs.declared.index.TheConstants.{NUMBERS};
 
 use std::alloc::{AllocError, Global};
 
@@ -9,37 +10,46 @@ use std::alloc::{AllocError, Global};
 pub(crate) const NUMBERS: usize = 65536;
 
 /// For each number, where the tenant that was admitted with it is among all tenants. For a
-/// number that was never admitted it has some position, where no tenant with the number is.
+/// number that was never admitted it has some position, where no tenant with the number is. The
+/// numbers past its end have position 0.
 #[derive(Drop)]
 pub(crate) struct Index {
     positions: Vec<u16>,
+    ghost room: { NUMBERS ≤ vec_capacity positions },
 }
 
 impl Index {
-    /// Position 0 for all numbers.
+    ghost use Rattle.mte_sched.specs.Sharing.{lengthened};
+
+    /// Position 0 for all numbers. It has memory for all of them, and takes no more.
     pub(crate) fn new(alloc: Global) -> Result<Index, AllocError>
-        ensures { IfOk result (λ index. length index.positions.items ≡ NUMBERS) }
+        ensures { IfOk result (λ index. index.positions.items ≡ []) }
     {
-        let positions = Vec::from_elem(alloc, 0, NUMBERS)?;
+        let positions = Vec::with_capacity(alloc, NUMBERS)?;
         Ok(Index { positions })
     }
 
     /// The one place where the tenant with the number can be.
     pub(crate) fn position(&self, id: u16) -> usize
-        requires { length self.now.positions.items ≡ NUMBERS }
         ensures { result ≡ get_or self.now.positions.items id 0 }
     {
-        usize::from(self.positions[usize::from(id)])
+        match self.positions.get(usize::from(id)) {
+            Some(position) => usize::from(*position),
+            None => 0,
+        }
     }
 
     /// Enters where the tenant with the number is.
     pub(crate) fn enter(&mut self, id: u16, position: usize)
-        requires numbers { length self.old.positions.items ≡ NUMBERS }
-        requires position { position < NUMBERS }
+        requires { position < NUMBERS }
         ensures entered { self.new.positions.items
-            ≡ slice_set self.old.positions.items id position }
+            ≡ slice_set (lengthened self.old.positions.items (id + 1)) id position }
         ensures room { vec_capacity self.new.positions ≡ vec_capacity self.old.positions }
     {
-        self.positions[usize::from(id)] = position as u16;
+        let id = usize::from(id);
+        for _ in self.positions.len()..id + 1 {
+            self.positions.push_reserved(0);
+        }
+        self.positions[id] = position as u16;
     }
 }

@@ -1,7 +1,7 @@
 //! Readers, and reading a whole file.
 
 ghost use Rattle.std.specs.Prelude.{◌≡◌, ◌≢◌, ◌+◌, ◌++◌, ◌≤◌, length, vec_len, vec_capacity};
-ghost use Rattle.std.specs.Prelude.{IfOk, OnOk, IsErrOf, Err};
+ghost use Rattle.std.specs.Prelude.{min, max, IfOk, OnOk, IsErrOf, Err};
 ghost use Rattle.mte_streams.specs.Reading.{ReadLog, after_read, ReadAll, GaveMore, GaveAtMost};
 ghost use Rattle.mte_streams.specs.Reading.{FailedOnce, NoneFailed, MadeAtMost};
 ghost use Rattle.mte_streams.specs.declared.reading.ReadFault.TheVariants.{OutOfMemory};
@@ -30,8 +30,11 @@ pub fn file_limit_in_digits()
     ensures { FILE_LIMIT ≡ 16777216 }
 {}
 
-/// How many bytes are read at once.
+/// The most bytes that are read at once.
 const CHUNK: usize = 65_536;
+
+/// The fewest bytes that a chunk has.
+const LEAST_CHUNK: usize = 4_096;
 
 /// Why a file could not be read as a whole.
 #[derive(Clone, Copy, Debug, PartialEq, Eq, Error)]
@@ -72,9 +75,10 @@ pub fn read_whole<R: Source>(
     ensures calls { MadeAtMost (R.log reader.old) (R.log reader.new) 16777217 }
 {
     let mut whole = Vec::with_capacity(alloc, expected.min(FILE_LIMIT))?;
-    let mut chunk = [0; CHUNK];
+    let mut memory = Vec::from_elem(alloc, 0, chunk_length(expected))?;
+    let chunk = memory.as_mut_slice();
     for _ in 0..FILE_LIMIT + 1 {
-        let wanted = CHUNK.min(FILE_LIMIT + 1 - whole.len());
+        let wanted = chunk.len().min(FILE_LIMIT + 1 - whole.len());
         match reader.read(&mut chunk[..wanted]) {
             Err(_) => return Err(ReadFault::Read),
             Ok(0) => return Ok(whole),
@@ -88,6 +92,14 @@ pub fn read_whole<R: Source>(
         }
     }
     unreachable!()
+}
+
+/// How many bytes are read at once: so many that the bytes that are expected come in one read, with
+/// room for one more, but not too few and not too many.
+fn chunk_length(expected: usize) -> usize
+    ensures { result ≡ max LEAST_CHUNK (min (expected + 1) CHUNK) }
+{
+    expected.saturating_add(1).clamp(LEAST_CHUNK, CHUNK)
 }
 
 /// Makes room for more bytes: where it is missing, for twice as many as there was room for, but

@@ -18,6 +18,7 @@ loop-preserved g c =
       progress = omega arith;
       within = omega arith;
       room = search rules;
+      chunk = omega arith;
     }
 
 pub returns-in-Err-clause-calls : goal.returns-in-Err-clause-calls

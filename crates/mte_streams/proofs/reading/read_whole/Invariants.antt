@@ -8,4 +8,5 @@ invariant-loop g l = record {
   progress : l.counter ≤ length l.whole.items;
   within : length l.whole.items ≤ 16777216;
   room : vec_capacity l.whole ≤ 16777216;
+  chunk : 4096 ≤ length l.chunk;
 }
