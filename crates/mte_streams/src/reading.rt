@@ -1,7 +1,7 @@
 //! Readers, and reading a whole file.
 
 ghost use Rattle.std.specs.Prelude.{◌≡◌, ◌≢◌, ◌+◌, ◌++◌, ◌≤◌, length, vec_len, vec_capacity};
-ghost use Rattle.std.specs.Prelude.{min, max, IfOk, OnOk, IsErrOf, Err};
+ghost use Rattle.std.specs.Prelude.{IfOk, OnOk, IsErrOf, Err};
 ghost use Rattle.mte_streams.specs.Reading.{ReadLog, after_read, ReadAll, GaveMore, GaveAtMost};
 ghost use Rattle.mte_streams.specs.Reading.{FailedOnce, NoneFailed, MadeAtMost};
 ghost use Rattle.mte_streams.specs.declared.reading.ReadFault.TheVariants.{OutOfMemory};
@@ -95,10 +95,14 @@ pub fn read_whole<R: Source>(
 }
 
 /// How many bytes are read at once: so many that the bytes that are expected come in one read, with
-/// room for one more, but not too few and not too many.
+/// room for one more, but not too few and not too many. Of a pipe none are expected.
 fn chunk_length(expected: usize) -> usize
-    ensures { result ≡ max LEAST_CHUNK (min (expected + 1) CHUNK) }
+    ensures least { LEAST_CHUNK ≤ result }
+    ensures most { result ≤ CHUNK }
 {
+    if expected == 0 {
+        return CHUNK;
+    }
     expected.saturating_add(1).clamp(LEAST_CHUNK, CHUNK)
 }
 
