@@ -143,14 +143,14 @@ fn run_on<M: Paged, E: Edges>(
     steps_keep_pages();
     condition_of_calls();
     known_words_stay();
-    let progress = run_with_edges(ops, &mut parts.regs, memory, edges, left);
-    parts.history.steps = parts.history.steps.saturating_add(left - progress.left);
-    parts.left = progress.left;
-    match progress.outcome {
-        Outcome::Next => progress.left,
+    let last = run_with_edges(ops, &mut parts.regs, memory, edges, left);
+    parts.history.steps = parts.history.steps.saturating_add(left - last.left);
+    parts.left = last.left;
+    match last.outcome {
+        Outcome::Next => last.left,
         outcome => {
             if handle(outcome, parts, memory) {
-                progress.left
+                last.left
             } else {
                 0
             }
