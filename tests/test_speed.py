@@ -13,7 +13,7 @@ from tests.support.running import run, succeed
 from tests.support.tools import give_up, need
 
 # The most instructions a step; docs/SPEED.md has what was measured.
-MOST = {"alu": 24.2, "memory": 38.6, "offsets": 31.3, "mix": 32.8, "svc18": 33.8, "slices16": 112.0}
+MOST = {"alu": 23.8, "memory": 37.6, "offsets": 30.6, "mix": 32.1, "svc18": 31.0, "slices16": 83.0}
 
 
 def test_a_step_calls_nothing(host: pathlib.Path) -> None:
@@ -39,8 +39,8 @@ def test_a_step_takes_few_instructions(host: pathlib.Path) -> None:
 
 
 # The same of programs over Debian's sources.
-MOST_REAL = {"zlib": 39.9, "lz4": 45.2, "expat": 38.2, "bzip2": 42.0, "libtommath": 43.8,
-             "xz": 41.8}
+MOST_REAL = {"zlib": 39.2, "lz4": 44.3, "expat": 37.2, "bzip2": 41.6, "libtommath": 43.6,
+             "xz": 40.9}
 
 
 @pytest.mark.parametrize("name", sorted(MOST_REAL))
@@ -57,8 +57,9 @@ def test_a_step_of_a_real_program(host: pathlib.Path, shared: pathlib.Path, name
 
 
 # The most instructions of what room.py counts; docs/SPEED.md has what was measured.
-MOST_OF = {"slice": {"1 live in turns": 700, "64 live in turns": 700, "255 live in turns": 720},
-           "rounds": {"a service that does nothing": 225, "malloc and free": 1_480},
+MOST_OF = {"slice": {"1 live in turns": 630, "64 live in turns": 630, "255 live in turns": 630},
+           "rounds": {"a service that does nothing, 6 steps": 220,
+                      "malloc and free of 24, 8 steps": 1_480},
            "start": {"hi.script": 300_000}}
 
 
@@ -70,7 +71,7 @@ def test_calls_take_few_instructions(host: pathlib.Path, kind: str) -> None:
     assert ran.status == 0, ran.errors
     found = {name: int(number) for name, number in
              re.findall(rf"^\S+: {kind}, (.+): (\d+) instructions$", ran.output, re.M)}
-    assert found.keys() == MOST_OF[kind].keys(), ran.output
+    assert found.keys() >= MOST_OF[kind].keys(), ran.output
     assert {name: found[name] for name, most in MOST_OF[kind].items() if found[name] > most} == {}
 
 

@@ -11,8 +11,7 @@ For each built mte_host, one line a figure:
 - admission: host instructions of an admission and its stop, by pages of the reservation, and of the
   one that comes after 4,000 others;
 - slice: those of a slice of one step, by the number of live, running tenants that have it in turns;
-- rounds: those of a round of a loop with a service that does nothing, of six steps, and with a pair
-  of malloc and free of 24 bytes, of eight;
+- rounds: those of a round of a loop with heap calls, or with a service that does nothing;
 - start: those of the session of examples/hi.script, from start to end;
 - loads: those of a round of two loads from two pages, of different hashes in the lookaside buffer
   or of one, with few or with 64 other translations;
@@ -44,7 +43,7 @@ ROUNDS = 20_000
 STEPS_A_ROUND = 6
 BRANCH_TO_ITSELF = 0x14000000
 SVC, MOVE, ADD = 0xD4000001, 0xAA0103E2, 0x91000421  # svc #0; mov x2, x1; add x1, x1, #1
-MALLOC, FREE, NO_SERVICE = 3, 4, 99
+MALLOC, FREE, CALLOC, REALLOC, MEMALIGN, NO_SERVICE = 3, 4, 5, 6, 7, 99
 CODE, FIRST, OTHERS = 0x10000, 0x14000, 0x800000
 # Page numbers with the sums 20 and 20 + 3 + 1 of their digits to the base 256 and 1024: one hash,
 # and two.
@@ -144,17 +143,32 @@ def back(words: list[int]) -> bytes:
     return image([*words, 0x14000000 | (-len(words) & 0x3FFFFFF)])
 
 
+def call(service: int, *arguments: int) -> list[int]:
+    """A service with its arguments, which are numbers."""
+    return [number(8, service), *(number(i, it) for i, it in enumerate(arguments)), SVC]
+
+
+# Rounds of a loop, by their words: a call leaves its pointer in x0 for the next.
+FREED = [*call(FREE), MOVE, ADD]
+ROUND_WORDS = {
+    "malloc and free of 24": [*call(MALLOC, 24), *FREED],
+    "malloc and free of 1024": [*call(MALLOC, 1024), *FREED],
+    "malloc and free of 4000": [*call(MALLOC, 4000), *FREED],
+    "calloc of 3 by 8 and free": [*call(CALLOC, 3, 8), *FREED, MOVE],
+    "memalign to 64 of 24 and free": [*call(MEMALIGN, 64, 24), *FREED, MOVE],
+    "malloc of 24, realloc to 200, free": [
+        *call(MALLOC, 24), number(8, REALLOC), number(1, 200), SVC, *FREED, MOVE, ADD],
+    "a service that does nothing": [*call(NO_SERVICE), MOVE, ADD, MOVE],
+}
+
+
 def round_costs(sessions: Sessions) -> Figures:
     path = sessions.folder / "round"
-    rounds = {
-        "a service that does nothing": [number(8, NO_SERVICE), SVC, MOVE, ADD, MOVE],
-        "malloc and free": [number(8, MALLOC), number(0, 24), SVC, number(8, FREE), SVC, MOVE, ADD],
-    }
-    for name, words in rounds.items():
+    for name, words in ROUND_WORDS.items():
         path.write_bytes(back(words))
         slices = [f"slice 1 {(len(words) + 1) * count}\n" for count in (2_000, 12_000)]
         costs = [sessions.instructions(admit(1, 64) + line, 129, path) for line in slices]
-        yield name, f"{(costs[1] - costs[0]) / 10_000:.0f} instructions"
+        yield f"{name}, {len(words) + 1} steps", f"{(costs[1] - costs[0]) / 10_000:.0f} instructions"
 
 
 def start_cost(sessions: Sessions) -> Figures:
