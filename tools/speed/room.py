@@ -25,7 +25,7 @@ import pathlib
 import subprocess
 import sys
 import tempfile
-from collections.abc import Callable, Iterator
+from collections.abc import Callable, Iterator, Sequence
 from typing import Union
 
 from commands import number_in
@@ -43,7 +43,7 @@ ROUNDS = 20_000
 STEPS_A_ROUND = 6
 BRANCH_TO_ITSELF = 0x14000000
 SVC, MOVE, ADD = 0xD4000001, 0xAA0103E2, 0x91000421  # svc #0; mov x2, x1; add x1, x1, #1
-MALLOC, FREE, CALLOC, REALLOC, MEMALIGN, NO_SERVICE = 3, 4, 5, 6, 7, 99
+MALLOC, FREE, CALLOC, REALLOC, MEMALIGN, USABLE_SIZE, NO_SERVICE = 3, 4, 5, 6, 7, 8, 99
 CODE, FIRST, OTHERS = 0x10000, 0x14000, 0x800000
 # Page numbers with the sums 20 and 20 + 3 + 1 of their digits to the base 256 and 1024: one hash,
 # and two.
@@ -138,14 +138,17 @@ def number(register: int, value: int) -> int:
     return 0xD2800000 | value << 5 | register
 
 
-def back(words: list[int]) -> bytes:
+def again(words: list[int], start: Sequence[int] = ()) -> bytes:
     """An image that executes some words for ever."""
-    return image([*words, 0x14000000 | (-len(words) & 0x3FFFFFF)])
+    return image([*start, *words, 0x14000000 | (-len(words) & 0x3FFFFFF)])
 
 
 def call(service: int, *arguments: int) -> list[int]:
     """A service with its arguments, which are numbers."""
-    return [number(8, service), *(number(i, it) for i, it in enumerate(arguments)), SVC]
+    words = [number(8, service)]
+    for register, value in enumerate(arguments):
+        words += constant(register, value) if value >> 16 else [number(register, value)]
+    return [*words, SVC]
 
 
 # Rounds of a loop, by their words: a call leaves its pointer in x0 for the next.
@@ -154,21 +157,32 @@ ROUND_WORDS = {
     "malloc and free of 24": [*call(MALLOC, 24), *FREED],
     "malloc and free of 1024": [*call(MALLOC, 1024), *FREED],
     "malloc and free of 4000": [*call(MALLOC, 4000), *FREED],
+    "malloc and free of 100000": [*call(MALLOC, 100_000), *FREED],
+    "malloc and free of 200000": [*call(MALLOC, 200_000), *FREED],
     "calloc of 3 by 8 and free": [*call(CALLOC, 3, 8), *FREED, MOVE],
     "memalign to 64 of 24 and free": [*call(MEMALIGN, 64, 24), *FREED, MOVE],
     "malloc of 24, realloc to 200, free": [
         *call(MALLOC, 24), number(8, REALLOC), number(1, 200), SVC, *FREED, MOVE, ADD],
     "a service that does nothing": [*call(NO_SERVICE), MOVE, ADD, MOVE],
 }
+# The same behind a malloc of 24 bytes, whose pointer is in x3.
+LIVE = [*call(MALLOC, 24), 0xAA0003E3]  # mov x3, x0
+LIVE_ROUNDS = {
+    "two reallocations in place": [
+        number(8, REALLOC), number(1, 20), SVC, number(1, 24), SVC, MOVE, MOVE],
+    "the usable size": [number(8, USABLE_SIZE), 0xAA0303E0, SVC, MOVE, MOVE],  # mov x0, x3
+}
 
 
 def round_costs(sessions: Sessions) -> Figures:
     path = sessions.folder / "round"
-    for name, words in ROUND_WORDS.items():
-        path.write_bytes(back(words))
-        slices = [f"slice 1 {(len(words) + 1) * count}\n" for count in (2_000, 12_000)]
+    rounds = [(name, words, again(words)) for name, words in ROUND_WORDS.items()]
+    rounds += [(name, words, again(words, LIVE)) for name, words in LIVE_ROUNDS.items()]
+    for name, words, whole in rounds:
+        path.write_bytes(whole)
+        slices = [f"slice 1 {(len(words) + 1) * count}\n" for count in (1_000, 4_000)]
         costs = [sessions.instructions(admit(1, 64) + line, 129, path) for line in slices]
-        yield f"{name}, {len(words) + 1} steps", f"{(costs[1] - costs[0]) / 10_000:.0f} instructions"
+        yield f"{name}, {len(words) + 1} steps", f"{(costs[1] - costs[0]) / 3_000:.0f} instructions"
 
 
 def start_cost(sessions: Sessions) -> Figures:
