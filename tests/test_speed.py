@@ -1,4 +1,5 @@
-"""What a step of a tenant costs, in instructions of this machine by callgrind."""
+"""What steps, slices, rounds with services and a session cost, in instructions of this machine by
+callgrind."""
 
 import pathlib
 import re
@@ -17,9 +18,9 @@ MOST = {"alu": 23.8, "memory": 37.6, "offsets": 30.6, "mix": 32.1, "svc18": 31.0
 
 
 def test_a_step_calls_nothing(host: pathlib.Path) -> None:
-    """The match over the forms is in line in the loop of a run, and that in a slice: the toolchain
-    calls a function that it finds too large for that, with no message, and a step then takes twice
-    as much."""
+    """The match over the forms is in line in the loop of a run, and that loop is in line in a slice:
+    the toolchain calls a function that it finds too large for that, with no message, and a step
+    then takes twice as much."""
     need("nm")
     names = succeed(["nm", "-C", host]).output
     assert "slice_with_edges" in names

@@ -1,5 +1,5 @@
 #!/usr/bin/env python3
-"""What a host keeps and what its calls cost, however many tenants there are or were.
+"""What a host keeps, and what its calls, rounds of its tenants and a whole session cost.
 
     room.py [--only WORD] HOST...
 
@@ -17,8 +17,9 @@ For each built mte_host, one line a figure:
   or of one, with few or with 64 other translations;
 - refusals: how often a session with 10 and with 10,000 refused events allocates.
 
-A figure in instructions is the difference of two sessions under callgrind, with the reading of the
-script's lines in it. Needed: valgrind, and GNU time.
+A figure in instructions is the difference of two sessions under callgrind; that of start is a whole
+session's. Where the two differ in lines of the script, the reading of these lines is in it. Needed:
+valgrind, and GNU time.
 """
 import argparse
 import pathlib
@@ -133,56 +134,68 @@ def constant(register: int, value: int) -> list[int]:
             0xF2A00000 | (value >> 16) << 5 | register]
 
 
-def number(register: int, value: int) -> int:
+def move_number(register: int, value: int) -> int:
     """MOVZ of a number below 65536."""
     return 0xD2800000 | value << 5 | register
 
 
-def again(words: list[int], start: Sequence[int] = ()) -> bytes:
+def endless_image(words: list[int], start: Sequence[int] = ()) -> bytes:
     """An image that executes some words for ever."""
     return image([*start, *words, 0x14000000 | (-len(words) & 0x3FFFFFF)])
 
 
 def call(service: int, *arguments: int) -> list[int]:
-    """A service with its arguments, which are numbers."""
-    words = [number(8, service)]
+    """The words of a service's call, with its arguments."""
+    words = [move_number(8, service)]
     for register, value in enumerate(arguments):
-        words += constant(register, value) if value >> 16 else [number(register, value)]
+        words += constant(register, value) if value >> 16 else [move_number(register, value)]
     return [*words, SVC]
 
 
 # Rounds of a loop, by their words: a call leaves its pointer in x0 for the next.
-FREED = [*call(FREE), MOVE, ADD]
+FREE_WORDS = [*call(FREE), MOVE, ADD]
 ROUND_WORDS = {
-    "malloc and free of 24": [*call(MALLOC, 24), *FREED],
-    "malloc and free of 1024": [*call(MALLOC, 1024), *FREED],
-    "malloc and free of 4000": [*call(MALLOC, 4000), *FREED],
-    "malloc and free of 100000": [*call(MALLOC, 100_000), *FREED],
-    "malloc and free of 200000": [*call(MALLOC, 200_000), *FREED],
-    "calloc of 3 by 8 and free": [*call(CALLOC, 3, 8), *FREED, MOVE],
-    "memalign to 64 of 24 and free": [*call(MEMALIGN, 64, 24), *FREED, MOVE],
+    "malloc and free of 24": [*call(MALLOC, 24), *FREE_WORDS],
+    "malloc and free of 1024": [*call(MALLOC, 1024), *FREE_WORDS],
+    "malloc and free of 4000": [*call(MALLOC, 4000), *FREE_WORDS],
+    "calloc of 3 by 8 and free": [*call(CALLOC, 3, 8), *FREE_WORDS, MOVE],
+    "memalign to 64 of 24 and free": [*call(MEMALIGN, 64, 24), *FREE_WORDS, MOVE],
     "malloc of 24, realloc to 200, free": [
-        *call(MALLOC, 24), number(8, REALLOC), number(1, 200), SVC, *FREED, MOVE, ADD],
+        *call(MALLOC, 24), move_number(8, REALLOC), move_number(1, 200), SVC,
+        *FREE_WORDS, MOVE, ADD],
     "a service that does nothing": [*call(NO_SERVICE), MOVE, ADD, MOVE],
+}
+LARGE_ROUNDS = {
+    "malloc and free of 100000": [*call(MALLOC, 100_000), *FREE_WORDS],
+    "malloc and free of 200000": [*call(MALLOC, 200_000), *FREE_WORDS],
 }
 # The same behind a malloc of 24 bytes, whose pointer is in x3.
 LIVE = [*call(MALLOC, 24), 0xAA0003E3]  # mov x3, x0
 LIVE_ROUNDS = {
     "two reallocations in place": [
-        number(8, REALLOC), number(1, 20), SVC, number(1, 24), SVC, MOVE, MOVE],
-    "the usable size": [number(8, USABLE_SIZE), 0xAA0303E0, SVC, MOVE, MOVE],  # mov x0, x3
+        move_number(8, REALLOC), move_number(1, 20), SVC, move_number(1, 24), SVC, MOVE, MOVE],
+    "the usable size": [move_number(8, USABLE_SIZE), 0xAA0303E0, SVC, MOVE, MOVE],  # mov x0, x3
 }
 
 
-def round_costs(sessions: Sessions) -> Figures:
+def round_cost(sessions: Sessions, name: str, words: list[int], start: Sequence[int] = (),
+               rounds: int = 1_000) -> tuple[str, str]:
+    """What a round takes, by sessions of some rounds and of four times as many."""
     path = sessions.folder / "round"
-    rounds = [(name, words, again(words)) for name, words in ROUND_WORDS.items()]
-    rounds += [(name, words, again(words, LIVE)) for name, words in LIVE_ROUNDS.items()]
-    for name, words, whole in rounds:
-        path.write_bytes(whole)
-        slices = [f"slice 1 {(len(words) + 1) * count}\n" for count in (1_000, 4_000)]
-        costs = [sessions.instructions(admit(1, 64) + line, 129, path) for line in slices]
-        yield f"{name}, {len(words) + 1} steps", f"{(costs[1] - costs[0]) / 3_000:.0f} instructions"
+    path.write_bytes(endless_image(words, start))
+    steps = len(words) + 1
+    costs = [sessions.instructions(admit(1, 64) + f"slice 1 {steps * count}\n", 129, path)
+             for count in (rounds, 4 * rounds)]
+    return f"{name}, {steps} steps", f"{(costs[1] - costs[0]) / (3 * rounds):.0f} instructions"
+
+
+def round_costs(sessions: Sessions) -> Figures:
+    for name, words in ROUND_WORDS.items():
+        yield round_cost(sessions, name, words)
+    for name, words in LARGE_ROUNDS.items():
+        yield round_cost(sessions, name, words, rounds=50)
+    for name, words in LIVE_ROUNDS.items():
+        yield round_cost(sessions, name, words, LIVE)
 
 
 def start_cost(sessions: Sessions) -> Figures:
