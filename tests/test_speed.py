@@ -18,8 +18,8 @@ MOST = {"alu": 23.8, "memory": 37.6, "offsets": 30.6, "mix": 32.1, "svc18": 31.0
 
 
 def test_a_step_calls_nothing(host: pathlib.Path) -> None:
-    """The match over the forms is in line in the loop of a run, and that loop is in line in a slice:
-    the toolchain calls a function that it finds too large for that, with no message, and a step
+    """The match over the forms is in line in the loop of a run, and that loop in a slice: the
+    toolchain calls a function that it finds too large for that, with no message, and a step
     then takes twice as much."""
     need("nm")
     names = succeed(["nm", "-C", host]).output
