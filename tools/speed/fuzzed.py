@@ -10,7 +10,7 @@ round of `--bytes N`, with its snapshot there. By callgrind, instructions of the
 step of the tenant behind its snapshot: a run alone by each `--host` (a built mte_host) and by the
 library (tb_alone), and runs from the snapshot (tb_fuzz_run), with their edges counted and with what
 restores the machine. They are counted when the table of instructions, which stays from run to run,
-is full-grown.
+has grown.
 
     --library FILE   libtombolopan_c.a (crates/tombolopan_c/out)
     --host FILE      a built mte_host; may come again
@@ -38,7 +38,7 @@ FUZZ = ROOT / "examples/fuzz"
 LIBRARY = ROOT / "crates/tombolopan_c/out/libtombolopan_c.a"
 STEPS = 0xFFFFFFFF
 SLICES = 100
-# Before the runs that are counted the table of instructions has its full size: this many steps.
+# Before the runs that are counted the table of instructions has grown, in this many steps.
 GROWN = 1_100_000
 
 
