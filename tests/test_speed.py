@@ -57,6 +57,35 @@ def test_a_step_of_a_real_program(host: pathlib.Path, shared: pathlib.Path, name
     assert found and float(found[1]) <= MOST_REAL[name], ran.output
 
 
+def test_loops_beside_others(host: pathlib.Path) -> None:
+    """Each side runs: QEMU, and Unicorn by each way of counting. How long they take is not held."""
+    need("clang", "ld.lld", "qemu-aarch64", "aarch64-linux-gnu-gcc")
+    if not pathlib.Path("/usr/include/unicorn/unicorn.h").exists():
+        give_up("missing: libunicorn-dev (tests/packages.txt has the Debian packages)")
+    ran = run([sys.executable, ROOT / "tools/speed/measure.py", "--qemu", "--unicorn",
+               "--rounds", "1", host], seconds=600)
+    assert ran.status == 0, ran.errors
+    sides = {line.split()[0]: re.findall(r"(\S[^:]*): -?[0-9.]+ ns", line.split(maxsplit=1)[1])
+             for line in ran.output.splitlines()}
+    assert [it.strip() for it in sides["alu"]] == [
+        str(host), "qemu", "Unicorn, count", "Unicorn, instructions", "Unicorn, blocks"]
+    assert len(sides["memory"]) == len(sides["offsets"]) == 2 and len(sides["mix"]) == 4
+
+
+def test_a_real_program_beside_others(host: pathlib.Path, shared: pathlib.Path) -> None:
+    """The same of a library of others: QEMU, and this machine alone, under Valgrind's memcheck and
+    under AddressSanitizer. Each writes the same sum, which the tool compares."""
+    need("clang", "ld.lld", "valgrind", "qemu-aarch64", "apt-get")
+    ran = run([sys.executable, ROOT / "tools/speed/measure.py", "--real", "--native", "--only",
+               "bzip2", "--rounds", "1", "--work", shared / "real-bzip2-natively", host],
+              seconds=600)
+    if "without bzip2" in ran.errors:
+        give_up(ran.errors.strip()[-300:])
+    assert ran.status == 0, ran.errors
+    sides = re.findall(r"^  (\w+): [0-9.]+ s after a start", ran.output, re.M)
+    assert sides == ["QEMU", "native", "memcheck", "AddressSanitizer"] * 2, ran.output
+
+
 # The most instructions of what room.py counts; docs/SPEED.md has what was measured.
 MOST_OF = {"slice": {"1 live in turns": 630, "64 live in turns": 630, "255 live in turns": 630},
            "rounds": {"a service that does nothing, 6 steps": 220,
