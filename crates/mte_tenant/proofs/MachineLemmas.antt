@@ -16,6 +16,7 @@ use Rattle.a64_step.specs.declared.outcome.Outcome.{Outcome}
 use Rattle.a64_step.specs.declared.outcome.Outcome.TheVariants as outcome
 use Rattle.a64_step.specs.declared.outcome.Stop.{Stop}
 use Rattle.a64_step.specs.Steps.{step_of, run_of, Ran, is_next}
+use Rattle.a64_run.specs.Stops.{ending_of, stop_of}
 use Rattle.mte_tenant.specs.Machines.{Machine, machine_of, runs, Attempt, continues, after_outcome, with_steps, with_regs}
 use Rattle.mte_tenant.specs.Machines.{after_attempt, after_attempts, first_memory}
 
@@ -94,25 +95,25 @@ unfolding after_attempts
 after-attempts-ended zero m ended = refl
 after-attempts-ended (suc n) m ended = rw ended refl
 
--- The same, of what the code has in hand.
-pub after_some : (n : ℕ) (m : Machine) (a : Attempt) (stop : Stop) (r : Regs) (mem : Memory) (o : Outcome) (steps : ℕ)
-    → stop ≡ (run_of n m.parts.regs m.memory).stop → r ≡ (run_of n m.parts.regs m.memory).regs → mem ≡ (run_of n m.parts.regs m.memory).memory
-    → stop.outcome ≡ Some o → steps ≡ min (m.parts.history.steps + (n - stop.left)) 18446744073709551615
-    → a ≡ after_outcome o (machine_of (record m.parts { history = record m.parts.history { steps = steps }; regs = r; left = stop.left }) mem)
-    → runs m ≡ true → m.parts.history.steps ≤ 18446744073709551615 → 0 < n → rest_of stop.left a ≡ after_attempts n m
-after_some n m a stop r mem o steps e_stop e_regs e_memory e_some e_steps e_new running few some =
-    let h = run_advances n m running few (λ z. absurd (omega arith)) in
-    let k = rw (← e_stop, ← e_regs, ← e_memory, e_some, ← e_steps) at h in
-    rw e_new k
+-- What an outcome makes of a machine is what the end of a run by it does.
+pub met-ending : (o : Outcome) (m : Machine) → met_if (ending_of o) m ≡ after_outcome o m
+unfolding after_outcome
+met-ending outcome.Next m = refl
+met-ending outcome.Svc m = refl
+met-ending (outcome.Fault f) m = refl
+met-ending (outcome.Illegal w) m = refl
+met-ending (outcome.Breakpoint k) m = refl
 
-pub after_none : (n : ℕ) (m : Machine) (stop : Stop) (r : Regs) (mem : Memory) (steps : ℕ)
-    → stop ≡ (run_of n m.parts.regs m.memory).stop → r ≡ (run_of n m.parts.regs m.memory).regs → mem ≡ (run_of n m.parts.regs m.memory).memory
-    → stop.outcome ≡ None → steps ≡ min (m.parts.history.steps + (n - stop.left)) 18446744073709551615
-    → runs m ≡ true → m.parts.history.steps ≤ 18446744073709551615 → 0 < n
-    → after_attempts stop.left (machine_of (record m.parts { history = record m.parts.history { steps = steps }; regs = r; left = stop.left }) mem) ≡ after_attempts n m
-after_none n m stop r mem steps e_stop e_regs e_memory e_none e_steps running few some =
+-- The same, of what the code has in hand.
+pub after_last : (n : ℕ) (m : Machine) (a : Attempt) (o : Outcome) (left : ℕ) (r : Regs) (mem : Memory) (steps : ℕ)
+    → stop_of o left ≡ (run_of n m.parts.regs m.memory).stop → r ≡ (run_of n m.parts.regs m.memory).regs → mem ≡ (run_of n m.parts.regs m.memory).memory
+    → steps ≡ min (m.parts.history.steps + (n - left)) 18446744073709551615
+    → a ≡ after_outcome o (machine_of (record m.parts { history = record m.parts.history { steps = steps }; regs = r; left = left }) mem)
+    → runs m ≡ true → m.parts.history.steps ≤ 18446744073709551615 → 0 < n → rest_of left a ≡ after_attempts n m
+after_last n m a o left r mem steps e_stop e_regs e_memory e_steps e_new running few some =
     let h = run_advances n m running few (λ z. absurd (omega arith)) in
-    rw (← e_stop, ← e_regs, ← e_memory, e_none, ← e_steps) at h
+    let k = rw (← e_stop, ← e_regs, ← e_memory, ← e_steps) at h in
+    ap (λ x. rest_of left x) (e_new ∙ sym (met-ending o _)) ∙ k
 
 pub attempts_none : (n : ℕ) (m : Machine) → n ≡ 0 → after_attempts n m ≡ m
 unfolding after_attempts

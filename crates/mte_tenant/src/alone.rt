@@ -144,7 +144,7 @@ pub fn attempt<M: Paged>(
     parts.history.steps = parts.history.steps.saturating_add(1);
     parts.left = left;
     match stop.outcome {
-        Some(outcome) => handle(outcome, parts, memory),
+        Some(outcome) => handle(&outcome, parts, memory),
         None => true,
     }
 }

@@ -15,7 +15,7 @@ ghost use Rattle.mte_svc.specs.Services.{after_svc};
 ghost use Rattle.mte_tenant.specs.Machines.{machine_of, first_parts, first_memory, first_registers};
 ghost use Rattle.mte_tenant.specs.Admissions.{start_in};
 ghost use Rattle.mte_tenant.specs.Machines.{after_slice, after_attempts, after_slice_end};
-ghost use Rattle.mte_tenant.specs.Machines.{after_outcome, after_stop, with_service};
+ghost use Rattle.mte_tenant.specs.Machines.{after_outcome, after_stop, continues, with_service};
 
 use crate::admission::Admission;
 use a64_run::{Edges, NoEdges, OpCache, known_words_stay, run_with_edges};
@@ -143,18 +143,14 @@ fn run_on<M: Paged, E: Edges>(
     steps_keep_pages();
     condition_of_calls();
     known_words_stay();
-    let last = run_with_edges(ops, &mut parts.regs, memory, edges, left);
-    parts.history.steps = parts.history.steps.saturating_add(left - last.left);
-    parts.left = last.left;
-    match last.outcome {
-        Outcome::Next => last.left,
-        outcome => {
-            if handle(outcome, parts, memory) {
-                last.left
-            } else {
-                0
-            }
-        }
+    let mut outcome = Outcome::Next;
+    let rest = run_with_edges(ops, &mut parts.regs, memory, edges, &mut outcome, left);
+    parts.history.steps = parts.history.steps.saturating_add(left - rest);
+    parts.left = rest;
+    if handle(&outcome, parts, memory) {
+        rest
+    } else {
+        0
     }
 }
 
@@ -174,35 +170,55 @@ pub fn settle<M: Tagged>(parts: &mut TenantParts, memory: &mut M)
     }
 }
 
-/// Handles an outcome: serves an SVC where the flag is clear, and ends the tenant at anything else.
-/// Returns whether the slice goes on.
+/// Handles an outcome: serves an SVC where the flag is clear, and ends the tenant at anything else
+/// that stops a run. Returns whether the slice goes on.
 #[tactic(auto, unfolding(crate::specs::Machines::after_outcome))]
-pub(crate) fn handle<M: Paged>(outcome: Outcome, parts: &mut TenantParts, memory: &mut M) -> bool
+#[inline(always)]
+pub(crate) fn handle<M: Paged>(outcome: &Outcome, parts: &mut TenantParts, memory: &mut M) -> bool
     requires ready { IsReady parts.old (M.Tagged.memory memory.old) }
     ensures machine { record {
       machine = machine_of parts.new (M.Tagged.memory memory.new);
       goes_on = result;
     }
-        ≡ after_outcome outcome (machine_of parts.old (M.Tagged.memory memory.old)) }
+        ≡ after_outcome outcome.now (machine_of parts.old (M.Tagged.memory memory.old)) }
     ensures fixed { KeepsFixed (M.Tagged.memory memory.old) (M.Tagged.memory memory.new) }
     ensures ready { IsReady parts.new (M.Tagged.memory memory.new) }
     ensures kept { M.Tagged.kept memory.old memory.new }
 {
-    let pc = parts.regs.pc;
     match outcome {
-        Outcome::Next => {}
         Outcome::Svc => {
             if memory.pending() {
-                parts.history.status = Status::AsyncTag(pc);
-            } else {
-                return serve(parts, memory);
+                parts.history.status = Status::AsyncTag(parts.regs.pc);
+                return true;
             }
+            serve(parts, memory)
         }
+        _ => {
+            end_at(outcome, parts);
+            true
+        }
+    }
+}
+
+/// Ends the tenant at an outcome that stops a run and is no SVC.
+#[tactic(auto, unfolding(crate::specs::Machines::after_outcome))]
+#[cold]
+#[inline(never)]
+fn end_at(outcome: &Outcome, parts: &mut TenantParts)
+    requires { outcome.now ≡ Outcome.Svc → ⊥ }
+    ensures machine { (m : Memory)
+        → continues (machine_of parts.new m)
+        ≡ after_outcome outcome.now (machine_of parts.old m) }
+    ensures heap { parts.new.heap ≡ parts.old.heap }
+    ensures regs { parts.new.regs ≡ parts.old.regs }
+{
+    let pc = parts.regs.pc;
+    match *outcome {
+        Outcome::Next | Outcome::Svc => {}
         Outcome::Fault(fault) => parts.history.status = Status::Faulted(fault, pc),
         Outcome::Illegal(word) => parts.history.status = Status::Illegal(word, pc),
         Outcome::Breakpoint(number) => parts.history.status = Status::Breakpoint(number, pc),
     }
-    true
 }
 
 /// Serves an SVC; returns whether the slice goes on.
