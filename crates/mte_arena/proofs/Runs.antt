@@ -1,4 +1,4 @@
--- A run of tags: one more at its end, one more before it, one after another, and whole bytes.
+-- A run of tags: one more at its end or before it, a run next to another, and whole bytes.
 use Rattle.std.proofs.Common.{◌≡◌, ℕ, zero, suc, ◌+◌, ◌*◌, ◌/◌, ◌%◌, ◌<◌, ◌≤◌, List, [], ◌∷◌, ◌++◌, length, take, drop, replicate, slice_set, refl, sym, ap, ◌∙◌, arith}
 use Rattle.std.proofs.lemmas.List.{length-set, drop-drop}
 use Rattle.mte_arena.specs.Blocks.{tags_of_bytes}
@@ -83,6 +83,29 @@ run_on ts g n m s t all h =
     ap (λ l. with_run l (g + n) m t) (run_is ts g n t (omega (arith, all, h))) ∙
     run_is (filled ts g n t) (g + n) m t (omega (arith, all, h, length_filled ts g n t)) ∙
     filled_on ts g n (g + n) m s t refl all ∙ sym (run_is ts g s t h)
+
+filled_under : (ts : List ℕ) (g n e m s t : ℕ) → e ≡ g + n → s ≡ n + m → filled (filled ts e m t) g n t ≡ filled ts g s t
+filled_under [] g n e m s t h l = refl
+filled_under (x ∷ ts) zero zero zero m s t h l = filled_none (filled (x ∷ ts) zero m t) zero t ∙ ap (λ k. filled (x ∷ ts) zero k t) (omega (arith, l))
+filled_under (x ∷ ts) zero zero (suc e) m s t h l = absurd (omega (arith, h))
+filled_under (x ∷ ts) zero (suc n) zero m s t h l = absurd (omega (arith, h))
+filled_under (x ∷ ts) zero (suc n) (suc e) m zero t h l = absurd (omega (arith, l))
+filled_under (x ∷ ts) zero (suc n) (suc e) m (suc s) t h l = ap (λ l. t ∷ l) (filled_under ts zero n e m s t (omega (arith, h)) (omega (arith, l)))
+filled_under (x ∷ ts) (suc g) n zero m s t h l = absurd (omega (arith, h))
+filled_under (x ∷ ts) (suc g) n (suc e) m s t h l = ap (λ l. x ∷ l) (filled_under ts g n e m s t (omega (arith, h)) l)
+
+-- a run right before another
+pub run_under : (ts : List ℕ) (g n m s t : ℕ) → s ≡ n + m → g + s ≤ length ts → with_run (with_run ts (g + n) m t) g n t ≡ with_run ts g s t
+run_under ts g n m s t all h =
+    ap (λ l. with_run l g n t) (run_is ts (g + n) m t (omega (arith, all, h))) ∙
+    run_is (filled ts (g + n) m t) g n t (omega (arith, all, h, length_filled ts (g + n) m t)) ∙
+    filled_under ts g n (g + n) m s t refl all ∙ sym (run_is ts g s t h)
+
+-- one element
+pub run_one : (ts : List ℕ) (g t : ℕ) → g < length ts → slice_set ts g t ≡ with_run ts g 1 t
+run_one ts g t h =
+    let here : g + 0 ≡ g = omega arith in
+    sym ((λ i. slice_set (run_none ts g 0 t refl (omega (arith, h)) i) (here i) t)) ∙ run_after ts g 0 t (omega (arith, h))
 
 byte_filled : (bs : List ℕ) (k g v t : ℕ) → g ≡ k * 2 → k < length bs → v % 16 ≡ t → v / 16 % 16 ≡ t → tags_of_bytes (slice_set bs k v) ≡ filled (tags_of_bytes bs) g 2 t
 byte_filled [] k g v t e h low high = absurd (omega (arith, h))

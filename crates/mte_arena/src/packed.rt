@@ -1,6 +1,6 @@
 //! Tags of granules, two a byte: an even granule's in the low half, an odd one's in the high half.
 
-ghost use Rattle.std.specs.Prelude.{◌≡◌, ◌+◌, ◌*◌, ◌%◌, ◌<◌, ◌≤◌, length, slice_set};
+ghost use Rattle.std.specs.Prelude.{◌≡◌, ◌+◌, ◌*◌, ◌/◌, ◌%◌, ◌<◌, ◌≤◌, length, slice_set};
 ghost use Rattle.mte_arena.specs.Blocks.{half, tags_of_bytes};
 ghost use Rattle.mte_arena.specs.Frames.{IsTagRun, with_run};
 
@@ -65,12 +65,8 @@ fn set_even_run(packed: &mut [u8], first: usize, count: usize, tag: u8)
         set_long_run(packed, first, count, tag);
         return;
     }
-    let from = first / 2;
-    let pairs = count / 2;
-    set_few_pairs(packed, from, pairs, tag);
-    if count % 2 == 1 {
-        set_low_half(packed, from + pairs, tag);
-    }
+    set_few_pairs(packed, first / 2, count / 2, tag);
+    set_odd_end(packed, first, count, tag);
 }
 
 /// Sets both tags of each of at most two bytes from `from` on.
@@ -91,6 +87,20 @@ fn set_few_pairs(packed: &mut [u8], from: usize, count: usize, tag: u8)
     }
 }
 
+/// Sets the last tag of a run of an odd number of granules that begins at an even granule.
+#[inline(always)]
+fn set_odd_end(packed: &mut [u8], first: usize, count: usize, tag: u8)
+    requires run { IsTagRun (length packed.old * 2) first count tag }
+    requires even { first % 2 ≡ 0 }
+    ensures tags { tags_of_bytes packed.new
+        ≡ with_run (tags_of_bytes packed.old) (first + count / 2 * 2) (count % 2) tag }
+    ensures len { length packed.new ≡ length packed.old }
+{
+    if count % 2 == 1 {
+        set_low_half(packed, first / 2 + count / 2, tag);
+    }
+}
+
 /// Sets the tag of the even granule of the byte `at`.
 #[inline(always)]
 fn set_low_half(packed: &mut [u8], at: usize, tag: u8)
@@ -102,7 +112,8 @@ fn set_low_half(packed: &mut [u8], at: usize, tag: u8)
 }
 
 /// Writes a run of any length that begins at an even granule.
-// In `set_even_run` its call of `memset` would make each short run save registers.
+// In `set_even_run` its call of `memset` would make each short run save registers. The call comes
+// last, so that few values live across it.
 #[inline(never)]
 fn set_long_run(packed: &mut [u8], first: usize, count: usize, tag: u8)
     requires run { IsTagRun (length packed.old * 2) first count tag }
@@ -110,10 +121,8 @@ fn set_long_run(packed: &mut [u8], first: usize, count: usize, tag: u8)
     ensures tags { tags_of_bytes packed.new ≡ with_run (tags_of_bytes packed.old) first count tag }
     ensures len { length packed.new ≡ length packed.old }
 {
+    set_odd_end(packed, first, count, tag);
     set_pairs(packed, first / 2, count / 2, tag);
-    if count % 2 == 1 {
-        set_half(packed, first + count - 1, tag);
-    }
 }
 
 /// Sets both tags of each of the `count` bytes from `from` on.
