@@ -62,7 +62,7 @@ high_is (b ∷ bs) zero (suc (suc g)) d e h = absurd (omega (arith, e))
 high_is (b ∷ bs) (suc k) (suc zero) d e h = absurd (omega (arith, e))
 high_is (b ∷ bs) (suc k) (suc (suc g)) d e h = high_is bs k g d (omega (arith, e)) (omega (arith, h))
 
-low_set : (bs : List ℕ) (k g d v : ℕ) → g ≡ k * 2 → k < length bs → v / 16 % 16 ≡ get_or bs k d / 16 % 16 → tags_of_bytes (slice_set bs k v) ≡ slice_set (tags_of_bytes bs) g (v % 16)
+pub low_set : (bs : List ℕ) (k g d v : ℕ) → g ≡ k * 2 → k < length bs → v / 16 % 16 ≡ get_or bs k d / 16 % 16 → tags_of_bytes (slice_set bs k v) ≡ slice_set (tags_of_bytes bs) g (v % 16)
 low_set [] k g d v e h same = absurd (omega (arith, h))
 low_set (b ∷ bs) zero zero d v e h same = ap (λ t. v % 16 ∷ t ∷ tags_of_bytes bs) same
 low_set (b ∷ bs) zero (suc g) d v e h same = absurd (omega (arith, e))

@@ -14,7 +14,7 @@ use Rattle.mte_sched.specs.declared.tenant.Tenant as code
 use Rattle.mte_tenant.specs.Ledger.{LedgerEntry, has_id, without_live, numbers_of}
 use Rattle.mte_sched.specs.Contents.{machine, entry_of, tenant_after_slice, tenant_after_stop}
 use Rattle.mte_sched.specs.Tenants.{record_in, tenants_in, entry_in, entries_in}
-use Rattle.mte_sched.specs.Sharing.{HasId, IsIndexed, lengthened}
+use Rattle.mte_sched.specs.Sharing.{HasId, IsIndexed, positions_for}
 use Rattle.mte_sched.proofs.PlaceLists.{some_same, get-set-same, get-set-other, get-last, get-before, get-append}
 use Rattle.mte_sched.proofs.EachLemmas.{or_left, or_right, id_there, ledger_is}
 use Rattle.mte_sched.proofs.BehaviourLemmas.{ledger_sliced, ledger_stopped}
@@ -84,9 +84,9 @@ fresh_at id (t ∷ ts) none zero = λ e.
     let z : true ≡ false = sym yes ∙ no in cc
 fresh_at id (t ∷ ts) none (suc i) = fresh_at id ts (or_right ((record_in t).id == id) _ none) i
 
-more_index : (positions ids : List ℕ) (id : ℕ) → IsIndexed positions ids → id < NUMBERS → ((i : ℕ) → slice_get ids i ≢ Some id) → IsIndexed (slice_set (lengthened positions (id + 1)) id (length ids)) (ids ++ id ∷ [])
+more_index : (positions ids : List ℕ) (id : ℕ) → IsIndexed positions ids → id < NUMBERS → ((i : ℕ) → slice_get ids i ≢ Some id) → IsIndexed (slice_set (positions_for positions (id + 1)) id (length ids)) (ids ++ id ∷ [])
 more_index positions ids id h within fresh =
-    let more : List ℕ = lengthened positions (id + 1) in
+    let more : List ℕ = positions_for positions (id + 1) in
     let long : length more ≡ length positions + (id + 1 - length positions) =
     length-append positions (replicate (id + 1 - length positions) 0) ∙ ap (λ n. length positions + n) (length-replicate (id + 1 - length positions) 0) in
     record {
@@ -136,18 +136,18 @@ module _ (positions : List ℕ) (ts : List code.Tenant) (id : ℕ) (indexed : Is
   many : length (numbers_of (entries_in ts)) ≡ length ts
   many = length-map (entries_in ts) (λ (e : LedgerEntry). e.id) ∙ length-map ts entry_in
 
-  more : IsIndexed (slice_set (lengthened positions (id + 1)) id (length ts)) (numbers_of (entries_in ts) ++ id ∷ [])
-  more = subst (λ k. IsIndexed (slice_set (lengthened positions (id + 1)) id k) (numbers_of (entries_in ts) ++ id ∷ [])) many (more_index positions (numbers_of (entries_in ts)) id indexed within (fresh_at id ts none))
+  more : IsIndexed (slice_set (positions_for positions (id + 1)) id (length ts)) (numbers_of (entries_in ts) ++ id ∷ [])
+  more = subst (λ k. IsIndexed (slice_set (positions_for positions (id + 1)) id k) (numbers_of (entries_in ts) ++ id ∷ [])) many (more_index positions (numbers_of (entries_in ts)) id indexed within (fresh_at id ts none))
 
   pub entered_position : length ts < NUMBERS
   entered_position =
-      let all = few (slice_set (lengthened positions (id + 1)) id (length ts)) (numbers_of (entries_in ts) ++ id ∷ []) more in
+      let all = few (slice_set (positions_for positions (id + 1)) id (length ts)) (numbers_of (entries_in ts) ++ id ∷ []) more in
       omega (arith, all, many, length-append (numbers_of (entries_in ts)) (id ∷ []), more.numbers)
 
-  pub entered_index : (t : code.Tenant) → (record_in t).id ≡ id → IsIndexed (slice_set (lengthened positions (id + 1)) id (length ts)) (numbers_of (entries_in (ts ++ t ∷ [])))
+  pub entered_index : (t : code.Tenant) → (record_in t).id ≡ id → IsIndexed (slice_set (positions_for positions (id + 1)) id (length ts)) (numbers_of (entries_in (ts ++ t ∷ [])))
   entered_index t number =
       let numbers : numbers_of (entries_in (ts ++ t ∷ [])) ≡ numbers_of (entries_in ts) ++ id ∷ [] = numbers_more ts ∙ ap (λ k. numbers_of (entries_in ts) ++ k ∷ []) number in
-      subst (IsIndexed (slice_set (lengthened positions (id + 1)) id (length ts))) (sym numbers) more
+      subst (IsIndexed (slice_set (positions_for positions (id + 1)) id (length ts))) (sym numbers) more
     where
       numbers_more : (us : List code.Tenant) → numbers_of (entries_in (us ++ t ∷ [])) ≡ numbers_of (entries_in us) ++ (record_in t).id ∷ []
       numbers_more [] = refl

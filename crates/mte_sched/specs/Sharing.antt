@@ -62,8 +62,8 @@ pub record IsSharing (p : Pool) (us : List Translation) (ts : List Tenant) : Typ
   pub reserved : sum p.reserved ≡ sum_by charge_of_entry (entries_in ts)
 
 -- A list of positions for at least n numbers: the list, and 0 for each number that it lacks.
-abbrev pub lengthened : List ℕ → ℕ → List ℕ
-lengthened positions n = positions ++ replicate (n - length positions) 0
+abbrev pub positions_for : List ℕ → ℕ → List ℕ
+positions_for positions n = positions ++ replicate (n - length positions) 0
 
 -- A table has at most a position for each number, and of each number of a list the one where it is.
 -- So a number that is not at its position, and one past the table's end, is none of the list.

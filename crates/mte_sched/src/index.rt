@@ -19,7 +19,7 @@ pub(crate) struct Index {
 }
 
 impl Index {
-    ghost use Rattle.mte_sched.specs.Sharing.{lengthened};
+    ghost use Rattle.mte_sched.specs.Sharing.{positions_for};
 
     /// Position 0 for all numbers. It has memory for all of them, and takes no more.
     pub(crate) fn new(alloc: Global) -> Result<Index, AllocError>
@@ -43,7 +43,7 @@ impl Index {
     pub(crate) fn enter(&mut self, id: u16, position: usize)
         requires { position < NUMBERS }
         ensures entered { self.new.positions.items
-            ≡ slice_set (lengthened self.old.positions.items (id + 1)) id position }
+            ≡ slice_set (positions_for self.old.positions.items (id + 1)) id position }
         ensures room { vec_capacity self.new.positions ≡ vec_capacity self.old.positions }
     {
         let id = usize::from(id);

@@ -33,7 +33,7 @@ unfoldable pub piece_len_of : ℕ → List ℕ → ℕ
 piece_len_of separator [] = 0
 piece_len_of separator (b ∷ more) = if b == separator then 0 else piece_len_of separator more + 1
 
--- The words of a line: what is between spaces.
+-- Whether a text has a byte: what is between two spaces in a row has none, and is no word.
 abbrev pub is_some_text : List ℕ → Bool
 is_some_text [] = false
 is_some_text (b ∷ more) = true
@@ -87,11 +87,11 @@ is_number word = is_some (decimal_of word)
 abbrev pub is_seed : List ℕ → Bool
 is_seed word = is_some (seed_of word)
 
--- The number that is the i-th word, and the seed; 0 where it is none.
+-- The decimal number in the word with an index, 0 where it is none.
 abbrev pub number_at : List (List ℕ) → ℕ → ℕ
 number_at words i = unwrap_or (decimal_of (nth words i)) 0
 
--- The seed in the word with an index.
+-- The seed in the word with an index, 0 where it is none.
 abbrev pub seed_at : List (List ℕ) → ℕ → ℕ
 seed_at words i = unwrap_or (seed_of (nth words i)) 0
 

@@ -1,4 +1,4 @@
-//! The event of a line's words.
+//! The event that the words of a line say, or their first fault.
 
 ghost use Rattle.std.specs.Prelude.{◌≡◌, ◌≢◌, ◌<◌, ◌≤◌, length, map};
 ghost use Rattle.mte_script.specs.Scripts.{event_by, stop_event, slice_event, admit_event};

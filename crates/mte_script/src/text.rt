@@ -1,4 +1,4 @@
-//! Texts cut at separators, and the numbers of words.
+//! The words of a line, compared with texts and read as numbers.
 
 ghost use Rattle.std.specs.Prelude.{◌≡◌, ◌+◌, ◌≤◌, [], ◌∷◌, ◌++◌, length, map, take, drop};
 ghost use Rattle.std.specs.Prelude.{filter};

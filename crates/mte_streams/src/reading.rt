@@ -75,8 +75,8 @@ pub fn read_whole<R: Source>(
     ensures calls { MadeAtMost (R.log reader.old) (R.log reader.new) 16777217 }
 {
     let mut whole = Vec::with_capacity(alloc, expected.min(FILE_LIMIT))?;
-    let mut memory = Vec::from_elem(alloc, 0, chunk_length(expected))?;
-    let chunk = memory.as_mut_slice();
+    let mut buffer = Vec::from_elem(alloc, 0, chunk_length(expected))?;
+    let chunk = buffer.as_mut_slice();
     for _ in 0..FILE_LIMIT + 1 {
         let wanted = chunk.len().min(FILE_LIMIT + 1 - whole.len());
         match reader.read(&mut chunk[..wanted]) {
@@ -94,8 +94,9 @@ pub fn read_whole<R: Source>(
     unreachable!()
 }
 
-/// How many bytes are read at once: so many that the bytes that are expected come in one read, with
-/// room for one more, but not too few and not too many. Of a pipe none are expected.
+/// How many bytes are read at once: one more than are expected, so that one read can give all of
+/// them with room to spare, but at least 4096 and at most 65536. Where none are expected, as of a
+/// pipe, it is 65536.
 fn chunk_length(expected: usize) -> usize
     ensures least { LEAST_CHUNK ≤ result }
     ensures most { result ≤ CHUNK }

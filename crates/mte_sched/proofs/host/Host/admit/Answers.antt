@@ -14,7 +14,7 @@ use Rattle.mte_sched.specs.Memories.{memory_at, IsTenantMemory}
 use Rattle.mte_sched.specs.Tenants.{record_in, tenants_in, entries_in}
 use Rattle.mte_tenant.specs.Admissions.{start_in}
 use Rattle.mte_tenant.specs.Ledger.{admission_refusal, is_live, numbers_of}
-use Rattle.mte_sched.specs.Sharing.{IsSharing, IsIndexed, lengthened}
+use Rattle.mte_sched.specs.Sharing.{IsSharing, IsIndexed, positions_for}
 use Rattle.mte_sched.proofs.EachLemmas.{ledger_is}
 use Rattle.mte_sched.proofs.IndexLemmas.{entered_position, entered_index}
 use Rattle.mte_tenant.proofs.FirstLemmas.{first_ready}
@@ -91,10 +91,10 @@ invariant_of-self-2 c =
     let t : code.Tenant = record { pages = pages; holding = kept.Live (record { parts = c.in_ok-parts.parts; memory = b }) } in
     let pushed : c.push_reserved.new.self.items ≡ ts ++ t ∷ [] = c.push_reserved.ensures.items ∙ ap (λ l. l ++ t ∷ []) c.in_ok-make_room.ensures.items in
     let number_of : (record_in t).id ≡ c.args.admission.now.id = number in
-    let index : IsIndexed (slice_set (lengthened h.index.positions.items (c.args.admission.now.id + 1)) c.args.admission.now.id (length ts)) (numbers_of (entries_in (ts ++ t ∷ []))) =
+    let index : IsIndexed (slice_set (positions_for h.index.positions.items (c.args.admission.now.id + 1)) c.args.admission.now.id (length ts)) (numbers_of (entries_in (ts ++ t ∷ []))) =
     entered_index h.index.positions.items ts c.args.admission.now.id h.indexed (search rules) (rw c.ledger_facts-facts.ensures at c.accepted_means.ensures.fresh) t number_of in
-    let positions : c.enter.new.self.positions.items ≡ slice_set (lengthened h.index.positions.items (c.args.admission.now.id + 1)) c.args.admission.now.id (length ts) =
-    c.enter.ensures.entered ∙ ap (slice_set (lengthened h.index.positions.items (c.args.admission.now.id + 1)) c.args.admission.now.id) asid in
+    let positions : c.enter.new.self.positions.items ≡ slice_set (positions_for h.index.positions.items (c.args.admission.now.id + 1)) c.args.admission.now.id (length ts) =
+    c.enter.ensures.entered ∙ ap (slice_set (positions_for h.index.positions.items (c.args.admission.now.id + 1)) c.args.admission.now.id) asid in
     let count : count_by is_live (entries_in (ts ++ t ∷ [])) ≡ count_by is_live (entries_in ts) + 1 =
     entered_count h.pool n h.caches.tlb vs ts c.args.admission.now.id b c.in_ok-parts.parts pages h.sharing placed start.unused start.others entries in
     record {
