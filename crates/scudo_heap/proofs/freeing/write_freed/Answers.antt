@@ -12,4 +12,4 @@ returns-then-write_chunk-clause-memory g c =
     let p = c.args.place in
     c.if-write_chunk.ensures.memory
     ∙ ap (λ k. with_bytes_at (with_granules m p.user k c.args.tag true) (p.user - 16) c.to_le_bytes-bytes.result) c.granules-count.ensures
-    ∙ ap (λ bs. with_bytes_at (with_chunk_tag m p c.args.tag) (p.user - 16) bs) (c.to_le_bytes-bytes.ensures ∙ ap (to_le_bytes w64) c.pack.ensures.word)
+    ∙ ap (λ bs. with_bytes_at (with_chunk_tag m p c.args.tag) (p.user - 16) bs) (c.to_le_bytes-bytes.ensures ∙ ap (to_le_bytes w64) c.pack-word.ensures.word)
