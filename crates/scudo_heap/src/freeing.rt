@@ -1,6 +1,7 @@
 //! What is left after a chunk is freed.
 
-ghost use Rattle.std.specs.Prelude.{◌≡◌, ◌-◌, ◌<◌, ◌≤◌, ◌/◌, ◌%◌, ◌^◌, ◌+◌, ◌*◌, ℕ, Some, IfSome, true};
+ghost use Rattle.std.specs.Prelude.{◌≡◌, ◌-◌, ◌<◌, ◌≤◌, ◌/◌, ◌%◌, ◌^◌, ◌+◌, ◌*◌, ℕ};
+ghost use Rattle.std.specs.Prelude.{Some, IfSome, true};
 ghost use Rattle.std.specs.Int.{to_le_bytes, w64};
 ghost use Rattle.mte_tags.specs.Memory.{attrs_at, tag_at, with_granules, without_pages};
 ghost use Rattle.mte_tags.specs.Accesses.{with_bytes_at};
@@ -29,8 +30,8 @@ use mte_tags::{ChunkAccess, Paged, Rgsr, Tagged};
 use scudo_header::{Header, State, pack};
 use scudo_secondary::{Mapping, Secondary};
 
-/// Slow path of `write_freed`: two pages hold the chunk. Apart, with the word of its header, so that
-/// the fast path stays short.
+/// Slow path of `write_freed`: two pages hold the chunk. Apart, with the word of its header, so
+/// that the fast path stays short.
 #[inline(never)]
 fn write_freed_apart<M: Paged>(memory: &mut M, user: u64, count: u64, tag: u8, word: u64)
     requires aligned { user % 16 ≡ 0 }
@@ -53,14 +54,17 @@ fn write_freed_apart<M: Paged>(memory: &mut M, user: u64, count: u64, tag: u8, w
 fn write_freed<M: Paged>(memory: &mut M, cookie: u32, place: Place, tag: u8, header: &Header)
     requires chunk { FitsTagged place tag }
     requires fields { FitsInWord header.now }
+    requires size { header.now.size_or_unused_bytes ≡ place.size }
     requires open { IsOpen (M.memory memory.old) (place.user - 16) (end_of place) }
     ensures memory { M.memory memory.new
         ≡ with_header (with_chunk_tag
         (M.memory memory.old) place tag) cookie place.user header.now }
     ensures kept { M.kept memory.old memory.new }
 {
-    let count = granules(place.size);
-    let word = pack(cookie, place.user, header);
+    // As the header has it, and in 32 bits: nothing is put together from the parts of a `Found`,
+    // and the compiler sees that the upper half of the address is 0.
+    let count = granules(u64::from(header.size_or_unused_bytes));
+    let word = pack(cookie, u64::from(place.user as u32), header);
     let bytes = word.to_le_bytes();
     if memory.write_chunk(place.user, 0, count, tag, &bytes) {
         return;
