@@ -161,7 +161,8 @@ pub(crate) fn make_chunk<M: Paged>(
         class_id: place.class,
         state: State::Allocated,
         origin,
-        size_or_unused_bytes: place.size as u32,
+        // In 20 bits, so that the compiler sees that the upper half of the word is the offset.
+        size_or_unused_bytes: (place.size % (1 << 20)) as u32,
         offset: ((place.user as u32 - place.block as u32 - 16) / 16) as u16,
     };
     write_around(memory, cookie, place, tag, &header);

@@ -1,4 +1,4 @@
-use Rattle.std.proofs.Common.{◌<◌, ◌^◌, ap, ◌∙◌, sym, subst, Option, Some, None}
+use Rattle.std.proofs.Common.{◌<◌, ◌^◌, ap, ◌∙◌, sym, subst, Option}
 use Rattle.std.specs.Option.{IfSome}
 use Rattle.scudo_header.specs.declared.headers.Header.{Header}
 use Rattle.scudo_heap.specs.Heaps.{heap_of}

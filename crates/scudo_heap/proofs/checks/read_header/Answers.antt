@@ -1,4 +1,4 @@
-use Rattle.std.proofs.Common.{ap, ◌∙◌, arith}
+use Rattle.std.proofs.Common.{arith}
 use Rattle.scudo_heap.proofs.CheckLemmas.{check-pointer-word, mapped-from}
 use Rattle.scudo_heap.proofs.checks.read_header.Goals as goal
 
