@@ -1,22 +1,29 @@
 -- What is asked of an allocation.
 use Rattle.std.proofs.Common.{◌≡◌, ℕ, zero, suc, ◌+◌, ◌/◌, ◌%◌, ◌^◌, ◌<◌, ◌≤◌, ◌==◌, ◌&&◌, ◌||◌, nat_le, max, Bool, true, false, inl, inr, refl, sym, ap, ◌∙◌, arith}
-use Rattle.std.proofs.lemmas.Bool.{cond-false, eqb-true, cases_eq}
+use Rattle.std.proofs.lemmas.Bool.{cond-true, cond-false, eqb-true, cases_eq}
 use Rattle.std.proofs.lemmas.Nat.{zero_from_ones, ones_le_self}
 use Rattle.std.specs.Int.RustNames.{count_ones}
 use lib.Count.{ones_step}
 use Rattle.std.proofs.lemmas.Bool.Decides.{nat_tests}
 use Rattle.std.specs.List.{range_with_len, list_any}
+use Rattle.scudo_header.specs.Classes.{class_for}
 use Rattle.scudo_header.specs.declared.headers.Origin.{Origin}
 use Rattle.scudo_header.proofs.ClassLemmas.{below-true}
 use Rattle.scudo_header.specs.declared.config.TheConstants.{MAX_REQUEST}
 use Rattle.scudo_heap.specs.Placing.{World}
-use Rattle.scudo_heap.specs.Allocation.{no_chunk, is_alignment, after_allocate}
+use Rattle.scudo_heap.specs.Allocation.{no_chunk, is_alignment, after_allocate, allocate_cases, need_of, nonzero_size}
 use Rattle.scudo_heap.specs.Inner.{IsAlign}
 use Rattle.scudo_heap.proofs.MapLemmas.{and-both, le-of}
 
 pub after-allocate-over : (w : World) (o : Origin) (a n : ℕ) → MAX_REQUEST < n → no_chunk w ≡ after_allocate w o a n
 unfolding after_allocate
 after-allocate-over w o a n l = let t : nat_le n MAX_REQUEST ≡ false = grind (arith, nat_tests) in sym (cond-false _ _ _ t)
+
+pub after-allocate-some : (w : World) (o : Origin) (a n z : ℕ) → n ≤ MAX_REQUEST → z ≡ nonzero_size n → allocate_cases w o a z (class_for (need_of a z)) ≡ after_allocate w o a n
+unfolding after_allocate
+after-allocate-some w o a n z l e =
+    let t : nat_le n MAX_REQUEST ≡ true = grind (arith, nat_tests) in
+    ap (λ k. allocate_cases w o a k (class_for (need_of a k))) e ∙ sym (cond-true _ _ _ t)
 
 -- a power of two up to the twelfth
 pub record IsPower (n k : ℕ) : Type 0 where

@@ -1,11 +1,13 @@
 -- What the checks of a pointer find.
-use Rattle.std.proofs.Common.{◌≡◌, ◌≢◌, ℕ, ◌+◌, ◌%◌, ◌^◌, ◌<◌, ◌≤◌, ◌==◌, true, false, cond, List, [], ◌∷◌, Option, Some, None, Err, sym, ap, subst, ◌∙◌, arith, eq-eqb}
+use Rattle.std.proofs.Common.{◌≡◌, ◌≢◌, ℕ, ◌+◌, ◌%◌, ◌^◌, ◌<◌, ◌≤◌, ◌==◌, ◌-◌, ◌/◌, ◌&&◌, nat_le, true, false, cond, List, [], ◌∷◌, Option, Some, None, Err, sym, ap, subst, ◌∙◌, arith, eq-eqb}
 use Rattle.std.proofs.lemmas.Bool.{cond-true, cond-false}
 use Rattle.std.proofs.lemmas.Bool.Decides.{nat_tests}
 use Rattle.std.specs.Option.{IfSome}
 use Rattle.std.specs.List.{find}
 use Rattle.a64_bits.specs.Fields.{field_of}
-use Rattle.mte_tags.specs.Memory.{Memory}
+use Rattle.std.specs.Int.{from_le_bytes, w64}
+use Rattle.mte_tags.specs.Memory.{Memory, page_has}
+use Rattle.mte_tags.specs.Accesses.{read_bytes}
 use Rattle.scudo_header.specs.Headers.{header_of, checksum_of, unpacked_header}
 use Rattle.scudo_header.specs.declared.headers.Header.{Header}
 use Rattle.scudo_secondary.specs.Mappings.{AreFrom, AreMappings, mapping_of, end_of}
@@ -72,3 +74,19 @@ check-pointer-state h user header e = sym (cond-false _ _ _ e)
 
 pub check-pointer-chunk : (h : HeapState) (user : ℕ) (header : Header) → is_allocated header.state ≡ true → check_chunk h.stacks h.maps.mappings user header ≡ check_header h user (Some header)
 check-pointer-chunk h user header e = sym (cond-true _ _ _ e)
+
+-- ---- the word of a header
+
+pub mapped-from : (m : Memory) (user : ℕ) → 16 ≤ user → page_has m ((user - 16) / PAGE_SIZE) 3 ≡ true → is_mapped m user ≡ true
+mapped-from m user l p = let t : nat_le 16 user ≡ true = grind (arith, nat_tests) in ap (λ b. b && page_has m ((user - 16) / PAGE_SIZE) 3) t ∙ p
+
+pub unmapped-from : (m : Memory) (user : ℕ) → 16 ≤ user → page_has m ((user - 16) / PAGE_SIZE) 3 ≡ false → is_mapped m user ≡ false
+unmapped-from m user l p = let t : nat_le 16 user ≡ true = grind (arith, nat_tests) in ap (λ b. b && page_has m ((user - 16) / PAGE_SIZE) 3) t ∙ p
+
+pub unmapped-below : (m : Memory) (user : ℕ) → user < 16 → is_mapped m user ≡ false
+unmapped-below m user l = let t : nat_le 16 user ≡ false = grind (arith, nat_tests) in ap (λ b. b && page_has m ((user - 16) / PAGE_SIZE) 3) t
+
+pub check-pointer-word : (m : Memory) (h : HeapState) (user word : ℕ) → user % 16 ≡ 0 → is_mapped m user ≡ true → word ≡ from_le_bytes w64 (read_bytes m (user - 16) 8)
+    → check_header h user (unpacked_header h.cookie user word) ≡ check_pointer m h user
+unfolding header_at
+check-pointer-word m h user word e n f = check-pointer-header m h user (unpacked_header h.cookie user word) e n (ap (unpacked_header h.cookie user) f)

@@ -21,6 +21,7 @@ use Rattle.scudo_heap.specs.declared.abort.HeapAbort.TheVariants.{NotABlock, Alr
 use Rattle.scudo_heap.specs.Stacks.{StackState, pages_of, stack_of}
 use Rattle.scudo_heap.specs.Heaps.{HeapState}
 use Rattle.scudo_heap.specs.Checks.{is_block, is_place, place_of_header, header_at, check_block, check_mapping, check_chunk, check_header, check_pointer}
+use Rattle.scudo_heap.specs.Realloc.{user_of}
 use Rattle.scudo_heap.specs.Inner.{IsPlaced, IsFoundBlock, IsFound}
 use Rattle.scudo_heap.proofs.CheckLemmas.{tags-of-bytes-small}
 use Rattle.scudo_heap.proofs.MapLemmas.{and-both, le-of, lt-of}
@@ -125,6 +126,28 @@ chunk-check-pointer h user header f aligned small e =
 by-check-pointer : (h : HeapState) (user : ℕ) (o : Option Header) (f : Found) → user % 16 ≡ 0 → IfSome o (λ header. header.size_or_unused_bytes < 2 ^ 20) → check_header h user o ≡ Ok f → IsFound h f
 by-check-pointer h user None f aligned small e = cc
 by-check-pointer h user (Some header) f aligned small e = let x = ok-then _ _ _ _ e in chunk-check-pointer h user header f aligned small x.1
+
+-- ---- what was found has the address that was checked
+
+same-found : (f k : Found) → ok_of f ≡ ok_of k → f ≡ k
+same-found f k e = cc
+
+pages-user : (ms : List Mapping) (user : ℕ) (header : Header) (o : Option Mapping) (f : Found) → o ≡ mapping_of ms user → check_mapping header o ≡ Ok f → user_of f ≡ user
+pages-user ms user header None f eo e = cc
+pages-user ms user header (Some n) f eo e = ap user_of (sym (same-found (InPages n header) f (in-pages header n f e))) ∙ user-of ms user n (sym eo)
+
+chunk-user : (h : HeapState) (user : ℕ) (header : Header) (f : Found) → check_chunk h.stacks h.maps.mappings user header ≡ Ok f → user_of f ≡ user
+unfolding check_chunk
+chunk-user h user header f e =
+    elim (header.class_id == 0) as (λ b. cond b (check_mapping header (mapping_of h.maps.mappings user)) (cond (nat_le (16 + 16 * header.offset) user) (check_block h.stacks (place_of_header user header) header) (Err NotABlock)) ≡ Ok f → user_of f ≡ user) [
+      | true ↦ λ k. pages-user h.maps.mappings user header (mapping_of h.maps.mappings user) f refl k
+      | false ↦ λ k. (let x = ok-then (nat_le (16 + 16 * header.offset) user) (check_block h.stacks (place_of_header user header) header) NotABlock f k in
+          ap user_of (sym (same-found (InBlock (place_of_header user header) header) f (in-block h.stacks (place_of_header user header) header f x.1).1.1)))
+    ] e
+
+pub found-user : (h : HeapState) (user : ℕ) (o : Option Header) (f : Found) → check_header h user o ≡ Ok f → user_of f ≡ user
+found-user h user None f e = cc
+found-user h user (Some header) f e = let x = ok-then _ _ _ _ e in chunk-user h user header f x.1
 
 header-small : (m : Memory) (cookie user : ℕ) → IfSome (header_at m cookie user) (λ header. header.size_or_unused_bytes < 2 ^ 20)
 unfolding header_at

@@ -31,6 +31,11 @@ sound-made w x o a z c v al e = subst IsSoundWorld (sym (ap (λ (d : AllocationR
 pub sound-after-allocate : (m : Memory) (h k : HeapState) (r : Rgsr) (x : World) (o : Origin) (a z : ℕ) (c : Option Chunk) → h ≡ k → AreHeapParts h → HeapOwnsItsPages m k → IsAlign a → allocation_of x c ≡ after_allocate (world_of m h r) o a z → IsSoundWorld x
 sound-after-allocate m h k r x o a z c view p v al e = sound-made (world_of m h r) x o a z c (sound-of m h k r view p v) al e
 
+-- the same, of a call that returns the chunk's address alone
+pub sound-after-address : (m : Memory) (h k : HeapState) (r : Rgsr) (x : World) (o : Origin) (a z : ℕ) → h ≡ k → AreHeapParts h → HeapOwnsItsPages m k → IsAlign a → x ≡ (after_allocate (world_of m h r) o a z).world → IsSoundWorld x
+sound-after-address m h k r x o a z view p v al e =
+    sound-after-allocate m h k r x o a z (after_allocate (world_of m h r) o a z).chunk view p v al (ap (λ t. allocation_of t (after_allocate (world_of m h r) o a z).chunk) e)
+
 -- a chunk that the checks found was freed, or got another size
 pub sound-after-free : (m n : Memory) (h k : HeapState) (r : Rgsr) (x : World) (f : Found) (user : ℕ) → h ≡ k → AreHeapParts h → HeapOwnsItsPages m k → n ≡ m → Ok f ≡ check_pointer m h user → x ≡ without_chunk (world_of n h r) f → IsSoundWorld x
 sound-after-free m n h k r x f user view p v same found e =

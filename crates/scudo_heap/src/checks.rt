@@ -1,16 +1,18 @@
 //! The six checks of a pointer (Scudo, `combined.h`).
 
-ghost use Rattle.std.specs.Prelude.{◌≡◌, ◌+◌, ◌-◌, ◌*◌, ◌%◌, ◌<◌, ◌≤◌, ◌^◌, IfOk, IfSome, is_some};
+ghost use Rattle.std.specs.Prelude.{◌≡◌, ◌+◌, ◌-◌, ◌*◌, ◌%◌, ◌<◌, ◌≤◌, ◌^◌, ◌/◌};
+ghost use Rattle.std.specs.Prelude.{IfOk, IfErr, IfSome, Err, true};
 ghost use Rattle.std.specs.Int.{from_le_bytes, w64};
 ghost use Rattle.mte_tags.specs.Accesses.{read_bytes};
-ghost use Rattle.scudo_header.specs.Headers.{FitsInWord};
+ghost use Rattle.mte_tags.specs.Memory.{page_has, tag_at};
+ghost use Rattle.scudo_header.specs.Headers.{FitsInWord, unpacked_header};
 ghost use Rattle.scudo_secondary.specs.Mappings.{mapping_of};
 ghost use Rattle.scudo_heap.specs.Chunks.{end_of, block_end};
 ghost use Rattle.scudo_heap.specs.Checks.{is_allocated, is_place, place_of_header, size_found};
-ghost use Rattle.scudo_heap.specs.Checks.{is_mapped};
 ghost use Rattle.scudo_heap.specs.Checks.{check_pointer};
-ghost use Rattle.scudo_heap.specs.Checks.{check_block, check_mapping, check_chunk};
-ghost use Rattle.scudo_heap.specs.Inner.{HasEnd, IsGiven, IsUser};
+ghost use Rattle.scudo_heap.specs.Checks.{check_block, check_mapping, check_chunk, check_header};
+ghost use Rattle.scudo_heap.specs.Heaps.{HeapState};
+ghost use Rattle.scudo_heap.specs.Inner.{HasEnd, IsGiven, IsOpen, IsUser};
 ghost use Rattle.scudo_heap.specs.Inner.Parts.{heap_in};
 
 use crate::abort::HeapAbort;
@@ -107,45 +109,127 @@ fn by_header(
     in_block(stacks, place, header)
 }
 
-/// The header's word in the granule before a user address, where that is in a mapped page with
-/// READ and WRITE.
-#[inline(always)]
-fn header_word<M: Paged>(memory: &mut M, user: u64) -> Option<u64>
-    requires { IsUser user }
-    ensures some { is_some result ≡ is_mapped (M.memory memory.old) user }
-    ensures word { IfSome result
-        (λ word. word ≡ from_le_bytes w64 (read_bytes (M.memory memory.old) (user - 16) 8)) }
+/// The tag of a granule, or 0 where no page has it.
+fn tag_or_zero<M: Paged>(memory: &mut M, user: u64) -> u8
+    ensures tag { IsOpen (M.memory memory.old) user (user + 1)
+        → result ≡ tag_at (M.memory memory.old) user }
+    ensures small { result < 16 }
     ensures memory { M.memory memory.new ≡ M.memory memory.old }
     ensures kept { M.kept memory.old memory.new }
 {
-    if user < 16 {
-        return None;
-    }
-    match memory.read_chunk(user) {
-        Some((word, _)) => Some(word),
-        None => header_word_alone(memory, user),
+    match memory.load_tag(user) {
+        Ok(tag) => tag,
+        Err(_) => 0,
     }
 }
 
-/// Slow path: the chunk begins another page, or no page is mapped there.
-#[cold]
-#[inline(never)]
-fn header_word_alone<M: Paged>(memory: &mut M, user: u64) -> Option<u64>
+/// The word in the granule before a user address, which is in a page with READ and WRITE.
+fn header_word<M: Paged>(memory: &mut M, user: u64) -> u64
     requires user { IsUser user }
     requires above { 16 ≤ user }
-    ensures some { is_some result ≡ is_mapped (M.memory memory.old) user }
-    ensures word { IfSome result
-        (λ word. word ≡ from_le_bytes w64 (read_bytes (M.memory memory.old) (user - 16) 8)) }
+    requires mapped { page_has (M.memory memory.old) ((user - 16) / 4096) 3 ≡ true }
+    ensures word { result ≡ from_le_bytes w64 (read_bytes (M.memory memory.old) (user - 16) 8) }
     ensures memory { M.memory memory.new ≡ M.memory memory.old }
     ensures kept { M.kept memory.old memory.new }
 {
-    if !memory.has_attrs(user - 16, Attrs::READ | Attrs::WRITE) {
-        return None;
-    }
     let mut bytes = [0; 8];
     // The page can be read.
     let _ = memory.read(user - 16, &mut bytes, false);
-    Some(u64::from_le_bytes(bytes))
+    u64::from_le_bytes(bytes)
+}
+
+/// Slow path of `read_header`: the chunk begins another page, no page is mapped there, or the
+/// address is not one of a chunk.
+#[cold]
+#[inline(never)]
+fn read_header_apart<M: Paged>(memory: &mut M, user: u64) -> Result<(u64, u8), HeapAbort>
+    requires { user < 2 ^ 56 }
+    ensures abort { (h : HeapState) → IfErr result
+        (λ abort. Err abort ≡ check_pointer (M.memory memory.old) h user) }
+    ensures word { (h : HeapState) → IfOk result
+        (λ read. check_header h user (unpacked_header h.cookie user read.0)
+        ≡ check_pointer (M.memory memory.old) h user) }
+    ensures tag { IsOpen (M.memory memory.old) user (user + 1)
+        → IfOk result (λ read. read.1 ≡ tag_at (M.memory memory.old) user) }
+    ensures small { IfOk result (λ read. read.1 < 16) }
+    ensures memory { M.memory memory.new ≡ M.memory memory.old }
+    ensures kept { M.kept memory.old memory.new }
+{
+    if user % 16 != 0 {
+        return Err(HeapAbort::Misaligned);
+    }
+    if user < 16 {
+        return Err(HeapAbort::Unmapped);
+    }
+    if !memory.has_attrs(user - 16, Attrs::READ | Attrs::WRITE) {
+        return Err(HeapAbort::Unmapped);
+    }
+    let word = header_word(memory, user);
+    Ok((word, tag_or_zero(memory, user)))
+}
+
+/// What `read_header_apart` returns, copied field by field: so the result of the fast path stays in
+/// registers.
+#[inline(always)]
+fn by_parts<M: Paged>(memory: &mut M, user: u64) -> Result<(u64, u8), HeapAbort>
+    requires { user < 2 ^ 56 }
+    ensures abort { (h : HeapState) → IfErr result
+        (λ abort. Err abort ≡ check_pointer (M.memory memory.old) h user) }
+    ensures word { (h : HeapState) → IfOk result
+        (λ read. check_header h user (unpacked_header h.cookie user read.0)
+        ≡ check_pointer (M.memory memory.old) h user) }
+    ensures tag { IsOpen (M.memory memory.old) user (user + 1)
+        → IfOk result (λ read. read.1 ≡ tag_at (M.memory memory.old) user) }
+    ensures small { IfOk result (λ read. read.1 < 16) }
+    ensures memory { M.memory memory.new ≡ M.memory memory.old }
+    ensures kept { M.kept memory.old memory.new }
+{
+    match read_header_apart(memory, user) {
+        Err(abort) => Err(abort),
+        Ok((word, tag)) => Ok((word, tag)),
+    }
+}
+
+/// The word of the header before a plain address and the tag of the granule at it, or which of the
+/// first two checks fails.
+#[inline(always)]
+pub(crate) fn read_header<M: Paged>(memory: &mut M, user: u64) -> Result<(u64, u8), HeapAbort>
+    requires { user < 2 ^ 56 }
+    ensures abort { (h : HeapState) → IfErr result
+        (λ abort. Err abort ≡ check_pointer (M.memory memory.old) h user) }
+    ensures word { (h : HeapState) → IfOk result
+        (λ read. check_header h user (unpacked_header h.cookie user read.0)
+        ≡ check_pointer (M.memory memory.old) h user) }
+    ensures tag { IsOpen (M.memory memory.old) user (user + 1)
+        → IfOk result (λ read. read.1 ≡ tag_at (M.memory memory.old) user) }
+    ensures small { IfOk result (λ read. read.1 < 16) }
+    ensures memory { M.memory memory.new ≡ M.memory memory.old }
+    ensures kept { M.kept memory.old memory.new }
+{
+    if user % 16 != 0 || user < 16 {
+        return by_parts(memory, user);
+    }
+    match memory.read_chunk(user) {
+        Some((word, tag)) => Ok((word, tag)),
+        None => by_parts(memory, user),
+    }
+}
+
+/// What the checks of a header's word find, or the first that fails.
+#[inline(always)]
+pub(crate) fn check_word(parts: &HeapParts, user: u64, word: u64) -> Result<Found, HeapAbort>
+    requires { user < 2 ^ 56 }
+    ensures answer { result
+        ≡ check_header (heap_in parts.now) user (unpacked_header parts.now.cookie user word) }
+    ensures end { IfOk result HasEnd }
+{
+    let Some(header) = unpack(parts.cookie, user, word) else {
+        return Err(HeapAbort::HeaderCorrupt);
+    };
+    if !is_handed_out(header.state) {
+        return Err(HeapAbort::InvalidState);
+    }
+    by_header(&parts.stacks, &parts.maps, user, &header)
 }
 
 /// What the checks of a plain address find, or the first that fails.
@@ -162,17 +246,8 @@ pub(crate) fn find_chunk<M: Paged>(
     ensures memory { M.memory memory.new ≡ M.memory memory.old }
     ensures kept { M.kept memory.old memory.new }
 {
-    if user % 16 != 0 {
-        return Err(HeapAbort::Misaligned);
+    match read_header(memory, user) {
+        Err(abort) => Err(abort),
+        Ok((word, _)) => check_word(parts, user, word),
     }
-    let Some(word) = header_word(memory, user) else {
-        return Err(HeapAbort::Unmapped);
-    };
-    let Some(header) = unpack(parts.cookie, user, word) else {
-        return Err(HeapAbort::HeaderCorrupt);
-    };
-    if !is_handed_out(header.state) {
-        return Err(HeapAbort::InvalidState);
-    }
-    by_header(&parts.stacks, &parts.maps, user, &header)
 }

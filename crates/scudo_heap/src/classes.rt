@@ -1,6 +1,7 @@
 //! Allocation in the size classes.
 
-ghost use Rattle.std.specs.Prelude.{◌≡◌, ◌≢◌, ◌+◌, ◌-◌, ◌*◌, ◌/◌, ◌<◌, ◌≤◌, ◌^◌, [], nat_le, IsNone};
+ghost use Rattle.std.specs.Prelude.{◌≡◌, ◌≢◌, ◌+◌, ◌-◌, ◌*◌, ◌/◌, ◌%◌, ◌<◌, ◌≤◌, ◌^◌, []};
+ghost use Rattle.std.specs.Prelude.{nat_le, IsNone};
 ghost use Rattle.std.specs.Prelude.{IfSome, IsTrue};
 ghost use Rattle.std.specs.Prelude.{if◌then◌else◌};
 ghost use Rattle.mte_tags.specs.Memory.{pages_left, with_new_pages};
@@ -24,15 +25,17 @@ use mte_tags::{Attrs, Paged, Rgsr, Tagged};
 use scudo_header::{MIN_ALIGNMENT, region_start, size_of_class};
 
 /// Where a chunk is in a block: after the header, at the first multiple of the alignment. Most
-/// chunks are aligned to a granule, where that takes no division.
+/// chunks are aligned to a granule, as blocks are; in 32 bits the compiler sees that the upper half
+/// of the address is 0.
 #[inline(always)]
 fn place(class: u8, block: u64, align: u64, size: u64) -> Place
-    requires block { block < 2 ^ 32 }
+    requires block { block < 2 ^ 31 }
+    requires granule { block % 16 ≡ 0 }
     requires align { IsAlign align }
     ensures { result ≡ place_in class block align size }
 {
     let user = if align == MIN_ALIGNMENT {
-        (block + 31) / 16 * 16
+        u64::from(block as u32 + 16)
     } else {
         (block + 16 + (align - 1)) / align * align
     };
@@ -46,7 +49,7 @@ fn place(class: u8, block: u64, align: u64, size: u64) -> Place
 
 /// Makes a chunk in the top of a class's stack, where there is one.
 #[inline(always)]
-fn take_top<M: Paged>(
+pub(crate) fn take_top<M: Paged>(
     cookie: u32,
     stacks: &mut Stacks,
     rgsr: &mut Rgsr,

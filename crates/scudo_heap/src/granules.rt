@@ -2,7 +2,9 @@
 //! tags, so none sets the flag of the asynchronous mode.
 
 ghost use Rattle.std.specs.Prelude.{◌≡◌, ◌+◌, ◌-◌, ◌*◌, ◌%◌, ◌^◌, ◌<◌, ◌≤◌, ℕ};
+ghost use Rattle.std.specs.Int.{to_le_bytes, w64};
 ghost use Rattle.mte_tags.specs.Memory.{attrs_at, tag_at, with_granules};
+ghost use Rattle.mte_tags.specs.Accesses.{with_bytes_at};
 ghost use Rattle.scudo_header.specs.Headers.{FitsInWord};
 ghost use Rattle.scudo_heap.specs.Chunks.{with_header};
 ghost use Rattle.scudo_heap.specs.Inner.{IsOpen};
@@ -42,6 +44,19 @@ pub(crate) fn tag_there<M: Paged>(memory: &mut M, addr: u64) -> u8
     }
 }
 
+/// Writes the word of a chunk's header.
+#[inline(always)]
+pub(crate) fn put_word<M: Paged>(memory: &mut M, user: u64, word: u64)
+    requires above { 16 ≤ user }
+    requires open { IsOpen (M.memory memory.old) (user - 16) user }
+    ensures memory { M.memory memory.new
+        ≡ with_bytes_at (M.memory memory.old) (user - 16) (to_le_bytes w64 word) }
+    ensures kept { M.kept memory.old memory.new }
+{
+    // The heap's pages lack nothing that it requires.
+    let _ = memory.write(user - 16, &word.to_le_bytes(), false);
+}
+
 /// Writes the header of a chunk.
 #[tactic(auto, unfolding(crate::specs::Chunks::with_header))]
 #[inline(always)]
@@ -53,7 +68,5 @@ pub(crate) fn put_header<M: Paged>(memory: &mut M, cookie: u32, user: u64, heade
         ≡ with_header (M.memory memory.old) cookie user header.now }
     ensures kept { M.kept memory.old memory.new }
 {
-    let word = pack(cookie, user, header);
-    // The heap's pages lack nothing that it requires.
-    let _ = memory.write(user - 16, &word.to_le_bytes(), false);
+    put_word(memory, user, pack(cookie, user, header));
 }

@@ -12,9 +12,9 @@ ghost use Rattle.scudo_heap.specs.Served.{HeapOwnsItsPages, HasTag};
 ghost use Rattle.scudo_heap.specs.Sound.{IsSound};
 
 use crate::abort::HeapAbort;
-use crate::allocation::{allocate, is_power};
+use crate::allocation::{allocate_address, is_power};
 use crate::call::HeapCall;
-use crate::checks::find_chunk;
+use crate::checks::{check_word, find_chunk, read_header};
 use crate::chunk::address_or_null;
 use crate::freeing::free_found;
 use crate::parts::HeapParts;
@@ -107,8 +107,7 @@ impl Heap {
             align,
             size,
         };
-        let chunk = allocate(&mut self.parts, rgsr, memory, request);
-        address_or_null(&chunk)
+        allocate_address(&mut self.parts, rgsr, memory, request)
     }
 
     /// A chunk for `count` elements of `size` bytes: as `malloc` of the product, which is 0 where
@@ -167,8 +166,7 @@ impl Heap {
             align,
             size,
         };
-        let chunk = allocate(&mut self.parts, rgsr, memory, request);
-        address_or_null(&chunk)
+        allocate_address(&mut self.parts, rgsr, memory, request)
     }
 
     /// Frees a chunk. The null pointer is ignored.
@@ -192,12 +190,16 @@ impl Heap {
         if pointer == 0 {
             return Ok(());
         }
-        match find_chunk(&self.parts, memory, plain(pointer)) {
+        let user = plain(pointer);
+        match read_header(memory, user) {
             Err(abort) => Err(abort),
-            Ok(found) => {
-                free_found(&mut self.parts, rgsr, memory, found);
-                Ok(())
-            }
+            Ok((word, tag)) => match check_word(&self.parts, user, word) {
+                Err(abort) => Err(abort),
+                Ok(found) => {
+                    free_found(&mut self.parts, rgsr, memory, found, Some(tag));
+                    Ok(())
+                }
+            },
         }
     }
 

@@ -1,7 +1,9 @@
 //! A chunk is made in a block of a size class.
 
 ghost use Rattle.std.specs.Prelude.{◌≡◌, ◌+◌, ◌-◌, ◌*◌, ◌/◌, ◌%◌, ◌^◌, ◌<◌, ◌≤◌, ℕ};
+ghost use Rattle.std.specs.Int.{to_le_bytes, w64};
 ghost use Rattle.mte_tags.specs.Memory.{attrs_at};
+ghost use Rattle.mte_tags.specs.Accesses.{with_bytes_at};
 ghost use Rattle.mte_tags.specs.RandomTags.{after_draw};
 ghost use Rattle.scudo_header.specs.Headers.{FitsInWord};
 ghost use Rattle.scudo_heap.specs.Chunks.{end_of, block_end, excluded_tags, with_chunk_tag};
@@ -12,7 +14,7 @@ ghost use Rattle.scudo_heap.specs.Served.{HasTag};
 ghost use Rattle.scudo_heap.specs.Inner.{FitsIn, FitsTagged, IsOpen};
 
 use crate::chunk::Place;
-use crate::granules::{put_header, set_tags};
+use crate::granules::{put_word, set_tags};
 use crate::tagging::{choose_tag, granules};
 use mte_tags::{ChunkAccess, Paged, Rgsr, Tagged};
 use scudo_header::{Header, Origin, State, pack, size_of_class};
@@ -67,8 +69,26 @@ fn tag_by_three_runs<M: Paged>(memory: &mut M, place: Place, tag: u8)
     close(memory, place);
 }
 
+/// Slow path of `write_around`: two pages hold the chunk. Apart, with the word of its header, so
+/// that the fast path stays short.
+#[inline(never)]
+fn write_apart<M: Paged>(memory: &mut M, place: Place, tag: u8, word: u64)
+    requires chunk { FitsTagged place tag }
+    requires open { IsOpen (M.memory memory.old) place.block (block_end place) }
+    ensures memory { M.memory memory.new
+        ≡ with_bytes_at
+        (with_end_tag_0 (with_header_tag_0
+        (with_chunk_tag (M.memory memory.old) place tag) place) place)
+        (place.user - 16) (to_le_bytes w64 word) }
+    ensures kept { M.kept memory.old memory.new }
+{
+    tag_by_three_runs(memory, place, tag);
+    put_word(memory, place.user, word);
+}
+
 /// Writes tags and the chunk's header with one look-up where one page holds all of it: the chunk's
 /// tag goes over a run of tag 0.
+#[tactic(auto, unfolding(crate::specs::Chunks::with_header))]
 #[inline(always)]
 fn write_around<M: Paged>(memory: &mut M, cookie: u32, place: Place, tag: u8, header: &Header)
     requires chunk { FitsTagged place tag }
@@ -88,12 +108,25 @@ fn write_around<M: Paged>(memory: &mut M, cookie: u32, place: Place, tag: u8, he
     } else {
         0
     };
-    let bytes = pack(cookie, place.user, header).to_le_bytes();
+    let word = pack(cookie, place.user, header);
+    let bytes = word.to_le_bytes();
     if memory.write_chunk(place.user, 1 + count + behind, count, tag, &bytes) {
         return;
     }
-    tag_by_three_runs(memory, place, tag);
-    put_header(memory, cookie, place.user, header);
+    // A copy of the place goes to memory here alone.
+    let Place {
+        class,
+        block,
+        user,
+        size,
+    } = place;
+    let apart = Place {
+        class,
+        block,
+        user,
+        size,
+    };
+    write_apart(memory, apart, tag, word);
 }
 
 /// Makes a chunk in its block, and returns its tag.
@@ -123,13 +156,14 @@ pub(crate) fn make_chunk<M: Paged>(
         cookie place.user (new_header origin place) }
     ensures kept { M.kept memory.old memory.new }
 {
-    let tag = choose_tag(rgsr, memory, place);
+    let tag = choose_tag(rgsr, memory, place, None);
     let header = Header {
         class_id: place.class,
         state: State::Allocated,
         origin,
-        size_or_unused_bytes: place.size as u32,
-        offset: ((place.user - place.block - 16) / 16) as u16,
+        // In 20 bits, so that the compiler sees that the upper half of the word is the offset.
+        size_or_unused_bytes: (place.size % (1 << 20)) as u32,
+        offset: ((place.user as u32 - place.block as u32 - 16) / 16) as u16,
     };
     write_around(memory, cookie, place, tag, &header);
     tag

@@ -108,7 +108,7 @@ fn move_chunk<M: Paged>(
     };
     let count = found.size().min(size);
     copy_bytes(memory, found.user(), chunk.user(), count);
-    free_found(parts, rgsr, memory, found);
+    free_found(parts, rgsr, memory, found, None);
     Some(chunk)
 }
 
@@ -136,7 +136,7 @@ pub(crate) fn reallocate<M: Paged>(
     ensures kept { M.kept memory.old memory.new }
 {
     if size == 0 {
-        free_found(parts, rgsr, memory, found);
+        free_found(parts, rgsr, memory, found, None);
         return None;
     }
     if size > MAX_REQUEST {

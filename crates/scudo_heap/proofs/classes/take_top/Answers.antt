@@ -1,5 +1,6 @@
 use Rattle.std.proofs.Common.{◌≡◌, ◌+◌, arith, ◌∙◌, Some, sym, ap, subst}
 use Rattle.scudo_header.specs.Classes.{size_of}
+use Rattle.scudo_primary.proofs.BlockLemmas.{block-IsCell}
 use Rattle.scudo_heap.specs.declared.chunk.Place.{Place}
 use Rattle.scudo_heap.specs.declared.chunk.Chunk.TheVariants.{Small}
 use Rattle.scudo_heap.specs.Stacks.{stack_of}
@@ -10,6 +11,18 @@ use Rattle.scudo_heap.specs.Inner.{FitsIn, IsOpen}
 use Rattle.scudo_heap.proofs.ServedLemmas.{block-open-in}
 use Rattle.scudo_heap.proofs.ClassLemmas.{allocation_at, new-fits, none-top, after-take-some}
 use Rattle.scudo_heap.proofs.classes.take_top.Goals as goal
+
+pub place-place-requires-clause-block : goal.place-place-requires-clause-block
+place-place-requires-clause-block g c =
+    let o = block-open-in (g.M.Tagged.memory c.args.memory.now) c.args.stacks.now c.args.class c.in-Some.block c.requires.regions c.requires.request.class c.in-Some.ensures.block in
+    let below = o.below in
+    omega arith
+
+pub place-place-requires-clause-granule : goal.place-place-requires-clause-granule
+place-place-requires-clause-granule g c =
+    let cell = block-IsCell c.args.class _ c.in-Some.block c.requires.request.class c.in-Some.ensures.block in
+    let granule = cell.granule in
+    omega arith
 
 pub make_chunk-tag-requires-clause-place : goal.make_chunk-tag-requires-clause-place
 make_chunk-tag-requires-clause-place g c = subst FitsIn (sym c.place-place.ensures)

@@ -1,18 +1,11 @@
-use Rattle.std.proofs.Common.{◌≡◌, ◌-◌, ap, ◌∙◌, length, arith}
+use Rattle.std.proofs.Common.{◌-◌, ap, ◌∙◌}
 use Rattle.std.specs.Int.{to_le_bytes, w64}
 use Rattle.mte_tags.specs.Accesses.{with_bytes_at}
 use Rattle.scudo_heap.specs.Chunks.{with_header}
-use Rattle.scudo_heap.proofs.OpenLemmas.{bytes_written}
 use Rattle.scudo_heap.proofs.granules.put_header.Goals as goal
 
 pub returns-clause-memory : goal.returns-clause-memory
 unfolding with_header
 returns-clause-memory g c =
-    let m = g.M.Tagged.memory c.args.memory.now in
-    let eight : length c.to_le_bytes.result ≡ 8 = ap length c.to_le_bytes.ensures in
-    let o = c.requires.open in
-    let up = c.requires.above in
-    let below = o.below in
-    bytes_written m _ (c.args.user - 16) _ _ c.write.ensures.answer c.write.ensures.memory
-    (record { pages = λ a l h. o.pages a l (omega arith); below = omega arith })
-    ∙ ap (λ bs. with_bytes_at m (c.args.user - 16) bs) (c.to_le_bytes.ensures ∙ ap (to_le_bytes w64) c.pack-word.ensures.word)
+    c.put_word.ensures.memory
+    ∙ ap (λ word. with_bytes_at (g.M.Tagged.memory c.args.memory.now) (c.args.user - 16) (to_le_bytes w64 word)) c.pack.ensures.word

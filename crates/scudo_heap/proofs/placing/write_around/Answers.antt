@@ -43,4 +43,4 @@ returns-then-write_chunk-clause-memory g c =
     ] in
     c.if-write_chunk.ensures.memory
     ∙ ap (λ k. with_bytes_at k (p.user - 16) c.to_le_bytes-bytes.result) (wide ∙ tags)
-    ∙ ap (λ bs. with_bytes_at (with_end_tag_0 (with_header_tag_0 (with_chunk_tag m p c.args.tag) p) p) (p.user - 16) bs) (c.to_le_bytes-bytes.ensures ∙ ap (to_le_bytes w64) c.pack.ensures.word)
+    ∙ ap (λ bs. with_bytes_at (with_end_tag_0 (with_header_tag_0 (with_chunk_tag m p c.args.tag) p) p) (p.user - 16) bs) (c.to_le_bytes-bytes.ensures ∙ ap (to_le_bytes w64) c.pack-word.ensures.word)
