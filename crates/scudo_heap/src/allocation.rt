@@ -65,7 +65,7 @@ fn make_some<M: Paged>(
 
 /// A chunk of some bytes in a block that is free; where there is none, nothing changes.
 #[inline(always)]
-fn make_free<M: Paged>(
+fn make_in_free_block<M: Paged>(
     parts: &mut HeapParts,
     rgsr: &mut Rgsr,
     memory: &mut M,
@@ -122,7 +122,7 @@ pub(crate) fn allocate_address<M: Paged>(
     }
     let size = if request.size == 0 { 1 } else { request.size };
     let some = Request { size, ..request };
-    match make_free(parts, rgsr, memory, some) {
+    match make_in_free_block(parts, rgsr, memory, some) {
         Some(chunk) => chunk.address(),
         None => allocate_apart(
             parts,

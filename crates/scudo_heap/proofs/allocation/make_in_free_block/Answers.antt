@@ -4,7 +4,7 @@ use Rattle.scudo_heap.specs.Heaps.{heap_of}
 use Rattle.scudo_heap.specs.Placing.{world_of}
 use Rattle.scudo_heap.specs.Allocation.{allocate_cases}
 use Rattle.scudo_heap.proofs.ClassLemmas.{after-class-allocation-first}
-use Rattle.scudo_heap.proofs.allocation.make_free.Goals as goal
+use Rattle.scudo_heap.proofs.allocation.make_in_free_block.Goals as goal
 
 pub returns-in-Some-take_top-clause-made : goal.returns-in-Some-take_top-clause-made
 returns-in-Some-take_top-clause-made g c =
