@@ -138,6 +138,14 @@ pub record FitsTagged (p : Place) (tag : ℕ) : Type 0 where
   pub place : FitsIn p
   pub small : tag < 16
 
+-- an address without its tag
+abbrev pub IsPlainAddress : ℕ → Type 0
+IsPlainAddress a = a < 2 ^ 56
+
+-- an address with a granule in front of it, where the header is
+abbrev pub IsBehindGranule : ℕ → Type 0
+IsBehindGranule a = 16 ≤ a
+
 -- an address that a header may stand in front of
 pub record IsUser (user : ℕ) : Type 0 where
   pub aligned : user % 16 ≡ 0

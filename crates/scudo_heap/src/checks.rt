@@ -12,7 +12,8 @@ ghost use Rattle.scudo_heap.specs.Checks.{is_allocated, is_place, place_of_heade
 ghost use Rattle.scudo_heap.specs.Checks.{check_pointer};
 ghost use Rattle.scudo_heap.specs.Checks.{check_block, check_mapping, check_chunk, check_header};
 ghost use Rattle.scudo_heap.specs.Heaps.{HeapState};
-ghost use Rattle.scudo_heap.specs.Inner.{HasEnd, IsGiven, IsOpen, IsUser};
+ghost use Rattle.scudo_heap.specs.Inner.{HasEnd, IsBehindGranule, IsGiven, IsOpen, IsPlainAddress};
+ghost use Rattle.scudo_heap.specs.Inner.{IsUser};
 ghost use Rattle.scudo_heap.specs.Inner.Parts.{heap_in};
 
 use crate::abort::HeapAbort;
@@ -126,7 +127,7 @@ fn tag_or_zero<M: Paged>(memory: &mut M, user: u64) -> u8
 /// The word in the granule before a user address, which is in a page with READ and WRITE.
 fn header_word<M: Paged>(memory: &mut M, user: u64) -> u64
     requires user { IsUser user }
-    requires above { 16 ≤ user }
+    requires above { IsBehindGranule user }
     requires mapped { page_has (M.memory memory.old) ((user - 16) / 4096) 3 ≡ true }
     ensures word { result ≡ from_le_bytes w64 (read_bytes (M.memory memory.old) (user - 16) 8) }
     ensures memory { M.memory memory.new ≡ M.memory memory.old }
@@ -143,7 +144,7 @@ fn header_word<M: Paged>(memory: &mut M, user: u64) -> u64
 #[cold]
 #[inline(never)]
 fn read_header_apart<M: Paged>(memory: &mut M, user: u64) -> Result<(u64, u8), HeapAbort>
-    requires { user < 2 ^ 56 }
+    requires { IsPlainAddress user }
     ensures abort { (h : HeapState) → IfErr result
         (λ abort. Err abort ≡ check_pointer (M.memory memory.old) h user) }
     ensures word { (h : HeapState) → IfOk result
@@ -172,7 +173,7 @@ fn read_header_apart<M: Paged>(memory: &mut M, user: u64) -> Result<(u64, u8), H
 /// registers.
 #[inline(always)]
 fn by_parts<M: Paged>(memory: &mut M, user: u64) -> Result<(u64, u8), HeapAbort>
-    requires { user < 2 ^ 56 }
+    requires { IsPlainAddress user }
     ensures abort { (h : HeapState) → IfErr result
         (λ abort. Err abort ≡ check_pointer (M.memory memory.old) h user) }
     ensures word { (h : HeapState) → IfOk result
@@ -194,7 +195,7 @@ fn by_parts<M: Paged>(memory: &mut M, user: u64) -> Result<(u64, u8), HeapAbort>
 /// first two checks fails.
 #[inline(always)]
 pub(crate) fn read_header<M: Paged>(memory: &mut M, user: u64) -> Result<(u64, u8), HeapAbort>
-    requires { user < 2 ^ 56 }
+    requires { IsPlainAddress user }
     ensures abort { (h : HeapState) → IfErr result
         (λ abort. Err abort ≡ check_pointer (M.memory memory.old) h user) }
     ensures word { (h : HeapState) → IfOk result
@@ -218,7 +219,7 @@ pub(crate) fn read_header<M: Paged>(memory: &mut M, user: u64) -> Result<(u64, u
 /// What the checks of a header's word find, or the first that fails.
 #[inline(always)]
 pub(crate) fn check_word(parts: &HeapParts, user: u64, word: u64) -> Result<Found, HeapAbort>
-    requires { user < 2 ^ 56 }
+    requires { IsPlainAddress user }
     ensures answer { result
         ≡ check_header (heap_in parts.now) user (unpacked_header parts.now.cookie user word) }
     ensures end { IfOk result HasEnd }
@@ -239,7 +240,7 @@ pub(crate) fn find_chunk<M: Paged>(
     memory: &mut M,
     user: u64,
 ) -> Result<Found, HeapAbort>
-    requires { user < 2 ^ 56 }
+    requires { IsPlainAddress user }
     ensures answer { result
         ≡ check_pointer (M.memory memory.old) (heap_in parts.now) user }
     ensures end { IfOk result HasEnd }

@@ -17,7 +17,7 @@ ghost use Rattle.scudo_heap.specs.Placing.{world_of};
 ghost use Rattle.scudo_heap.specs.Freeing.{without_chunk};
 ghost use Rattle.scudo_heap.specs.Realloc.{user_of};
 ghost use Rattle.scudo_heap.specs.Served.{HeapOwnsItsPages, HasTag};
-ghost use Rattle.scudo_heap.specs.Inner.{FitsTagged, IsFoundBlock, IsFound, IsOpen};
+ghost use Rattle.scudo_heap.specs.Inner.{FitsTagged, IsBehindGranule, IsFound, IsFoundBlock, IsOpen};
 ghost use Rattle.scudo_heap.specs.Inner.Parts.{heap_in};
 
 use crate::chunk::{Found, Place};
@@ -35,7 +35,7 @@ use scudo_secondary::{Mapping, Secondary};
 #[inline(never)]
 fn write_freed_apart<M: Paged>(memory: &mut M, user: u64, count: u64, tag: u8, word: u64)
     requires aligned { user % 16 ≡ 0 }
-    requires above { 16 ≤ user }
+    requires above { IsBehindGranule user }
     requires tag { tag < 16 }
     requires open { IsOpen (M.memory memory.old) (user - 16) (user + 16 * count) }
     ensures memory { M.memory memory.new

@@ -7,7 +7,7 @@ ghost use Rattle.mte_tags.specs.Memory.{attrs_at, tag_at, with_granules};
 ghost use Rattle.mte_tags.specs.Accesses.{with_bytes_at};
 ghost use Rattle.scudo_header.specs.Headers.{FitsInWord};
 ghost use Rattle.scudo_heap.specs.Chunks.{with_header};
-ghost use Rattle.scudo_heap.specs.Inner.{IsOpen};
+ghost use Rattle.scudo_heap.specs.Inner.{IsBehindGranule, IsOpen};
 
 use mte_tags::{Paged, Tagged};
 use scudo_header::{Header, pack};
@@ -47,7 +47,7 @@ pub(crate) fn tag_there<M: Paged>(memory: &mut M, addr: u64) -> u8
 /// Writes the word of a chunk's header.
 #[inline(always)]
 pub(crate) fn put_word<M: Paged>(memory: &mut M, user: u64, word: u64)
-    requires above { 16 ≤ user }
+    requires above { IsBehindGranule user }
     requires open { IsOpen (M.memory memory.old) (user - 16) user }
     ensures memory { M.memory memory.new
         ≡ with_bytes_at (M.memory memory.old) (user - 16) (to_le_bytes w64 word) }
@@ -62,7 +62,7 @@ pub(crate) fn put_word<M: Paged>(memory: &mut M, user: u64, word: u64)
 #[inline(always)]
 pub(crate) fn put_header<M: Paged>(memory: &mut M, cookie: u32, user: u64, header: &Header)
     requires fields { FitsInWord header.now }
-    requires above { 16 ≤ user }
+    requires above { IsBehindGranule user }
     requires open { IsOpen (M.memory memory.old) (user - 16) user }
     ensures memory { M.memory memory.new
         ≡ with_header (M.memory memory.old) cookie user header.now }
