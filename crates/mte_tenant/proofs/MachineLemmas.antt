@@ -14,7 +14,6 @@ use Rattle.mte_elf.specs.Loading.{with_segment, with_segments}
 use Rattle.a64_registers.specs.declared.registers.Regs.{Regs}
 use Rattle.a64_step.specs.declared.outcome.Outcome.{Outcome}
 use Rattle.a64_step.specs.declared.outcome.Outcome.TheVariants as outcome
-use Rattle.a64_step.specs.declared.outcome.Stop.{Stop}
 use Rattle.a64_step.specs.Steps.{step_of, run_of, Ran, is_next}
 use Rattle.a64_run.specs.Stops.{ending_of, stop_of}
 use Rattle.mte_tenant.specs.Machines.{Machine, machine_of, runs, Attempt, continues, after_outcome, with_steps, with_regs}
