@@ -14,7 +14,7 @@ from tests.support.running import run, succeed
 from tests.support.tools import give_up, need
 
 # The most instructions a step; docs/SPEED.md has what was measured.
-MOST = {"alu": 23.8, "memory": 37.6, "offsets": 30.6, "mix": 32.1, "svc18": 31.0, "slices16": 83.0}
+MOST = {"alu": 23.7, "memory": 37.5, "offsets": 30.6, "mix": 31.9, "svc18": 29.1, "slices16": 82.0}
 
 
 def test_a_step_calls_nothing(host: pathlib.Path) -> None:
@@ -87,9 +87,9 @@ def test_a_real_program_beside_others(host: pathlib.Path, shared: pathlib.Path) 
 
 
 # The most instructions of what room.py counts; docs/SPEED.md has what was measured.
-MOST_OF = {"slice": {"1 live in turns": 630, "64 live in turns": 630, "255 live in turns": 630},
-           "rounds": {"a service that does nothing, 6 steps": 220,
-                      "malloc and free of 24, 8 steps": 1_480},
+MOST_OF = {"slice": {"1 live in turns": 620, "64 live in turns": 620, "255 live in turns": 620},
+           "rounds": {"a service that does nothing, 6 steps": 186,
+                      "malloc and free of 24, 8 steps": 1_225},
            "start": {"hi.script": 300_000}}
 
 
