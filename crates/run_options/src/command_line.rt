@@ -1,10 +1,11 @@
 //! The command line.
 
-use crate::options::Options;
+use crate::values::options_of;
 use clap::error::ErrorKind;
 use clap::{Arg, ArgAction, ArgMatches, Command, Error, value_parser};
 use mte_program::{EarlyEnd, read_words};
 use obstacle::Obstacle;
+use run_terms::Options;
 use std::alloc::Global;
 use terminal_text::PrintableLines;
 
@@ -52,16 +53,16 @@ fn parse_by<'a>(
     words: &'a [String],
 ) -> Result<Option<Options>, Error> {
     let matches = command.try_get_matches_from_mut(words)?;
-    options_of(alloc, command, &matches)
+    read_matches(alloc, command, &matches)
 }
 
 /// The values of a command line that `clap` accepted; `None` where an allocation failed.
-fn options_of<'a>(
+fn read_matches<'a>(
     alloc: Global,
     command: &mut Command<'a>,
     matches: &ArgMatches<'_>,
 ) -> Result<Option<Options>, Error> {
-    match Options::of(alloc, matches) {
+    match options_of(alloc, matches) {
         Ok(options) => Ok(Some(options)),
         Err(Obstacle::OutOfMemory) => Ok(None),
         Err(Obstacle::Refused(fault)) => Err(command.error(

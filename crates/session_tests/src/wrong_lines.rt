@@ -1,7 +1,7 @@
 //! What is said of a script's faulty line.
 
 use mte_session::ScriptFault;
-use script_lines::WrongWord;
+use run_terms::WrongWord;
 use std::alloc::Global;
 use std::process::Abort;
 
