@@ -4,6 +4,7 @@
 mod command_line;
 mod fault;
 mod file_names;
+mod table;
 mod values;
 
 pub use command_line::read_command_line;
