@@ -22,7 +22,7 @@ from tests.support.host_sessions import HI_REPORT, admission
 from tests.support.library import shared_object
 from tests.support.once import make_once
 from tests.support.places import EXAMPLES
-from tests.support.running import Ran, run, succeed
+from tests.support.running import HANG, Ran, run, succeed
 from tests.support.tools import give_up
 
 COUNT = 60
@@ -201,7 +201,7 @@ def test_a_run_that_was_broken_off(made: Batch) -> None:
     slow = made.going_wrong("time.sleep(0.01)")
     with subprocess.Popen(slow.words(), env={**os.environ, **slow.extra},
                           stdout=subprocess.DEVNULL) as begun:
-        until = time.monotonic() + 30
+        until = time.monotonic() + HANG
         while not any(it.stat().st_size for it in made.store.glob("*.answers")):
             assert time.monotonic() < until and begun.poll() is None
             time.sleep(0.005)

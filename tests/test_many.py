@@ -33,7 +33,7 @@ def sessions(shared: pathlib.Path, tmp_path: pathlib.Path) -> Batch:
 def run_all(sessions: Batch, *options: str) -> Ran:
     """Runs the sessions, two at a time."""
     words: list[Word] = [MANY / "run.sh", sessions.sessions, "--jobs", "2", *options]
-    return run(words, extra=sessions.extra, seconds=120)
+    return run(words, extra=sessions.extra)
 
 
 def started(sessions: Batch) -> dict[str, int]:

@@ -22,7 +22,7 @@ from tests.support.instructions import move, program, subtract_with_flags
 from tests.support.once import make_once
 from tests.support.places import EXAMPLES
 from tests.support.refused_memory import preload, refuse_each
-from tests.support.running import Ran, Word, run, succeed
+from tests.support.running import HANG, Ran, Word, run, succeed
 from tests.support.split_sessions import LEDGER, SplitSession, admitted, resealed
 from tests.support.tools import give_up
 
@@ -365,7 +365,7 @@ def test_batch_is_broken_off(made: Batch, split: pathlib.Path, tmp_path: pathlib
     slow = faulty(made, split, tmp_path, "*) sleep 0.05 ;;")
     with subprocess.Popen([str(it) for it in slow.words()], env={**os.environ, **slow.extra},
                           stdout=subprocess.DEVNULL) as begun:
-        until = time.monotonic() + 60
+        until = time.monotonic() + HANG
         while sum(it.stat().st_size for it in made.store.glob("*.answers")) < 3000:
             assert time.monotonic() < until and begun.poll() is None
             time.sleep(0.01)

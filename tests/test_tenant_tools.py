@@ -13,7 +13,7 @@ import pytest
 from tests.support.cache import cache_folder, tenant_library
 from tests.support.places import EXAMPLES, TESTS
 from tests.support.programs import TENANT_CC, native, run_as_tenant, tenant_cc
-from tests.support.running import run, succeed
+from tests.support.running import HANG, run, succeed
 from tests.support.tenant_tools import TENANT_RUN, built, tenant_args, tenant_run
 from tests.support.tools import give_up, need
 
@@ -444,7 +444,7 @@ def test_closed_input_and_output(alone: pathlib.Path, ends: pathlib.Path) -> Non
     os.close(unread)
     ran = subprocess.run([sys.executable, TENANT_RUN, "--alone", alone, ends, "output"],
                          stdin=subprocess.DEVNULL, stdout=output, stderr=subprocess.PIPE,
-                         timeout=60, check=False)
+                         timeout=HANG, check=False)
     os.close(output)
     assert (ran.returncode, ran.stderr) == (141, b"")
 
