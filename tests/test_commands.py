@@ -19,7 +19,7 @@ BUILDER = """#!/usr/bin/env bash
 echo "build.sh $*" >&2
 cd "$(dirname "$0")/../crates/{name}"
 mkdir -p out
-cp {program} out/{name}
+cp "{program}" out/{name}
 touch out/{name}
 (cd out && sha256sum {name} >{name}.unproved)
 """
