@@ -8,7 +8,8 @@
 # (tools/install.sh). It says of how many crates or steps how many are done.
 #     --unproved   builds without proof, in minutes. Beside each such file is NAME.unproved, with
 #                  its sum. What is proved of these sources stays as it is.
-#     --only NAME  this one alone: a program, libtombolopan_c.a, or tenants for the C library
+#     --only NAME  this one alone: a program, libtombolopan_c.a, programs for these five, or tenants
+#                  for the C library of tenants
 #     --jobs N     how many are built at a time without proof (as processors and memory allow)
 set -euo pipefail
 here=$(cd "$(dirname "$0")" && pwd)
@@ -36,7 +37,7 @@ while [[ $# -gt 0 ]]; do
     esac
     shift
 done
-[[ -z $only || " ${every[*]} tenants " == *" $only "* ]] || leave "$only is nothing to build"
+[[ -z $only || " ${every[*]} programs tenants " == *" $only "* ]] || leave "$only is nothing to build"
 [[ -z $jobs || $jobs =~ ^[1-9][0-9]?$ ]] || leave "--jobs takes a number"
 command -v rt >/dev/null || [[ $only == tenants ]] || leave "rt, the toolchain, is not there"
 
@@ -179,7 +180,7 @@ if [[ -z $jobs ]]; then
     jobs=$((room < 1 ? 1 : room < processors ? room : processors))
 fi
 wanted=("${every[@]}")
-[[ -z $only ]] || wanted=("$only")
+[[ -z $only || $only == programs ]] || wanted=("$only")
 if [[ $proof == yes && $only != tenants ]]; then
     say "proves what is not built yet: README.md, \"Build and check\", has the time"
 fi
