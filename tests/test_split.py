@@ -323,7 +323,7 @@ def faulty(batch: Batch, split: pathlib.Path, folder: pathlib.Path, act: str) ->
     """The same by a program that goes wrong: `act` may change what mte_split does."""
     program = script(folder, "faulty", f"""
         once() {{ mkdir "{folder}/$1" 2> /dev/null; }}
-        split() {{ {split} "$@"; }}
+        split() {{ "{split}" "$@"; }}
         case "$*" in {act} esac
         split "$@"
         """)
