@@ -8,13 +8,13 @@ use mte_tags::Attrs;
 use mte_tenant::Status;
 use pointer_provenance::{LostChunk, ReachTable, RootRange};
 use std::alloc::{AllocError, Global};
-use tenant_run::{Log, Observer};
+use tenant_run::Observer;
 
 /// The chunks that a tenant which exited has lost, where its pointers were watched.
 pub fn lost_chunks(
     alloc: Global,
     parts: &TenantParts,
-    observer: &Observer<'_, Log>,
+    observer: &Observer<'_>,
     memory: &mut Flat,
 ) -> Result<Vec<LostChunk>, AllocError> {
     let Some(checker) = observer.checker() else {

@@ -13,7 +13,7 @@ use mte_tenant::AdmitError;
 use obstacle::Obstacle;
 use run_terms::{Failure, Options, Replay};
 use tenant_run::{
-    Log, LoneTenant, Observer, Replayed, SessionReplay, TenantBench, events_of, observer_of,
+    LoneTenant, Observer, Replayed, SessionReplay, TenantBench, events_of, observer_of,
 };
 
 /// Runs the tenant, writes its output and says why it ended; returns the exit status.
@@ -103,7 +103,7 @@ fn run_observed<'a>(
     run: &Run<'_>,
     tenant: &LoneTenant<'_>,
     bench: TenantBench,
-    observer: &mut Observer<'_, Log>,
+    observer: &mut Observer<'_>,
 ) -> Result<u8, Failure<'a>> {
     let mut bench = bench;
     tenant.run(rt, options, &mut bench, observer)?;
@@ -145,7 +145,7 @@ fn run_session_observed<'a>(
     options: &'a Options,
     session: &SessionReplay<'a, '_>,
     suppressions: &Suppressions,
-    observer: &mut Observer<'_, Log>,
+    observer: &mut Observer<'_>,
 ) -> Result<u8, Failure<'a>> {
     match session.run(rt, options, observer)? {
         Some(found) => tell_replay(rt, options, session, suppressions, found, observer),
@@ -179,7 +179,7 @@ fn tell_replay<'a>(
     session: &SessionReplay<'a, '_>,
     suppressions: &Suppressions,
     found: Replayed,
-    observer: &mut Observer<'_, Log>,
+    observer: &mut Observer<'_>,
 ) -> Result<u8, Failure<'a>> {
     let run = Run {
         image: image_of(options, session.files, found.image),

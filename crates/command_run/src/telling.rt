@@ -23,7 +23,7 @@ use std::alloc::{AllocError, Global};
 use std::fs::File;
 use std::io;
 use std::io::{BufWriter, Write};
-use tenant_run::{LastLine, Log, Observer, TenantBench, TenantEnding};
+use tenant_run::{LastLine, Observer, TenantBench, TenantEnding};
 
 /// What is said of a run beside its tenant.
 #[derive(Clone, Copy)]
@@ -42,7 +42,7 @@ pub struct Run<'x> {
 pub fn tell_end<'a>(
     rt: &HostRuntime,
     bench: TenantBench,
-    observer: &mut Observer<'_, Log>,
+    observer: &mut Observer<'_>,
     options: &'a Options,
     run: &Run<'_>,
 ) -> Result<u8, Failure<'a>> {
@@ -59,7 +59,7 @@ pub fn tell_end<'a>(
 /// is a failure.
 fn end_watch<'a>(
     rt: &HostRuntime,
-    observer: &mut Observer<'_, Log>,
+    observer: &mut Observer<'_>,
     options: &'a Options,
 ) -> Result<(), Failure<'a>> {
     if !observer.finish() {
@@ -100,7 +100,7 @@ fn tell_parts<'a>(
     rt: &HostRuntime,
     parts: &TenantParts,
     memory: &mut Flat,
-    observer: &Observer<'_, Log>,
+    observer: &Observer<'_>,
     options: &'a Options,
     run: &Run<'_>,
 ) -> Result<u8, Failure<'a>> {
@@ -163,7 +163,7 @@ struct Numbers {
 /// The report of a tenant's parts, by what is remembered of it, under the name of its image's file.
 fn report_of<'x, 'n, 'o>(
     parts: &'x TenantParts,
-    observer: &'x Observer<'o, Log>,
+    observer: &'x Observer<'o>,
     options: &Options,
     names: &'x Names<'n>,
     image: &'x str,
@@ -219,7 +219,7 @@ fn status_of(report: &Report<'_>, options: &Options, ending: TenantEnding, has_l
 }
 
 /// Whether anything is written in which names are: of a tenant that exited only what is requested.
-fn is_told(parts: &TenantParts, observer: &Observer<'_, Log>, options: &Options) -> bool {
+fn is_told(parts: &TenantParts, observer: &Observer<'_>, options: &Options) -> bool {
     let output = &options.output;
     !matches!(parts.history.status, Status::Exited(_))
         || observer.finding().is_some()

@@ -18,7 +18,7 @@ mod tracer;
 
 pub use bench::{TenantBench, Watcher};
 pub use ending::{LastLine, REFUSED, TenantEnding};
-pub use line_log::{Log, observer_of};
+pub use line_log::observer_of;
 pub use lone::{LoneTenant, admission_of};
 pub use observer::Observer;
 pub use replay::{Replayed, decide, replay_tenant};

@@ -12,7 +12,7 @@ use std::fs::File;
 use std::io::{BufWriter, Stderr};
 
 /// Where the lines go that are written while a tenant runs.
-pub type Log = BufWriter<Either<Stderr, File>>;
+pub(crate) type Log = BufWriter<Either<Stderr, File>>;
 
 /// What is remembered and written of a tenant, as the options request it: with the names of an
 /// image's functions, where it is known before the run, and without what is not told.
@@ -21,7 +21,7 @@ pub fn observer_of<'a, 'i>(
     options: &'a Options,
     image: &'i [u8],
     suppressions: &'i Suppressions,
-) -> Result<Observer<'i, Log>, Failure<'a>> {
+) -> Result<Observer<'i>, Failure<'a>> {
     let output = &options.output;
     let tracer = match output.traced {
         Some(traced) => Some(tracer_of(rt, output, traced, image)?),
@@ -39,9 +39,9 @@ pub fn observer_of<'a, 'i>(
 fn observer_with<'i>(
     alloc: Global,
     output: &OutputOptions,
-    tracer: Option<Tracer<'i, Log>>,
+    tracer: Option<Tracer<'i>>,
     terms: &CheckTerms<'i>,
-) -> Result<Observer<'i, Log>, AllocError> {
+) -> Result<Observer<'i>, AllocError> {
     let turns = turns_of(alloc, output.turns)?;
     let checker = checker_of(alloc, terms)?;
     let exact = exact_of(alloc, output.exact);
@@ -58,7 +58,7 @@ fn tracer_of<'a, 'i>(
     output: &'a OutputOptions,
     traced: Traced,
     image: &'i [u8],
-) -> Result<Tracer<'i, Log>, Failure<'a>> {
+) -> Result<Tracer<'i>, Failure<'a>> {
     let symbols = Symbols::of(rt.alloc(), image)?;
     let log = open_log(rt, output)?;
     Ok(Tracer::new(traced, symbols, log))

@@ -4,7 +4,6 @@ ghost use Rattle.std.specs.Prelude.{◌<◌};
 
 use crate::bench::TenantBench;
 use crate::ending::TenantEnding;
-use crate::line_log::Log;
 use crate::observer::Observer;
 use crate::output_stream::OutputStream;
 use crate::slices::run_slices;
@@ -110,7 +109,7 @@ impl<'x> LoneTenant<'x> {
         rt: &HostRuntime,
         options: &Options,
         bench: &mut TenantBench,
-        observer: &mut Observer<'_, Log>,
+        observer: &mut Observer<'_>,
     ) -> Result<(), Failure<'a>> {
         let mut out = OutputStream::new(rt);
         self.run_watched(rt.alloc(), options, bench, observer, &mut out)?;
@@ -129,7 +128,7 @@ impl<'x> LoneTenant<'x> {
         alloc: Global,
         options: &Options,
         bench: &mut TenantBench,
-        observer: &mut Observer<'_, Log>,
+        observer: &mut Observer<'_>,
         out: &mut OutputStream<'_>,
     ) -> Result<(), Failure<'a>> {
         let limit = options.length.steps;
@@ -151,7 +150,7 @@ impl<'x> LoneTenant<'x> {
         alloc: Global,
         options: &Options,
         bench: &mut TenantBench,
-        observer: &mut Observer<'_, Log>,
+        observer: &mut Observer<'_>,
         out: &mut OutputStream<'_>,
     ) -> Result<(), Failure<'a>> {
         let step = match observer.finding() {
@@ -171,7 +170,7 @@ impl<'x> LoneTenant<'x> {
         alloc: Global,
         options: &Options,
         bench: &TenantBench,
-        observer: &mut Observer<'_, Log>,
+        observer: &mut Observer<'_>,
     ) -> Result<(), Failure<'a>> {
         let Some(load) = observer.target_load(&bench.parts.history.status) else {
             return Ok(());

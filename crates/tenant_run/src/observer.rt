@@ -15,7 +15,6 @@ use run_statistics::{Statistics, StatisticsTable};
 use run_terms::Exactness;
 use shadow_memory::Full;
 use std::alloc::{AllocError, Global};
-use std::io::Write;
 
 /// How many of the last instructions are remembered at least.
 const LEAST: usize = 16;
@@ -23,7 +22,7 @@ const LEAST: usize = 16;
 /// Remembers the heap calls and the last instructions, and writes lines, up to the first access
 /// that goes beyond its chunk where accesses are to keep to them.
 #[derive(Drop)]
-pub struct Observer<'a, W: Write + Drop> {
+pub struct Observer<'a> {
     /// Whether it is shown what the tenant does.
     pub is_watching: bool,
     /// The heap calls.
@@ -33,7 +32,7 @@ pub struct Observer<'a, W: Write + Drop> {
     /// The last calls and returns, the oldest first, where they are wanted.
     turns: Option<HeapCircularBuffer<Turn>>,
     /// The lines.
-    tracer: Option<Tracer<'a, W>>,
+    tracer: Option<Tracer<'a>>,
     /// The bounds of chunks, where accesses are to keep to them.
     exact: Option<Exact>,
     /// Where pointers come from, where each is to be used as its own chunk allows.
@@ -46,17 +45,17 @@ pub struct Observer<'a, W: Write + Drop> {
     pub store: Option<LastStore>,
 }
 
-impl<'a, W: Write + Drop> Observer<'a, W> {
+impl<'a> Observer<'a> {
     /// One that remembers the last `count` instructions, and as many as a cause is found by; the
     /// calls and returns for which there is a list; and what a checker finds.
     pub fn new(
         alloc: Global,
         count: usize,
         exact: Option<Exact>,
-        tracer: Option<Tracer<'a, W>>,
+        tracer: Option<Tracer<'a>>,
         turns: Option<HeapCircularBuffer<Turn>>,
         checker: Option<Checker<'a>>,
-    ) -> Result<Observer<'a, W>, AllocError> {
+    ) -> Result<Observer<'a>, AllocError> {
         Ok(Observer {
             is_watching: true,
             book: Book::new(alloc)?,
@@ -150,7 +149,7 @@ impl<'a, W: Write + Drop> Observer<'a, W> {
     }
 }
 
-impl<'a, W: Write + Drop> Watcher for Observer<'a, W> {
+impl<'a> Watcher for Observer<'a> {
     fn is_watching(&self) -> bool {
         self.is_watching
     }
@@ -160,7 +159,7 @@ impl<'a, W: Write + Drop> Watcher for Observer<'a, W> {
     }
 }
 
-impl<'a, W: Write + Drop> Watch for Observer<'a, W> {
+impl<'a> Watch for Observer<'a> {
     ghost log = { λ _. None };
 
     fn before<M: Paged>(&mut self, parts: &TenantParts, memory: &mut M) {

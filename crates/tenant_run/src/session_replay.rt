@@ -1,7 +1,6 @@
 //! A session of which one tenant is replayed.
 
 use crate::bench::Watcher;
-use crate::line_log::Log;
 use crate::lone::wants_watch;
 use crate::observer::Observer;
 use crate::replay::{Replayed, replay_tenant};
@@ -31,7 +30,7 @@ impl<'a, 'x> SessionReplay<'a, 'x> {
         &self,
         rt: &HostRuntime,
         options: &Options,
-        observer: &mut Observer<'_, Log>,
+        observer: &mut Observer<'_>,
     ) -> Result<Option<Replayed>, Failure<'a>> {
         observer.is_watching = observer.needs_each_step();
         let found = self.first_run(rt, options, observer)?;
@@ -48,7 +47,7 @@ impl<'a, 'x> SessionReplay<'a, 'x> {
         &self,
         rt: &HostRuntime,
         options: &Options,
-        observer: &mut Observer<'_, Log>,
+        observer: &mut Observer<'_>,
     ) -> Result<Option<Replayed>, Failure<'a>> {
         if options.output.is_raw {
             self.replayed(rt.alloc(), observer, &mut StreamSink(sink()))
@@ -63,7 +62,7 @@ impl<'a, 'x> SessionReplay<'a, 'x> {
         alloc: Global,
         options: &Options,
         found: Option<Replayed>,
-        observer: &mut Observer<'_, Log>,
+        observer: &mut Observer<'_>,
     ) -> Result<Option<Replayed>, Failure<'a>> {
         let is_wanted = match &found {
             Some(found) => !observer.is_watching && wants_watch(&found.bench, options),
@@ -82,7 +81,7 @@ impl<'a, 'x> SessionReplay<'a, 'x> {
         &self,
         alloc: Global,
         found: &Replayed,
-        observer: &mut Observer<'_, Log>,
+        observer: &mut Observer<'_>,
     ) -> Result<(), Failure<'a>> {
         let Some(load) = observer.target_load(&found.bench.parts.history.status) else {
             return Ok(());

@@ -2,7 +2,6 @@
 
 use crate::bench::TenantBench;
 use crate::ending::{ENDINGS, TenantEnding, ending_at};
-use crate::line_log::Log;
 use crate::lone::admission_of;
 use crate::observer::{Observer, checker_of, exact_of};
 use crate::output_stream::OutputStream;
@@ -90,7 +89,7 @@ fn silent_observer<'x>(
     alloc: Global,
     options: &Options,
     terms: &CheckTerms<'x>,
-) -> Result<Observer<'x, Log>, AllocError> {
+) -> Result<Observer<'x>, AllocError> {
     let checker = checker_of(alloc, terms)?;
     let exact = exact_of(alloc, options.output.exact);
     Observer::new(alloc, 1, exact, None, None, checker)
@@ -100,7 +99,7 @@ fn silent_observer<'x>(
 fn ending_of(
     options: &Options,
     bench: &mut TenantBench,
-    observer: &mut Observer<'_, Log>,
+    observer: &mut Observer<'_>,
 ) -> TenantEnding {
     observer.is_watching = observer.needs_each_step();
     let mut out = OutputStream::silent();

@@ -1,5 +1,6 @@
 //! Lines that are written while a tenant runs.
 
+use crate::line_log::Log;
 use a64_registers::Regs;
 use elf_symbols::Symbols;
 use instruction_trace::{Moment, SVC, Service, TraceLine};
@@ -9,19 +10,19 @@ use std::io::Write;
 
 /// Writes a line an instruction or a service.
 #[derive(Drop)]
-pub struct Tracer<'a, W: Write + Drop> {
+pub struct Tracer<'a> {
     traced: Traced,
     symbols: Symbols<'a>,
     /// Where the function begins whose name was written last.
     function: u64,
-    out: W,
+    out: Log,
     /// Whether a write failed; after that there are no more.
     failed: bool,
 }
 
-impl<'a, W: Write + Drop> Tracer<'a, W> {
+impl<'a> Tracer<'a> {
     /// One that writes some lines, with the names of functions.
-    pub fn new(traced: Traced, symbols: Symbols<'a>, out: W) -> Tracer<'a, W> {
+    pub fn new(traced: Traced, symbols: Symbols<'a>, out: Log) -> Tracer<'a> {
         Tracer {
             traced,
             symbols,
