@@ -1,12 +1,12 @@
-"""Writes the answers of what executes forms, in a64_execute: the effect of an arm's form is what its
-function leaves, and a family has no other forms. Each answer spares the prover a search."""
+"""Writes the answers of what executes forms, in a64_execute: the effect of an arm's form is what
+its function leaves, and a family has no other forms. Each answer spares the prover a search."""
 
 import re
 from collections.abc import Callable
 
 from a64 import calls, dispatch, table
 from a64.calls import Call, Function, Sources
-from a64.forms import EXECUTION, FROM_FORMS, OPS, Forms, execution, of_table
+from a64.forms import EXECUTION, FROM_FORMS, Forms, execution, of_table
 from a64.layout import applied, comment, form_names, sentence, spec_imported
 from a64.table import FIRST_TABLE, Form
 
@@ -134,11 +134,6 @@ def by_registers(form: Form, call: Call, step: str) -> str:
             "c.requires.outcome")
 
 
-def by_branch(form: Form, call: Call, step: str) -> str:
-    return (f"branch_of_form _ _ c.in-{form.name}.is refl c.{step}.ensures.next "
-            f"c.{step}.ensures.taken c.requires.outcome")
-
-
 Proof = Callable[[Form, Call, str], str]
 
 
@@ -146,17 +141,15 @@ def proof_of(form: Form, call: Call) -> Proof:
     """What proves the arm of a form, by what its function says."""
     function = call.function
     takes_memory = "outcome" in dict(function.parameters)
-    if function.result:
-        return by_step if takes_memory else by_branch
     if takes_memory:
-        return by_row
+        return by_step if function.result else by_row
     within = form.family and form.family not in dispatch.ACCESS_FAMILIES
     return by_effect if within else by_registers
 
 
 def step_names(members: Forms, sources: Sources) -> list[tuple[Form, Call, str]]:
-    """Each form with its call and the name that the prover gives to it: the first call of a function
-    has the function's name, and each other one that of its arm too."""
+    """Each form with its call and the name that the prover gives to it: the first call of a
+    function has the function's name, and each other one that of its arm too."""
     seen: set[str] = set()
     found = []
     for form in members:
