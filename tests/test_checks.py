@@ -296,7 +296,7 @@ def test_kinds(alone: pathlib.Path, tmp_path: pathlib.Path) -> None:
         errors = run([alone, f"--check={two}", path]).errors
         said = "Cause: [check]" in errors or "lost at the end" in errors
         assert said == (kind != "undefined"), (kind, two, errors)
-    for wrong in ("leak", "leaks,", "Frees"):
+    for wrong in ("leak", "leaks,", "Frees", "", "leaks, frees"):
         told = run([alone, f"--check={wrong}", cases["leaks"]])
         assert told.status == 2 and "--check takes provenance, frees" in told.errors
 
