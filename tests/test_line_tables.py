@@ -25,7 +25,7 @@ GCC = bytes.fromhex(
 # Units that are not read: one of the 64-bit format, one of version 9, one whose header's length is
 # not in it.
 UNREAD = bytes.fromhex("ffffffff0200000000000000050002000000090006000000040063000000")
-# One instruction in front of the table, three of it, and one past its end.
+# One instruction before the table, three of it, and one past its end.
 FIRST, COUNT = 0x3FFFFC, 5
 Place = Optional[tuple[str, str, int]]
 
@@ -39,7 +39,8 @@ def place_of(alone: pathlib.Path, folder: pathlib.Path, tables: bytes, number: i
     """The file, its path and the line of an instruction, by its number."""
     need("clang", "ld.lld")
     words = ["brk #0" if at == number else "nop" for at in range(COUNT)]
-    source = [".globl _start", ".type _start, %function", "_start:", *words, f".size _start, {4 * COUNT}",
+    size = f".size _start, {4 * COUNT}"
+    source = [".globl _start", ".type _start, %function", "_start:", *words, size,
               '.section .debug_line,"",@progbits', listed(tables),
               '.section .debug_line_str,"MS",@progbits,1', listed(STRINGS), ""]
     (folder / "lines.s").write_text("\n".join(source), encoding="ascii")
@@ -64,6 +65,6 @@ LAST_OF_CLANG, LAST_OF_GCC = ("sum.c", "sum.c", 5), ("sum.c", "sum.c", 6)
 ], ids=["version 5", "version 4", "after units that are not read"])
 def test_lines_of_instructions(alone: pathlib.Path, tmp_path: pathlib.Path, tables: bytes,
                                places: list[Place]) -> None:
-    """Of an inlined function, of the last instruction, and none in front of the table or past it."""
+    """Of an inlined function, of the last instruction, and none before the table or past it."""
     found = [place_of(alone, tmp_path, tables, number) for number in range(COUNT)]
     assert found == places

@@ -8,10 +8,11 @@ from collections.abc import Sequence
 
 import pytest
 
-from tests.support.instructions import SERVICE, Words, call, copy, load, move, program
+from tests.support.instructions import SERVICE, Words, call, copy, load, load_byte
+from tests.support.instructions import move, program
 from tests.support.running import Ran, run
 
-MALLOC, WRITE, EXIT = 3, 1, 0
+EXIT, WRITE, MALLOC, REALLOC = 0, 1, 3, 6
 ALL = (1 << 64) - 1
 ADD, SUB, AND, ORR, MUL = 0x8B000000, 0xCB000000, 0x8A000000, 0xAA000000, 0x9B007C00
 CLZ = 0xDAC01000
@@ -69,7 +70,7 @@ def test_bits_of_results(alone: pathlib.Path, tmp_path: pathlib.Path, operation:
     63 bits are tried.)"""
     made: list[Words] = [call(MALLOC, 24), copy(9, 0), *operand(1, *left), *operand(2, *right),
                          operation | 1 << 5 | 4 if operation == CLZ else by(operation, 4, 1, 2)]
-    others = [move(10, ALL & ~undefined), by(AND, 5, 4, 10), compare_with_zero(5)]
+    others: list[Words] = [move(10, ALL & ~undefined), by(AND, 5, 4, 10), compare_with_zero(5)]
     ran = checked(alone, tmp_path, *made, *others)
     assert ran.status == 0 and "Cause" not in ran.errors, ran.errors
     bits = [bit for bit in range(64) if undefined >> bit & 1]
@@ -95,25 +96,40 @@ def test_bytes_of_a_chunk(alone: pathlib.Path, tmp_path: pathlib.Path) -> None:
     """Bytes that were written are defined, and no others: drawn stores, and drawn loads of eight
     bytes, also over the end of a page. Each byte is looked at."""
     drawn = random.Random(4)
-    for middle in (40, 0x1000 - 0x10, 0x1000 - 0x13, 0x20C0, *drawn.sample(range(40, SIZE - 40), 4)):
+    middles = (40, 0x1000 - 0x10, 0x1000 - 0x13, 0x20C0, *drawn.sample(range(40, SIZE - 40), 4))
+    for middle in middles:
         ranges = [(middle + drawn.randrange(-24, 16), drawn.choice((1, 2, 4, 8)))
                   for _ in range(5)]
         written = {at + it for at, size in ranges for it in range(size)}
         place = middle + drawn.randrange(-16, 8)
-        made = [call(MALLOC, SIZE), copy(9, 0), *stores(ranges), move(10, place),
-                by(ADD, 11, 9, 10), load(1, 11)]
+        made: list[Words] = [call(MALLOC, SIZE), copy(9, 0), *stores(ranges), move(10, place),
+                             by(ADD, 11, 9, 10), load(1, 11)]
         for byte in range(8):
-            mask = [move(10, 0xFF << 8 * byte), by(AND, 5, 1, 10), compare_with_zero(5)]
-            ran = checked(alone, tmp_path, *made, *mask)
+            mask: list[Words] = [move(10, 0xFF << 8 * byte), by(AND, 5, 1, 10)]
+            ran = checked(alone, tmp_path, *made, *mask, compare_with_zero(5))
             is_told = FINDING in ran.errors
             assert is_told == (place + byte not in written), (ranges, place, byte, ran.errors)
+
+
+@pytest.mark.parametrize("size", [32, 2000])
+def test_bytes_of_a_chunk_that_was_made_larger(alone: pathlib.Path, tmp_path: pathlib.Path,
+                                               size: int) -> None:
+    """In its place or in another, what was written is defined, and nothing else."""
+    made: list[Words] = [call(MALLOC, 24), copy(9, 0), *stores([(0, 8), (16, 4)]), copy(0, 9),
+                         move(1, size), move(8, REALLOC), SERVICE, copy(9, 0)]
+    for place, is_told in ((0, False), (8, True), (16, True), (24, True), (size - 8, True)):
+        ran = checked(alone, tmp_path, *made, load(1, 9, place), compare_with_zero(1))
+        assert (FINDING in ran.errors) == is_told, (place, ran.errors)
+    for place, is_told in ((15, True), (16, False), (19, False), (20, True)):
+        ran = checked(alone, tmp_path, *made, load_byte(1, 9, place), compare_with_zero(1))
+        assert (FINDING in ran.errors) == is_told, (place, ran.errors)
 
 
 def test_the_first_byte_that_is_written_out(alone: pathlib.Path, tmp_path: pathlib.Path) -> None:
     """Output with a byte that was never given is told with the address of the first such byte."""
     for written in (0, 1, 7, 8, 15, 16):
         zeros = stores([(at, 1) for at in range(written)])
-        text = [copy(0, 9), move(1, 16), move(8, WRITE), SERVICE]
+        text: list[Words] = [copy(0, 9), move(1, 16), move(8, WRITE), SERVICE]
         ran = checked(alone, tmp_path, call(MALLOC, 24), copy(9, 0), *zeros, *text)
         if written == 16:
             assert ran.status == 0 and "Cause" not in ran.errors, ran.errors

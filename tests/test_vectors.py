@@ -9,7 +9,7 @@ import pytest
 
 from tests.support.library import shared_object
 from tests.support.places import ROOT, TESTS
-from tests.support.running import Ran, run
+from tests.support.running import Ran, Word, run
 
 STEPS = TESTS / "vectors" / "steps.txt"
 COUNT = 1_221
@@ -20,7 +20,7 @@ CASE = "case 1 Any\nword 91000400\nx 0 29\npc 100000\nthen next\nx 0 2a\npc 1000
 
 def vectors(shared: pathlib.Path, path: pathlib.Path) -> Ran:
     """What the script says of a file."""
-    words = [sys.executable, ROOT / "tools" / "vectors.py", path]
+    words: list[Word] = [sys.executable, ROOT / "tools" / "vectors.py", path]
     return run(words, extra={"TOMBOLOPAN": str(shared_object(shared))}, seconds=120)
 
 
