@@ -4,7 +4,7 @@ use crate::files::read_course;
 use elf_core::{CoreSubject, write_core};
 use mte_flat::Flat;
 use mte_tags::TagMode;
-use run_options::{Failure, Options, Replay};
+use run_terms::{Failure, Options, Replay};
 use std::fs::File;
 use std::io;
 use std::io::BufWriter;

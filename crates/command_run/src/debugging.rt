@@ -10,7 +10,7 @@ use gdb_front::{Front, serve};
 use gdb_monitor::DebugSubject;
 use mte_tenant::Admission;
 use obstacle::Obstacle;
-use run_options::{Failure, Options, Replay};
+use run_terms::{Failure, Options, Replay};
 use std::alloc::{AllocError, Global};
 use tenant_run::{Admitted, admission_of};
 

@@ -4,7 +4,7 @@ use check_kinds::Suppressions;
 use mte_program::StreamSource;
 use mte_session::{file_of, read_whole};
 use obstacle::Obstacle;
-use run_options::{Failure, FileFault, Options, Replay};
+use run_terms::{Failure, FileFault, Options, Replay};
 use std::fs::File;
 use std::str;
 use tenant_run::{SessionCourse, events_of};

@@ -3,7 +3,7 @@
 use either::Either;
 use mte_flat::Flat;
 use mte_report::{PictureForm, Report};
-use run_options::{Failure, Options};
+use run_terms::{Failure, Options};
 use std::fs::File;
 use std::io::BufWriter;
 use std::{fmt, io};

@@ -11,7 +11,7 @@ use mte_session::{Event, file_of, write_all, write_report};
 use mte_tags::TagMode;
 use mte_tenant::AdmitError;
 use obstacle::Obstacle;
-use run_options::{Failure, Options, Replay};
+use run_terms::{Failure, Options, Replay};
 use tenant_run::{
     Log, LoneTenant, Observer, Replayed, SessionReplay, TenantBench, events_of, observer_of,
 };

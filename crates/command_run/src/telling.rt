@@ -17,7 +17,7 @@ use mte_tags::{Paged, TagMode};
 use mte_tenant::Status;
 use pointer_provenance::LostChunk;
 use report_documents::Document;
-use run_options::{Exactness, Failure, FileFault, Options};
+use run_terms::{Exactness, Failure, FileFault, Options};
 use shadow_memory::Full;
 use std::alloc::{AllocError, Global};
 use std::fs::File;

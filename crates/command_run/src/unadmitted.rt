@@ -4,7 +4,7 @@ use mte_sched::Host;
 use mte_session::Event;
 use mte_tenant::{AdmitError, Refusal, Terms, charge};
 use obstacle::Obstacle;
-use run_options::{Failure, Replay, remedy_of};
+use run_terms::{Failure, Replay, remedy_of};
 use std::alloc::Global;
 use std::fmt;
 use tenant_run::{REFUSED, decide};

@@ -2,7 +2,8 @@
 #![tactic(auto)]
 
 use command_run::run_program;
-use run_options::{EarlyEnd, Failure, read_command_line, report};
+use run_options::{EarlyEnd, read_command_line};
+use run_terms::{Failure, report};
 use std::process::ExitCode;
 
 fn main(rt: HostRuntime) -> ExitCode {

@@ -1,6 +1,6 @@
 //! The names of files on a command line.
 
-use crate::options::Options;
+use run_terms::Options;
 
 /// Whether a file that is to be written has the name of one that is read, or of another that is
 /// written. Two names of one file that are spelled in different ways are not found out.

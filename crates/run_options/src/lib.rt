@@ -1,16 +1,11 @@
-//! The command line of `mte_run`, and what it writes where it has no tenant to speak of.
+//! The command line of `mte_run`.
 #![tactic(auto)]
 
 mod command_line;
-mod failure;
+mod fault;
 mod file_names;
-mod options;
-mod refusal;
+mod table;
+mod values;
 
 pub use command_line::read_command_line;
-pub use failure::{Failure, FileFault, report};
 pub use mte_program::EarlyEnd;
-pub use options::{
-    Exactness, Fault, Options, OutputOptions, Replay, RunLength, RunOptions, Traced,
-};
-pub use refusal::remedy_of;

@@ -6,7 +6,7 @@ use check_kinds::Suppressions;
 use either::Either;
 use elf_symbols::Symbols;
 use run_cause::CheckTerms;
-use run_options::{Failure, Options, OutputOptions, Traced};
+use run_terms::{Failure, Options, OutputOptions, Traced};
 use std::alloc::{AllocError, Global};
 use std::fs::File;
 use std::io::{BufWriter, Stderr};

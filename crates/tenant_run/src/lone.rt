@@ -13,7 +13,7 @@ use crate::survey::Survey;
 use check_kinds::Suppressions;
 use mte_tenant::{Admission, AdmitError, Terms};
 use obstacle::Obstacle;
-use run_options::{Failure, Options};
+use run_terms::{Failure, Options};
 use std::alloc::Global;
 
 /// The number of a tenant that is alone.
@@ -79,7 +79,8 @@ impl<'x> LoneTenant<'x> {
         TenantBench::new(alloc, &admission)
     }
 
-    /// The same once more: as it was admitted before, only memory can be wanting.
+    /// The tenant at its first instruction again: it was admitted before, so only memory can be
+    /// missing.
     fn bench_again<'a>(
         &self,
         alloc: Global,
@@ -89,6 +90,18 @@ impl<'x> LoneTenant<'x> {
             Ok(bench) => Ok(bench),
             Err(_) => Err(Failure::Memory),
         }
+    }
+
+    /// Puts the tenant back at its first instruction. The value is assigned in this one place,
+    /// since dropping the old one is what a proof pays for.
+    fn restart<'a>(
+        &self,
+        alloc: Global,
+        options: &Options,
+        bench: &mut TenantBench,
+    ) -> Result<(), Failure<'a>> {
+        *bench = self.bench_again(alloc, options)?;
+        Ok(())
     }
 
     /// Runs the tenant to its end, from its first instruction, and writes its output.
@@ -126,7 +139,7 @@ impl<'x> LoneTenant<'x> {
             return Ok(());
         }
         observer.is_watching = true;
-        *bench = self.bench_again(alloc, options)?;
+        self.restart(alloc, options, bench)?;
         run_slices(bench, observer, out, options, limit);
         Ok(())
     }
@@ -146,7 +159,7 @@ impl<'x> LoneTenant<'x> {
             None => return Ok(()),
         };
         observer.is_watching = false;
-        *bench = self.bench_again(alloc, options)?;
+        self.restart(alloc, options, bench)?;
         run_slices(bench, observer, out, options, step);
         Ok(())
     }

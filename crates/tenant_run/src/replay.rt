@@ -17,7 +17,7 @@ use mte_sched::{Host, ledger_follows};
 use mte_session::{Event, Sink, admission_of, write_refusal};
 use mte_tenant::{Refusal, Refused};
 use obstacle::Obstacle;
-use run_options::Failure;
+use run_terms::Failure;
 use std::alloc::Global;
 
 /// A tenant that ran as in its session.

@@ -5,7 +5,7 @@ use mte_sched::Host;
 use mte_session::{Event, admission_of};
 use mte_tenant::{Admission, Terms};
 use obstacle::Obstacle;
-use run_options::Replay;
+use run_terms::Replay;
 use std::alloc::{AllocError, Global};
 
 /// What a tenant of a session was admitted with: its files by their numbers.

@@ -9,7 +9,7 @@ use crate::store_watcher::StoreWatcher;
 use mte_program::StreamSink;
 use mte_sched::Host;
 use mte_session::{Event, Sink, parse_script};
-use run_options::{Failure, Options, Replay};
+use run_terms::{Failure, Options, Replay};
 use std::alloc::Global;
 use std::io::sink;
 

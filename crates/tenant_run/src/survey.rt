@@ -12,7 +12,7 @@ use check_kinds::Suppressions;
 use mte_tenant::AdmitError;
 use obstacle::Obstacle;
 use run_cause::CheckTerms;
-use run_options::Options;
+use run_terms::Options;
 use std::alloc::{AllocError, Global};
 use std::fmt;
 

@@ -3,7 +3,7 @@
 use a64_registers::Regs;
 use elf_symbols::Symbols;
 use instruction_trace::{Moment, SVC, Service, TraceLine};
-use run_options::Traced;
+use run_terms::Traced;
 use std::io;
 use std::io::Write;
 

@@ -1,9 +1,9 @@
 //! Why the program has nothing to say of a tenant, or cannot.
 
+use crate::wrong::WrongWord;
 use check_kinds::SuppressionFault;
 use mte_session::{ReadFault, ScriptError, ScriptFault, WriteFault};
 use obstacle::Obstacle;
-use script_lines::WrongWord;
 use std::alloc::{AllocError, AllocFailed};
 use std::{fmt, io};
 use terminal_text::Printable;

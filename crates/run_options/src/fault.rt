@@ -1,0 +1,77 @@
+//! Values of a command line that `clap` accepted, and that are refused.
+
+use crate::file_names::has_shared_name;
+use run_terms::{Options, OutputOptions};
+
+/// Why values that `clap` accepted are refused.
+#[derive(Clone, Copy)]
+pub enum Fault {
+    /// The seed is no number of up to 16 digits.
+    Seed,
+    /// The trace is not from one step to another.
+    Trace,
+    /// A word is no kind of what is checked.
+    Check,
+    /// What is found is not told, or has an exit status, but nothing is checked.
+    Unchecked,
+    /// Lost chunks have an exit status, but are not looked for.
+    Lost,
+    /// There are frames without a script.
+    Frames,
+    /// Output is to be raw without a script.
+    RawOutput,
+    /// A file that is written is also read, or written twice.
+    Names,
+    /// What `--script` needs is not there.
+    Script,
+    /// There is no image, or more than one.
+    Files,
+}
+
+impl Fault {
+    /// What is wrong.
+    pub fn text(self) -> &'static str {
+        match self {
+            Fault::Seed => "the seed is not a number of 1 to 16 hexadecimal digits",
+            Fault::Trace => "the trace is not FROM-TO, two step numbers, the lower one first",
+            Fault::Check => {
+                "--check takes provenance, frees, leaks, undefined or all, with commas between them"
+            }
+            Fault::Unchecked => "--suppressions and --check-status are for --check",
+            Fault::Lost => "--lost-status is for --check with leaks",
+            Fault::Frames => "--frames is for a session: it wants --script",
+            Fault::RawOutput => "--raw-output is for a session: it wants --script",
+            Fault::Names => {
+                "--json, --sarif, --html, --map, --core and --trace-file want different files, \
+                 and none that is read"
+            }
+            Fault::Script => {
+                "--script has two values, a file and a tenant's number, and wants --frames"
+            }
+            Fault::Files => "without --script there is one file, the image",
+        }
+    }
+}
+
+/// Which values do not go together, if some do not.
+pub(crate) fn fault_of(options: &Options) -> Option<Fault> {
+    if options.output.is_raw && options.replay.is_none() {
+        Some(Fault::RawOutput)
+    } else if has_shared_name(options) {
+        Some(Fault::Names)
+    } else {
+        check_fault(&options.output)
+    }
+}
+
+/// What is wrong with the options of a check.
+fn check_fault(output: &OutputOptions) -> Option<Fault> {
+    let has_terms = output.suppressions.is_some() || output.found_status.is_some();
+    if output.check.is_none() && has_terms {
+        Some(Fault::Unchecked)
+    } else if output.lost_status.is_some() && !output.check.leaks {
+        Some(Fault::Lost)
+    } else {
+        None
+    }
+}

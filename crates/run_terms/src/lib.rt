@@ -1,0 +1,14 @@
+//! What `mte_run` is asked for, and what it writes where it has no tenant to speak of.
+#![tactic(auto)]
+
+mod failure;
+mod form;
+mod options;
+mod refusal;
+mod word;
+mod wrong;
+
+pub use failure::{Failure, FileFault, report};
+pub use options::{Exactness, Options, OutputOptions, Replay, RunLength, RunOptions, Traced};
+pub use refusal::remedy_of;
+pub use wrong::WrongWord;

@@ -1,0 +1,138 @@
+//! What the program is run on.
+
+ghost use Rattle.std.specs.Prelude.{◌<◌, ◌≤◌};
+
+use check_kinds::CheckKinds;
+use tenant_terms::Terms;
+
+/// A tenant of a session.
+#[derive(Drop)]
+pub struct Replay {
+    /// The script's file name.
+    pub script: String,
+    /// The tenant's number.
+    pub id: u16,
+    /// The frames of the host.
+    pub frames: u32,
+}
+
+/// What a tenant that is alone is admitted with, besides its image.
+#[derive(Drop)]
+pub struct RunOptions {
+    /// The input's file name.
+    pub input: Option<String>,
+    /// Its terms.
+    pub terms: Terms,
+    /// Under how many seeds it is run; the first is the one of its terms.
+    pub seeds: u32,
+    ghost some: { 0 < terms.pages },
+    ghost most: { terms.pages ≤ 4096 },
+}
+
+/// How long a tenant that is alone runs.
+#[derive(Drop)]
+pub struct RunLength {
+    /// After how many steps the tenant is given up.
+    pub steps: u64,
+    /// The steps of its slices, where they are named.
+    pub slices: Option<Vec<u32>>,
+}
+
+/// Which lines are written.
+#[derive(Clone, Copy)]
+pub struct Traced {
+    /// The first step whose instruction has a line.
+    pub from: u64,
+    /// The last one.
+    pub to: u64,
+    /// Whether each service has a line.
+    pub services: bool,
+}
+
+/// What is written of a run.
+#[derive(Drop)]
+pub struct OutputOptions {
+    /// How many of the last instructions are remembered.
+    pub last: usize,
+    /// How many of them are written.
+    pub last_lines: usize,
+    /// How many of the last calls and returns are written.
+    pub turns: usize,
+    /// The lines that are written while it runs.
+    pub traced: Option<Traced>,
+    /// The name of the file that they are written into, in place of standard error.
+    pub trace_file: Option<String>,
+    /// Whether the live chunks are written.
+    pub leaks: bool,
+    /// Whether the numbers of the run are written.
+    pub statistics: bool,
+    /// The name of the file that the heap is drawn into.
+    pub map: Option<String>,
+    /// The name of the file that what happened is written into, for a program to read.
+    pub json: Option<String>,
+    /// The name of the file that what happened is written into as a log in SARIF.
+    pub sarif: Option<String>,
+    /// The name of the file that a page is written into which shows the heap step by step.
+    pub page: Option<String>,
+    /// Whether accesses are to keep to the bytes of chunks.
+    pub exact: Exactness,
+    /// What is checked beside the tags.
+    pub check: CheckKinds,
+    /// The name of the file with what of that is not told.
+    pub suppressions: Option<String>,
+    /// The exit status where something was found, in place of 137.
+    pub found_status: Option<u8>,
+    /// The exit status of a tenant that exited and lost chunks, in place of its own.
+    pub lost_status: Option<u8>,
+    /// The name of the file that the tenant's core is written into.
+    pub core: Option<String>,
+    /// Whether output for which there is no room is a failure.
+    pub is_whole: bool,
+    /// Whether the output of a session's tenant is written as it is, in place of its lines of the
+    /// report.
+    pub is_raw: bool,
+}
+
+/// Which accesses are to keep to the bytes of chunks.
+#[derive(Clone, Copy, PartialEq, Eq)]
+pub enum Exactness {
+    /// None: the tags alone decide.
+    Tags,
+    /// Those that write.
+    Writes,
+    /// All.
+    All,
+}
+
+/// What the program is run on.
+#[derive(Drop)]
+pub struct Options {
+    /// The names of the files: the image, or the files of a script.
+    pub files: Vec<String>,
+    /// The tenant of a session that is replayed, if one is.
+    pub replay: Option<Replay>,
+    /// What a tenant that is alone is admitted with.
+    pub run: RunOptions,
+    /// How long it runs.
+    pub length: RunLength,
+    /// What is written of it.
+    pub output: OutputOptions,
+    /// Whether GDB debugs it.
+    pub is_debugged: bool,
+}
+
+impl Options {
+    /// The name of the file with a number from 1.
+    pub fn file_name(&self, number: u32) -> &str {
+        let index = (number as usize).saturating_sub(1);
+        self.files.get(index).map_or("", |name| name.as_str())
+    }
+
+    /// The steps after which the tenant is given up.
+    pub fn limit(&self) -> u64 {
+        match self.replay {
+            Some(_) => u64::MAX,
+            None => self.length.steps,
+        }
+    }
+}
