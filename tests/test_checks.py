@@ -259,10 +259,10 @@ def test_names_of_variables(alone: pathlib.Path, tmp_path: pathlib.Path) -> None
     """A symbol with a letter that no terminal shows is a question mark. An image that has no
     symbols, no sections and no DWARF has no variables."""
     path, renamed = image(tmp_path, "clang-O0", "place_bugs.c", "BUG=8"), tmp_path / "renamed.elf"
-    for name, told in (("another", "another"), ("a\nb", "?")):
+    for name, shown in (("another", "another"), ("a\nb", "?")):
         words = ["--strip-debug", "--redefine-sym", f"text_of_image={name}"]
         succeed(["llvm-objcopy", *words, path, renamed])
-        assert f" right of the 16-byte variable `{told}` at " in check(
+        assert f" right of the 16-byte variable `{shown}` at " in check(
             alone, renamed, kinds="places").errors
     bare = tmp_path / "bare.elf"
     bare.write_bytes(program(*call(0, 0)))

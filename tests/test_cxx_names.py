@@ -92,8 +92,8 @@ def told_names(alone: pathlib.Path, folder: pathlib.Path, names: list[str]) -> l
 
 
 def test_names_of_every_kind(alone: pathlib.Path, tmp_path: pathlib.Path) -> None:
-    """Operators, templates, lambdas, thunks, clones, tags, names of Rust; and what is no name of
-    C++ is told as it is."""
+    """Operators, templates, lambdas, thunks, clones, tags, names of Rust; and other names are
+    shown as they are."""
     names = [name for name, _ in OF_EVERY_KIND] + list(OF_NO_KIND)
     wanted = [source for _, source in OF_EVERY_KIND] + list(OF_NO_KIND)
     assert told_names(alone, tmp_path, names) == wanted

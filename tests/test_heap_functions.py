@@ -79,8 +79,8 @@ def checked(alone: pathlib.Path, image: pathlib.Path, folder: pathlib.Path, make
 def test_functions_that_belong_together(
     alone: pathlib.Path, image: pathlib.Path, tmp_path: pathlib.Path
 ) -> None:
-    """Each name beside each other: a chunk is freed by a function of its maker's kind. A name that
-    makes nothing, or that frees nothing, is never told."""
+    """Each name with each other: a chunk is freed by a function of its maker's kind. A name that
+    makes nothing, or that frees nothing, is never reported."""
     for maker, freer in itertools.product(NAMES, NAMES):
         made, freed = MAKES.get(NAMES[maker]), FREES.get(NAMES[freer])
         ran = checked(alone, image, tmp_path, maker, freer)
@@ -96,11 +96,11 @@ def test_chunks_that_are_made_larger(
     alone: pathlib.Path, image: pathlib.Path, tmp_path: pathlib.Path
 ) -> None:
     """A function with a name of realloc frees what functions of C make, and no other chunk."""
-    for maker, is_told in (("malloc", False), ("reallocarray", False), ("_Znwm", True),
+    for maker, is_reported in (("malloc", False), ("reallocarray", False), ("_Znwm", True),
                            ("_Znam", True)):
         ran = checked(alone, image, tmp_path, maker, "reallocarray", REALLOC)
-        assert (CAUSE in ran.errors) == is_told, (maker, ran.errors)
-        assert is_told == (ran.status == 137)
+        assert (CAUSE in ran.errors) == is_reported, (maker, ran.errors)
+        assert is_reported == (ran.status == 137)
 
 
 @pytest.mark.parametrize(("line", "is_hidden"), [

@@ -160,7 +160,7 @@ def watched(image, slices):
 
 
 def test_a_careful_tenant(shared: pathlib.Path) -> None:
-    """The chunks of a tenant that is careful may be used to their last granule and not beside it,
+    """The chunks of a tenant that is careful may be used to their last granule and not around it,
     and freed ones are out of reach. A tenant that stores a tag is not careful."""
     careful, careless = (program(it).hex() for it in (small_programs.CAREFUL,
                                                       small_programs.CARELESS))

@@ -66,8 +66,8 @@ RESULTS = (
                          [it[1:] for it in RESULTS], ids=[it[0] for it in RESULTS])
 def test_bits_of_results(alone: pathlib.Path, tmp_path: pathlib.Path, operation: int,
                          left: tuple[int, int], right: tuple[int, int], undefined: int) -> None:
-    """A branch by an undefined bit is told, and one by all the others is not. (Of a product some of
-    63 bits are tried.)"""
+    """A branch by an undefined bit is reported, and one by all the others is not. (Of a product some
+    of 63 bits are tried.)"""
     made: list[Words] = [call(MALLOC, 24), copy(9, 0), *operand(1, *left), *operand(2, *right),
                          operation | 1 << 5 | 4 if operation == CLZ else by(operation, 4, 1, 2)]
     others: list[Words] = [move(10, ALL & ~undefined), by(AND, 5, 4, 10), compare_with_zero(5)]
@@ -107,8 +107,8 @@ def test_bytes_of_a_chunk(alone: pathlib.Path, tmp_path: pathlib.Path) -> None:
         for byte in range(8):
             mask: list[Words] = [move(10, 0xFF << 8 * byte), by(AND, 5, 1, 10)]
             ran = checked(alone, tmp_path, *made, *mask, compare_with_zero(5))
-            is_told = FINDING in ran.errors
-            assert is_told == (place + byte not in written), (ranges, place, byte, ran.errors)
+            is_reported = FINDING in ran.errors
+            assert is_reported == (place + byte not in written), (ranges, place, byte, ran.errors)
 
 
 @pytest.mark.parametrize("size", [32, 2000])
@@ -117,16 +117,16 @@ def test_bytes_of_a_chunk_that_was_made_larger(alone: pathlib.Path, tmp_path: pa
     """In its place or in another, what was written is defined, and nothing else."""
     made: list[Words] = [call(MALLOC, 24), copy(9, 0), *stores([(0, 8), (16, 4)]), copy(0, 9),
                          move(1, size), move(8, REALLOC), SERVICE, copy(9, 0)]
-    for place, is_told in ((0, False), (8, True), (16, True), (24, True), (size - 8, True)):
+    for place, is_reported in ((0, False), (8, True), (16, True), (24, True), (size - 8, True)):
         ran = checked(alone, tmp_path, *made, load(1, 9, place), compare_with_zero(1))
-        assert (FINDING in ran.errors) == is_told, (place, ran.errors)
-    for place, is_told in ((15, True), (16, False), (19, False), (20, True)):
+        assert (FINDING in ran.errors) == is_reported, (place, ran.errors)
+    for place, is_reported in ((15, True), (16, False), (19, False), (20, True)):
         ran = checked(alone, tmp_path, *made, load_byte(1, 9, place), compare_with_zero(1))
-        assert (FINDING in ran.errors) == is_told, (place, ran.errors)
+        assert (FINDING in ran.errors) == is_reported, (place, ran.errors)
 
 
 def test_the_first_byte_that_is_written_out(alone: pathlib.Path, tmp_path: pathlib.Path) -> None:
-    """Output with a byte that was never given is told with the address of the first such byte."""
+    """Output with a byte that was never given has the address of the first such byte."""
     for written in (0, 1, 7, 8, 15, 16):
         zeros = stores([(at, 1) for at in range(written)])
         text: list[Words] = [copy(0, 9), move(1, 16), move(8, WRITE), SERVICE]
@@ -135,6 +135,6 @@ def test_the_first_byte_that_is_written_out(alone: pathlib.Path, tmp_path: pathl
             assert ran.status == 0 and "Cause" not in ran.errors, ran.errors
             continue
         chunk = re.search(r"of a 24-byte allocation at 0x([0-9a-f]+)", ran.errors)
-        told = re.search(r"^0x([0-9a-f]+) is in ", ran.errors, re.M)
-        assert "  what it writes out depends on them\n" in ran.errors and chunk and told
-        assert int(told[1], 16) == (int(chunk[1], 16) & (1 << 56) - 1) + written
+        place = re.search(r"^0x([0-9a-f]+) is in ", ran.errors, re.M)
+        assert "  what it writes out depends on them\n" in ran.errors and chunk and place
+        assert int(place[1], 16) == (int(chunk[1], 16) & (1 << 56) - 1) + written

@@ -57,9 +57,9 @@ def test_changed_expectations_fail(shared: pathlib.Path, tmp_path: pathlib.Path)
     path = tmp_path / "changed.txt"
     path.write_text("".join([first, *cases]), encoding="ascii")
     ran = vectors(shared, path)
-    *told, last = ran.output.splitlines()
+    *lines, last = ran.output.splitlines()
     assert (ran.status, last) == (1, f"{COUNT - len(changed)} passed, {len(changed)} failed")
-    assert {f"case {line.partition(':')[0]}" for line in told} == changed
+    assert {f"case {line.partition(':')[0]}" for line in lines} == changed
 
 
 @pytest.mark.parametrize("line", [
