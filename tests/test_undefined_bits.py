@@ -66,8 +66,8 @@ RESULTS = (
                          [it[1:] for it in RESULTS], ids=[it[0] for it in RESULTS])
 def test_bits_of_results(alone: pathlib.Path, tmp_path: pathlib.Path, operation: int,
                          left: tuple[int, int], right: tuple[int, int], undefined: int) -> None:
-    """A branch by an undefined bit is reported, and one by all the others is not. (Of a product some
-    of 63 bits are tried.)"""
+    """A branch by an undefined bit is reported, and one by all the others is not. (Of a product
+    three of 63 bits are tried.)"""
     made: list[Words] = [call(MALLOC, 24), copy(9, 0), *operand(1, *left), *operand(2, *right),
                          operation | 1 << 5 | 4 if operation == CLZ else by(operation, 4, 1, 2)]
     others: list[Words] = [move(10, ALL & ~undefined), by(AND, 5, 4, 10), compare_with_zero(5)]

@@ -124,8 +124,8 @@ static double of_trace(void) {
     return now() - begin;
 }
 
-/* Of reads or writes of eight bytes from a place on, seven in turn; two neighbouring pages have tags
-   that differ from 0. */
+/* Of reads or writes of eight bytes, from a place on at seven addresses in turn; two neighbouring
+   pages have tags other than 0. */
 static uint64_t place;
 static bool is_write;
 
@@ -214,8 +214,9 @@ int main(int argc, char **argv) {
     slices[0] = 1000;
     printf("a tenant of 136 steps and 24 pages: %.2f us, without its steps %.2f us\n",
            least(of_lone, 400) * 1e6, empty * 1e6);
-    printf("a read: %.1f ns, over two pages %.1f ns; a write: %.1f ns, over two pages %.1f ns\n",
-           of_access(false, DATA), of_access(false, DATA + 4096 - 7), of_access(true, DATA),
+    printf("a read: %.1f ns, over two pages %.1f ns; ", of_access(false, DATA),
+           of_access(false, DATA + 4096 - 7));
+    printf("a write: %.1f ns, over two pages %.1f ns\n", of_access(true, DATA),
            of_access(true, DATA + 4096 - 7));
     printf("a page that is mapped and unmapped: %.1f ns\n", least(of_mapping, 100) * 1e9);
     printf("a traced access: %.1f ns over the run\n",
