@@ -2,8 +2,8 @@
 # shellcheck shell=bash
 
 # Puts the path of a program into `program`: of the folder TOMBOLOPAN_BUILT, as it is; of this
-# checkout, where tools/build.sh builds it first, without proof, if it is not there or a source is
-# newer; or of the prefix in which this folder is installed.
+# checkout, where tools/build.sh builds it first, without proof, if it is not there or of other
+# sources; or of the prefix in which this folder is installed.
 find_program() {
     local name=$1 script=$2 here mark
     here=$(cd "$(dirname "${BASH_SOURCE[0]}")" && pwd)
@@ -15,8 +15,11 @@ find_program() {
     mark=$program.unproved
     if [[ ! -e $here/../crates.txt ]]; then
         mark=$here/../unproved
-    elif [[ ! -x $program || -n $(find "$here"/../crates/*/src "$here/../crates.txt" \
-        -newer "$program" -print -quit) ]]; then
+    elif
+        # shellcheck source=tools/sources.sh
+        source "$here/../tools/sources.sh"
+        ! is_current "$here/.." "$program"
+    then
         echo "$script: builds $name without proof, once: one to two minutes" >&2
         "$here/../tools/build.sh" --unproved --only "$name" || exit 2
     fi

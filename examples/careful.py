@@ -204,7 +204,7 @@ def run_one(path: str, folder: str, seed: int, wanted: int, is_written: bool) ->
     image = os.path.join(folder, f"{seed}.{wanted}")
     with open(image, "wb") as file:
         file.write(program(seed, wanted == EXACT, is_written))
-    ran = subprocess.run([path, "--exact", "--input", sys.executable, image], timeout=60,
+    ran = subprocess.run([path, "--exact", "--input", sys.executable, image], timeout=600,
                          stdin=subprocess.DEVNULL, stdout=subprocess.DEVNULL,
                          stderr=subprocess.PIPE, check=False)
     if ran.returncode == wanted and (wanted != 0 or not ran.stderr):

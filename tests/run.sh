@@ -2,9 +2,12 @@
 # The test command: installs what the suite needs, proves every crate, tries every must-fail edit,
 # runs all programs and tests (rt ci), and tries what users touch over the proved programs.
 #     tests/run.sh                 all of it
-#     tests/run.sh --suite [..]    the suite alone, over programs that are built; options of pytest
+#     tests/run.sh --suite [..]    the suite alone, over programs that are built, with or without
+#                                  proof; files of tests/ and options of pytest
 set -euo pipefail
 cd "$(dirname "$0")/.."
+# shellcheck source=tools/sources.sh
+source tools/sources.sh
 tests/install.sh
 python=/usr/bin/python3
 "$python" -c 'import pytest, xdist' 2> /dev/null || python=python3
@@ -22,30 +25,45 @@ export RT_JOBS
 saved=$logs/saved
 save() {
     local file
-    for file in crates/*/out/{mte_{host,split,run},disassemble,libtombolopan_c.a}{,.unproved}; do
+    for file in crates/*/out/{mte_{host,split,run},disassemble,libtombolopan_c.a}{,.unproved,.sources}
+    do
         [[ ! -f $file ]] || (mkdir -p "$saved/${file%/*}" && cp -p "$file" "$saved/$file")
     done
 }
 put_back() {
-    local name
+    local name file
     [[ -d $saved ]] || return 0
     while read -r name; do
-        [[ -e ${name%.unproved} ]] || (mkdir -p "${name%/*}" && cp -p "$saved/$name" "$name")
+        file=${name%.unproved} file=${file%.sources}
+        [[ -e $file ]] || (mkdir -p "${name%/*}" && cp -p "$saved/$name" "$name")
     done < <(cd "$saved" && find . -type f -printf '%P\n' | LC_ALL=C sort -r)
 }
 
-# Cases of the suite, with options of pytest; what they wrote stays in a file.
+# Cases of the suite, all or those of files, with options of pytest; what they wrote stays in a
+# file.
 run_cases() {
     "$python" -m pytest -n "$processors" "${@:2}" | tee "$logs/$1"
 }
 
+# How many cases of some parts passed, where none failed, and how many were skipped.
+count_cases() {
+    local log last passed=0 skipped=0
+    for log in "${@/#/$logs/}"; do
+        last=$(grep -aE '[0-9]+ (passed|skipped)' "$log" | tail -n 1)
+        [[ ! $last =~ ([0-9]+)\ passed ]] || passed=$((passed + BASH_REMATCH[1]))
+        [[ ! $last =~ ([0-9]+)\ skipped ]] || skipped=$((skipped + BASH_REMATCH[1]))
+    done
+    echo "$passed passed, 0 failed, $skipped skipped"
+}
+
 if [[ ${1:-} == --suite ]]; then
     for mark in crates/*/out/*.unproved; do
-        if [[ -e $mark ]] && (cd "${mark%/*}" && sha256sum --check --status "${mark##*/}"); then
+        if has_sum "$mark"; then
             echo "run.sh: built without proof: ${mark%.unproved}" >&2
         fi
     done
-    run_cases suite tests "${@:2}"
+    run_cases suite -rs "${@:2}"
+    count_cases suite
     exit
 fi
 # What needs no program takes seconds, and comes first: written files, the border to C, what
@@ -55,11 +73,6 @@ first=(tests/test_style.py tests/test_border.py tests/test_isa.py tests/test_bel
 run_cases first "${first[@]}"
 save
 rt ci | tee "$logs/proofs"
-run_cases suite tests "${first[@]/#/--ignore=}"
+run_cases suite -rs "${first[@]/#/--ignore=}"
 
-passed=0
-for log in first proofs suite; do
-    count=$(grep -aoE '[0-9]+ passed' "$logs/$log" | tail -n 1)
-    passed=$((passed + ${count%% *}))
-done
-echo "$passed passed, 0 failed"
+count_cases first proofs suite

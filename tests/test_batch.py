@@ -8,6 +8,7 @@ import pathlib
 import pty
 import random
 import re
+import shlex
 import signal
 import subprocess
 import sys
@@ -22,7 +23,7 @@ from tests.support.host_sessions import HI_REPORT, admission
 from tests.support.library import shared_object
 from tests.support.once import make_once
 from tests.support.places import EXAMPLES
-from tests.support.running import Ran, run, succeed
+from tests.support.running import HANG, Ran, run, succeed
 from tests.support.tools import give_up
 
 COUNT = 60
@@ -201,7 +202,7 @@ def test_a_run_that_was_broken_off(made: Batch) -> None:
     slow = made.going_wrong("time.sleep(0.01)")
     with subprocess.Popen(slow.words(), env={**os.environ, **slow.extra},
                           stdout=subprocess.DEVNULL) as begun:
-        until = time.monotonic() + 30
+        until = time.monotonic() + HANG
         while not any(it.stat().st_size for it in made.store.glob("*.answers")):
             assert time.monotonic() < until and begun.poll() is None
             time.sleep(0.005)
@@ -294,7 +295,7 @@ def test_a_sample_elsewhere(made: Batch, host: pathlib.Path, tmp_path: pathlib.P
     """A run elsewhere that changes one digit of one session is named, and what it disputes is kept
     no more."""
     liar = script(tmp_path, "liar", f"""
-        {host} "$@" > "$3.out"; status=$?
+        "{host}" "$@" > "$3.out"; status=$?
         if grep -q 'goes wrong' "$3"; then sed -i 's/^steps ./steps 9/' "$3.out"; fi
         cat "$3.out"; exit $status
         """)
@@ -303,7 +304,7 @@ def test_a_sample_elsewhere(made: Batch, host: pathlib.Path, tmp_path: pathlib.P
     assert re.fullmatch(rf"disputed: {MARKED}: elsewhere it has line \d+ as 'steps 9', not "
                         r"'steps \d'", not_right(ran)[0])
     assert summary(ran)[0] == f"{COUNT - 1} as wanted, 0 different, 1 disputed"
-    ran = made.run("--sample", "100", "--elsewhere", str(host))
+    ran = made.run("--sample", "100", "--elsewhere", shlex.quote(str(host)))
     assert ran.status == 0
     assert summary(ran) == [RIGHT, f"1 run, {COUNT - 1} kept, {COUNT} run elsewhere too"]
 
@@ -317,10 +318,10 @@ def test_a_worker_that_falsifies(made: Batch, host: pathlib.Path) -> None:
     for part in ("out", "err", "status"):
         (made.sessions / MARKED / f"want.{part}").unlink()
     assert summary(made.run())[0] == f"{COUNT - 1} as wanted, 0 different, 1 answered"
-    ran = made.run("--sample", "100", "--elsewhere", str(host))
+    ran = made.run("--sample", "100", "--elsewhere", shlex.quote(str(host)))
     assert ran.status == 1 and summary(ran)[0].endswith("0 different, 1 disputed")
     assert not_right(ran)[0].startswith(f"disputed: {MARKED}: elsewhere it has line ")
-    ran = made.run("--sample", "100", "--elsewhere", str(host))
+    ran = made.run("--sample", "100", "--elsewhere", shlex.quote(str(host)))
     assert ran.status == 0 and summary(ran)[1].startswith(f"1 run, {COUNT - 1} kept")
 
 
@@ -331,7 +332,7 @@ def test_a_sample_that_is_lost(made: Batch, host: pathlib.Path, tmp_path: pathli
     assert ran.status == 1 and summary(ran)[0] == RIGHT
     assert re.fullmatch(rf"{COUNT} run, 0 kept, {COUNT} lost elsewhere: .* status 255: .*",
                         summary(ran)[1])
-    ran = made.run("--sample", "20", "--elsewhere", str(lost), "--elsewhere", str(host))
+    ran = made.run("--sample", "20", "--elsewhere", str(lost), "--elsewhere", shlex.quote(str(host)))
     assert (ran.status, summary(ran)[0]) == (0, RIGHT), ran.output
 
 
@@ -341,7 +342,7 @@ def test_processes(made: Batch, host: pathlib.Path, tmp_path: pathlib.Path, end:
     again."""
     flaky = script(tmp_path, "flaky", f"""
         if mkdir "{tmp_path}/lost-once" 2> /dev/null; then {end}; exit; fi
-        exec {host} "$@"
+        exec "{host}" "$@"
         """)
     ran = made.run("--program", str(flaky), "--store", tmp_path / "store")
     assert (ran.status, summary(ran)) == (0, [RIGHT, f"{COUNT} run, 0 kept, 1 tried again"])

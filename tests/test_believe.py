@@ -221,7 +221,7 @@ def test_declared_modules_are_explained(checkout: Repository) -> None:
 
 def believe(*words: str) -> Ran:
     """What tools/believe.py says."""
-    return run([sys.executable, ROOT / "tools" / "believe.py", *words], seconds=120)
+    return run([sys.executable, ROOT / "tools" / "believe.py", *words])
 
 
 def test_the_page() -> None:

@@ -12,6 +12,7 @@ import time
 import pytest
 
 from tests.support.checkout import copy_files, make_stub
+from tests.support.places import ROOT
 from tests.support.running import Ran, run
 
 PROGRAMS = ("disassemble", "mte_host", "mte_run", "mte_split")
@@ -28,6 +29,7 @@ name=$crate
 echo proved >"out/$name"
 """
 UNPROVED = """#!/usr/bin/env bash
+echo '2 of 4, takes the checks out'
 echo "unproved.py $(basename "$2") $3" >>"$TRIED"
 echo unproved >"$2"
 """
@@ -52,7 +54,8 @@ class Clone:
     def __init__(self, folder: pathlib.Path) -> None:
         self.top = copy_files(folder / "clone", "crates/disassemble/", "crates/mte_host/",
                               "crates/mte_split/", "crates/mte_run/", "crates/tombolopan_c/",
-                              "crates.txt", "tools/build.sh", "examples/libc/")
+                              "crates.txt", "tools/build.sh", "tools/sources.sh",
+                              "examples/libc/")
         self.tried = folder / "tried"
         for name, text in (("tools/unproved.py", UNPROVED), ("tools/mark.py", MARK),
                            ("tools/install.sh", INSTALL), ("examples/libc/build.py", LIBC)):
@@ -88,13 +91,21 @@ PROOFS = ["disassemble: run -- 0", *(f"mark.py proved {it}" for it in (*PROGRAMS
           "tombolopan_c: lib --jobs 1"]
 
 
+def crates_of(name: str) -> list[str]:
+    """The crates that a program is made from, in the order of crates.txt."""
+    text = (ROOT / "crates.txt").read_text(encoding="utf-8")
+    lines = [line.replace(":", "").split() for line in re.findall("^[a-z].*", text, re.M)]
+    below = {name}
+    for crate, *uses in reversed(lines):
+        below |= set(uses) if crate in below else set()
+    return [crate for crate, *_ in lines if crate in below]
+
+
 def without_proof(*names: str) -> list[str]:
     """The commands that build some files without proof."""
     crates = {it: it.removeprefix("lib").removesuffix(".a") for it in names}
     return sorted([*(f"unproved.py {it}.new {crate}" for it, crate in crates.items()),
                    *(f"mark.py --unproved {it}.new" for it in names)])
-
-
 
 
 def test_without_proof(clone: Clone) -> None:
@@ -105,6 +116,7 @@ def test_without_proof(clone: Clone) -> None:
     assert clone.marks() == {*PROGRAMS, LIBRARY}
     lines = set(ran.errors.splitlines())
     assert {f"build.sh: {name}: built without proof" for name in (*PROGRAMS, LIBRARY)} <= lines
+    assert "build.sh: mte_run: 2 of 4, takes the checks out, 0 min " in ran.errors
     ran, tried = clone.build("--unproved")
     assert (ran.status, tried) == (0, [])
     assert f"build.sh: {LIBRARY}: was there, built without proof\n" in ran.errors
@@ -116,7 +128,9 @@ def test_by_proof(clone: Clone) -> None:
     assert clone.marks() == {"mte_run"}
     ran, tried = clone.build()
     assert (ran.status, tried) == (0, sorted(["build.py", *PROOFS]))
-    assert re.search(r"^build.sh: mte_run: 0 min \d+ s, at a64_bits$", ran.errors, re.M)
+    crates = crates_of("mte_run")
+    line = f"build.sh: mte_run: {crates.index('a64_bits') + 1} of {len(crates)}, a64_bits, 0 min "
+    assert line in ran.errors, ran.errors
     assert "build.sh: mte_run: proved\n" in ran.errors
     assert clone.marks() == set() and clone.built("mte_run").read_text() == "proved\n"
     ran, tried = clone.build("--unproved")
@@ -125,15 +139,35 @@ def test_by_proof(clone: Clone) -> None:
 
 
 @pytest.mark.parametrize("name", ["src/main.rt", "specs/main.antt", "proofs/main.antt"])
-def test_a_newer_source(clone: Clone, name: str) -> None:
-    """A program that is older than a source, a definition or a proof is built again."""
-    clone.build("--unproved", "--only", "mte_host")
-    source, newest = clone.top / "crates" / "mte_host" / name, time.time() + 60
+def test_another_source(clone: Clone, name: str) -> None:
+    """A program is built again where a byte of a source, a definition or a proof is another,
+    however old; a date alone builds nothing."""
+    source = clone.top / "crates" / "mte_host" / name
     source.parent.mkdir(exist_ok=True)
-    source.touch()
+    source.write_text("one")
+    clone.build("--unproved", "--only", "mte_host")
+    newest = time.time() + 60
     os.utime(source, (newest, newest))
     ran, tried = clone.build("--unproved", "--only", "mte_host")
+    assert (ran.status, tried) == (0, [])
+    source.write_text("two")
+    os.utime(source, (0, 0))
+    ran, tried = clone.build("--unproved", "--only", "mte_host")
     assert (ran.status, tried) == (0, without_proof("mte_host"))
+
+
+def test_dates_without_sums(clone: Clone) -> None:
+    """A program that another command has built has no sums: it is built again where a source is
+    newer."""
+    built, source = clone.built("mte_host"), clone.top / "crates" / "mte_host" / "src" / "main.rt"
+    built.parent.mkdir()
+    built.write_text("proved\n")
+    ran, tried = clone.build("--only", "mte_host")
+    assert (ran.status, tried) == (0, [])
+    newest = time.time() + 60
+    os.utime(source, (newest, newest))
+    ran, tried = clone.build("--only", "mte_host")
+    assert (ran.status, tried) == (0, ["mark.py proved mte_host", "mte_host: run -- --help"])
 
 
 def test_a_proof_that_fails(clone: Clone) -> None:

@@ -9,6 +9,7 @@ import pytest
 
 from tests.support import library
 from tests.support.embedding.built import EMBED
+from tests.support.running import HANG
 
 CRATE = EMBED / "cargo" / "tombolopan-sys"
 WANTED = "0x10000: add x0, x0, #0x1\n0x10004: brk #0x1\nbreakpoint 1, x0 is 42\n"
@@ -29,7 +30,7 @@ def ran(folder: pathlib.Path, **extra: str) -> subprocess.CompletedProcess[str]:
         [library.rust_program("cargo"), "run", "--offline", "--quiet", "--example", "first"],
         text=True, check=False,
         cwd=folder / CRATE.relative_to(EMBED), env={**kept, **extra}, capture_output=True,
-        timeout=300,
+        timeout=HANG,
     )
 
 

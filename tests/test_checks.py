@@ -7,6 +7,7 @@ import re
 import shutil
 import sys
 
+import checking
 import pytest
 
 from tests.support.instructions import call, program
@@ -373,9 +374,25 @@ def test_suppressions(alone: pathlib.Path, tmp_path: pathlib.Path) -> None:
 
 
 def test_the_page(alone: pathlib.Path) -> None:
-    """The table of docs/CHECKING.md is what the script finds that writes it."""
+    """The table of docs/CHECKING.md is what the script finds that writes it, but for what other
+    tools report by chance of a machine."""
     assert alone.is_file()
-    succeed([sys.executable, ROOT / "tools" / "checking.py", "--check"])
+    succeed([sys.executable, ROOT / "tools" / "checking.py", "--check"], seconds=900)
+
+
+@pytest.mark.parametrize("held, new, is_wrong", [
+    ("yes | - | yes | yes | (yes)", "yes | - | yes | yes | -", False),
+    ("yes | - | yes | - | -", "yes | - | yes | yes | (yes)", False),
+    ("yes | - | yes | yes | yes", "yes | - | yes | ? | ?", False),
+    ("yes | - | yes | yes | yes", "yes | - | yes | yes | -", True),
+    ("yes | - | yes | yes | yes", "yes | - | yes | - | yes", True),
+    ("yes | - | yes | - | -", "yes | - | - | - | -", True),
+    ("yes | - | yes | - | -", "yes | yes | yes | - | -", True),
+])
+def test_which_cells_have_to_hold(held: str, new: str, is_wrong: bool) -> None:
+    """Each of mte_run, and what other tools report wherever they are."""
+    tables = [["| Bug |", f"| a bug | {cells} |", "| found |"] for cells in (held, new)]
+    assert bool(checking.differences(*tables)) == is_wrong
 
 
 def test_json(alone: pathlib.Path, tmp_path: pathlib.Path) -> None:

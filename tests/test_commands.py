@@ -19,7 +19,7 @@ BUILDER = """#!/usr/bin/env bash
 echo "build.sh $*" >&2
 cd "$(dirname "$0")/../crates/{name}"
 mkdir -p out
-cp {program} out/{name}
+cp "{program}" out/{name}
 touch out/{name}
 (cd out && sha256sum {name} >{name}.unproved)
 """
@@ -30,7 +30,7 @@ EXPLAINED = ("mte_run: fault TagCheck", "0x0000000012000010 is in the block")
 def clone(tmp_path: pathlib.Path) -> pathlib.Path:
     """A checkout in which nothing was built."""
     return copy_files(tmp_path / "clone", "examples/", "crates/mte_host/", "crates/mte_run/",
-                      "crates.txt")
+                      "crates.txt", "tools/sources.sh")
 
 
 def command_of(page: str, script: str) -> str:
@@ -61,7 +61,6 @@ def run_script(name: str, *words: str, folder: pathlib.Path = ROOT, built: str =
 def stub_builder(clone: pathlib.Path, program: pathlib.Path) -> str:
     """Puts a stub in place of tools/build.sh, and gives what it says."""
     place = clone / "tools" / "build.sh"
-    place.parent.mkdir()
     place.write_text(BUILDER.format(name=program.name, program=program), encoding="utf-8")
     place.chmod(0o755)
     return f"build.sh --unproved --only {program.name}\n"

@@ -5,7 +5,8 @@ import sys
 
 from tests.support.checkout import tracked_files
 from tests.support.places import ROOT
-from tests.support.running import Ran, run, succeed
+from tests.support.running import Ran, run
+from tests.support.tools import git
 
 LIST = (ROOT / "crates.txt").read_text(encoding="utf-8")
 
@@ -73,7 +74,7 @@ def test_written_files_are_marked() -> None:
     firsts = {name: (ROOT / name).read_bytes().split(b"\n", 1)[0] for name in files}
     written = [name for name, first in firsts.items() if b"Do not edit" in first]
     assert len(written) >= 20
-    told = succeed(["git", "check-attr", "linguist-generated", "--", *written], cwd=ROOT).output
+    told = git("check-attr", "linguist-generated", "--", *written)
     assert [line for line in told.splitlines() if not line.endswith(": set")] == []
 
 

@@ -48,7 +48,7 @@ GROUPS: dict[str, Callable[[], Iterator[Line]]] = {
 
 def started(it: Program, *words: str, stdin: bytes = b"", cwd: pathlib.Path = ROOT) -> Ran:
     """What came of a program."""
-    return run([*it.words, *words], stdin=stdin, cwd=cwd, extra=it.extra, seconds=120)
+    return run([*it.words, *words], stdin=stdin, cwd=cwd, extra=it.extra)
 
 
 def answers(shared: pathlib.Path, variant: str, lines: list[str]) -> list[str]:

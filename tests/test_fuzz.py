@@ -293,7 +293,7 @@ for text, found in list(seen.values())[:3]:
     for line in said:
         text, *words = line.split()
         (tmp_path / "input").write_bytes(bytes.fromhex(text))
-        report = run([alone, "--exact", "--input", tmp_path / "input", image], seconds=120).errors
+        report = run([alone, "--exact", "--input", tmp_path / "input", image]).errors
         assert all(re.search(rf"\b{word}\b", report) for word in words), (words, report)
 
 
@@ -332,7 +332,7 @@ print(hex(first.pc), first.steps)
 """).split()
     crash = tmp_path / "crash"
     crash.write_bytes(text)
-    report = run([alone, "--input", crash, image], seconds=120)
+    report = run([alone, "--input", crash, image])
     found, _, told_cause = report.errors.partition("Cause: ")
     assert f"{int(said[0], 16):#018x}" in found and "cards.c:" in found
     assert cause in told_cause.splitlines()[0] and "allocated by" in told_cause

@@ -80,7 +80,7 @@ def test_a_campaign_by_exact_runs(
     folder = tmp_path / "fuzz"
     shutil.copytree(fuzzers.fuzzers(shared, "libfuzzer"), folder)
     ran = succeed([sys.executable, FUZZ / "campaign.py", folder, "labels", "--exact", "--seconds",
-                   "60", "--until", "1", "--program", alone], seconds=180)
+                   "600", "--until", "1", "--program", alone])
     assert re.search(r"\boverflow\b|\bPastSize\b|Buffer Overflow", ran.output), ran.output
 
 

@@ -575,7 +575,7 @@ def test_frames(alone: pathlib.Path) -> None:
 
 def flooded(alone: pathlib.Path, stream: bytes, memory: int = MEMORY) -> Ran:
     """What came of a front that reads a stream to its end, within a minute and some memory."""
-    return run([alone, "--gdb", EXAMPLES / "hi.elf"], stdin=stream, seconds=60, memory=memory)
+    return run([alone, "--gdb", EXAMPLES / "hi.elf"], stdin=stream, memory=memory)
 
 
 def test_truncated_streams(alone: pathlib.Path) -> None:

@@ -40,7 +40,7 @@ def make(shared: pathlib.Path, count: int, seed: int) -> bytes:
 def make_in_c(shared: pathlib.Path, *words: str) -> Ran:
     """What the script over make_golden.c says."""
     need("cc")
-    return run([sys.executable, GOLDEN / "golden_file.py", *words], seconds=120,
+    return run([sys.executable, GOLDEN / "golden_file.py", *words],
                extra={"TOMBOLOPAN": str(shared_object(shared))})
 
 
@@ -70,7 +70,7 @@ def check(consumer: str, path: pathlib.Path) -> Ran:
             ctypes.CDLL("libunicorn.so.2")
         except OSError:
             give_up("missing: libunicorn.so.2 (tests/packages.txt has the Debian packages)")
-    return run([sys.executable, GOLDEN / f"check_{consumer}.py", path], seconds=120)
+    return run([sys.executable, GOLDEN / f"check_{consumer}.py", path])
 
 
 @pytest.mark.parametrize("maker", MAKERS)

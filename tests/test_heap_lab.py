@@ -71,7 +71,7 @@ def record(shared: pathlib.Path, trace: pathlib.Path, *words: str) -> str:
 
 def replay(shared: pathlib.Path, trace: pathlib.Path, *words: str) -> Ran:
     """What the script says of a trace."""
-    return run([sys.executable, ALLOC / "replay.py", *words, trace], seconds=120,
+    return run([sys.executable, ALLOC / "replay.py", *words, trace],
                extra={"TOMBOLOPAN": str(shared_object(shared))})
 
 
@@ -194,7 +194,7 @@ def test_a_wrong_guess_is_told(
     lines += ["free 0x1000", "free 0x1010", "free 0x1020", "malloc 24 = 0x1020"]
     trace = tmp_path / "trace"
     trace.write_text(HEAD + "\n".join(lines) + "\n")
-    ran = run([sys.executable, folder / "replay.py", trace], seconds=120,
+    ran = run([sys.executable, folder / "replay.py", trace],
               extra={"TOMBOLOPAN": str(shared_object(shared))})
     assert f"replay: {said}" in ran.errors and (ran.status, ran.output) == (1, ""), ran.errors
 
@@ -329,7 +329,7 @@ def test_services_that_are_none(
 def beside(shared: pathlib.Path, *words: Word) -> Ran:
     """What the script says of three heaps."""
     need("clang")
-    ran = run([sys.executable, ALLOC / "beside_allocators.py", *words], seconds=120,
+    ran = run([sys.executable, ALLOC / "beside_allocators.py", *words],
               extra={"TOMBOLOPAN": str(shared_object(shared))})
     if "has no Scudo" in ran.errors:
         give_up("missing: libclang-rt-14-dev")

@@ -19,7 +19,7 @@ from tests.support.notes import noted
 from tests.support.places import EXAMPLES, ROOT
 from tests.support.running import run, succeed
 from tests.support.samples import tenant
-from tests.support.tools import need
+from tests.support.tools import git, need
 
 EXECUTABLE, READABLE = 0o755, 0o644
 MODULES = ("py.typed", *(it.name for it in (EXAMPLES / "embed" / "tombolopan").glob("*.py")))
@@ -131,8 +131,8 @@ def test_no_place_of_the_build(prefix: pathlib.Path) -> None:
 
 def test_which_build_it_is(prefix: pathlib.Path) -> None:
     """Programs and the library say the commit of the checkout that they were installed from."""
-    need("git", "readelf")
-    commit = succeed(["git", "rev-parse", "HEAD"], cwd=ROOT).output.strip()
+    need("readelf")
+    commit = git("rev-parse", "HEAD").strip()
     wanted = rf"commit:    {commit}\nchanges:   (none|some)\ntoolchain: [0-9a-f]{{40}}\n" \
              r"build:     (  |un)proved\n"
     ran = run([prefix / "bin" / "mte_run", "--version"])

@@ -9,6 +9,7 @@ import time
 import pytest
 
 from tests.support.checkout import copy_files, make_stub
+from tests.support.running import HANG
 from tests.support.tools import need
 
 # Moves all that was built away, as the toolchain does before it proves; builds one program anew.
@@ -33,7 +34,7 @@ FILES = {"mte_host": "crates/mte_host/out/mte_host", "mte_run": "crates/mte_run/
 def clone(tmp_path: pathlib.Path) -> pathlib.Path:
     """A checkout with built programs, whose cases take no time."""
     need("bash", "find")
-    top = copy_files(tmp_path / "clone", "tests/run.sh")
+    top = copy_files(tmp_path / "clone", "tests/run.sh", "tools/sources.sh")
     for name in FIRST:
         (top / "tests" / f"test_{name}.py").write_text("def test(): pass\n", encoding="utf-8")
     (top / "tests" / "install.sh").write_text("#!/bin/sh\n", encoding="utf-8")
@@ -63,7 +64,7 @@ WANTED = {"mte_host": "anew\n", "mte_run": "mte_run\n", "library": "library\n"}
 
 def test_a_gate_that_fails(clone: pathlib.Path) -> None:
     """What was built anew stays, and the rest is put back with its marks."""
-    assert gate(clone, 0).wait(180) == 1
+    assert gate(clone, 0).wait(HANG) == 1
     assert contents(clone) == WANTED
     mark = clone / f"{FILES['mte_run']}.unproved"
     assert mark.read_text(encoding="utf-8") == "mark\n"
@@ -72,11 +73,11 @@ def test_a_gate_that_fails(clone: pathlib.Path) -> None:
 @pytest.mark.parametrize("number", [signal.SIGINT, signal.SIGTERM])
 def test_a_gate_that_is_interrupted(clone: pathlib.Path, number: int) -> None:
     """So it is where a terminal interrupts it, or a signal ends it."""
-    running = gate(clone, 30)
-    deadline = time.monotonic() + 180
+    running = gate(clone, HANG)
+    deadline = time.monotonic() + HANG
     while not (clone / "moved").exists() and time.monotonic() < deadline:
         time.sleep(0.05)
     assert not (clone / FILES["mte_run"]).exists()
     os.killpg(running.pid, number)
-    assert running.wait(180) != 0
+    assert running.wait(HANG) != 0
     assert contents(clone) == WANTED

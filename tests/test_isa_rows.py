@@ -107,7 +107,7 @@ def test_crc32_is_a_row(isa: AlteredIsa) -> None:
     assert isa.findings() == []
     isa.save()
     assert isa.findings(with_files=True) == []
-    ran = run([sys.executable, isa.root / "tools" / "isa.py", "--check"], seconds=120)
+    ran = run([sys.executable, isa.root / "tools" / "isa.py", "--check"])
     assert ran == Ran(0, b"", b"")
     assert "Crc32 { sf: u8, rm: u8, c: u8, sz: u8, rn: u8, rd: u8 }" in isa.text(
         "crates/a64_instr/src/instruction.rt")
@@ -400,7 +400,7 @@ def test_errors_go_to_standard_error(isa: AlteredIsa) -> None:
     line = isa.line_of(ROWS, "TwoSource ")
     told = f"{ROWS}:{line}: TwoSource: the field rm is there twice\n"
     for option in ("--check", "--overlaps", "--files", "--why=9AC30841"):
-        ran = run([sys.executable, isa.root / "tools" / "isa.py", option], seconds=120)
+        ran = run([sys.executable, isa.root / "tools" / "isa.py", option])
         assert ran == Ran(1, b"", told.encode())
 
 

@@ -3,6 +3,7 @@ has what may go wrong there); and mutated images and tables, by tools/mutate.py.
 
 import pathlib
 import re
+import shlex
 import sys
 
 import pytest
@@ -33,7 +34,7 @@ def sessions(shared: pathlib.Path, tmp_path: pathlib.Path) -> Batch:
 def run_all(sessions: Batch, *options: str) -> Ran:
     """Runs the sessions, two at a time."""
     words: list[Word] = [MANY / "run.sh", sessions.sessions, "--jobs", "2", *options]
-    return run(words, extra=sessions.extra, seconds=120)
+    return run(words, extra=sessions.extra)
 
 
 def started(sessions: Batch) -> dict[str, int]:
@@ -90,7 +91,7 @@ def test_other_files_are_run(sessions: Batch, host: pathlib.Path) -> None:
     script = sessions.sessions / "session-000003" / "script"
     script.write_text(script.read_text() + "# a comment\n")
     assert run_all(sessions).output == f"{AS_WANTED}\n1 run, {COUNT - 1} kept\n"
-    by_host = run_all(sessions, "--program", str(host))
+    by_host = run_all(sessions, "--program", shlex.quote(str(host)))
     assert by_host.output == f"{AS_WANTED}\n{COUNT} run, 0 kept\n"
 
 

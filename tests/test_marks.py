@@ -14,7 +14,7 @@ from tests.support.library import kit, static_library
 from tests.support.notes import SECTION, noted
 from tests.support.places import ROOT
 from tests.support.running import Word, run, succeed
-from tests.support.tools import need
+from tests.support.tools import git, need
 
 TOOL = ROOT / "tools" / "mark.py"
 LINES = rb"\ncommit:    .{40}\nchanges:   .{4}\ntoolchain: .{40}\nbuild:     .{8}"
@@ -79,7 +79,7 @@ def test_a_program(tool: list[str], alone: pathlib.Path, tmp_path: pathlib.Path)
         shutil.copy(before, copy)
         succeed([*tool, "--unproved", copy])
     assert copies[0].read_bytes() == copies[1].read_bytes()
-    commit = succeed(["git", "rev-parse", "HEAD"], cwd=ROOT).output.strip()
+    commit = git("rev-parse", "HEAD").strip()
     told = run([copies[0], "--version"])
     wanted = rf"mte_run \d+\.\d+\ncommit:    {commit}\nchanges:   (none|some)\n" \
              r"toolchain: [0-9a-f]{40}\nbuild:     unproved\n"

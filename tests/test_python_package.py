@@ -36,7 +36,7 @@ def refused(call, kind=ValueError):
 def told(shared: pathlib.Path, text: str) -> str:
     """What a program over the package writes."""
     extra = in_python(shared, PACKAGE).extra
-    ran = run([sys.executable, "-B", "-c", BEGIN + text], extra=extra, seconds=120)
+    ran = run([sys.executable, "-B", "-c", BEGIN + text], extra=extra)
     assert (ran.status, ran.errors) == (0, ""), ran.errors[-3000:]
     return ran.output
 

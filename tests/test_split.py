@@ -22,7 +22,7 @@ from tests.support.instructions import move, program, subtract_with_flags
 from tests.support.once import make_once
 from tests.support.places import EXAMPLES
 from tests.support.refused_memory import preload, refuse_each
-from tests.support.running import Ran, Word, run, succeed
+from tests.support.running import HANG, Ran, Word, run, succeed
 from tests.support.split_sessions import LEDGER, SplitSession, admitted, resealed
 from tests.support.tools import give_up
 
@@ -323,7 +323,7 @@ def faulty(batch: Batch, split: pathlib.Path, folder: pathlib.Path, act: str) ->
     """The same by a program that goes wrong: `act` may change what mte_split does."""
     program = script(folder, "faulty", f"""
         once() {{ mkdir "{folder}/$1" 2> /dev/null; }}
-        split() {{ {split} "$@"; }}
+        split() {{ "{split}" "$@"; }}
         case "$*" in {act} esac
         split "$@"
         """)
@@ -365,7 +365,7 @@ def test_batch_is_broken_off(made: Batch, split: pathlib.Path, tmp_path: pathlib
     slow = faulty(made, split, tmp_path, "*) sleep 0.05 ;;")
     with subprocess.Popen([str(it) for it in slow.words()], env={**os.environ, **slow.extra},
                           stdout=subprocess.DEVNULL) as begun:
-        until = time.monotonic() + 60
+        until = time.monotonic() + HANG
         while sum(it.stat().st_size for it in made.store.glob("*.answers")) < 3000:
             assert time.monotonic() < until and begun.poll() is None
             time.sleep(0.01)

@@ -4,6 +4,7 @@ as a program of this machine runs (tenant-run)."""
 import os
 import pathlib
 import re
+import shlex
 import shutil
 import subprocess
 import sys
@@ -11,9 +12,10 @@ import sys
 import pytest
 
 from tests.support.cache import cache_folder, tenant_library
+from tests.support.checkout import make_stub
 from tests.support.places import EXAMPLES, TESTS
 from tests.support.programs import TENANT_CC, native, run_as_tenant, tenant_cc
-from tests.support.running import run, succeed
+from tests.support.running import HANG, run, succeed
 from tests.support.tenant_tools import TENANT_RUN, built, tenant_args, tenant_run
 from tests.support.tools import give_up, need
 
@@ -332,12 +334,16 @@ def test_the_tests_of_zlib_pass(
     need("make", "cc", "clang", "ld.lld", "llvm-ar")
     source = debian_source("zlib")
     told: dict[str, str] = {}
+    # A compiler of make has no blank in its path.
+    stub = tmp_path / "stub"
+    make_stub(stub, "tenant-cc", f"exec '{TENANT_CC}' --library='{library}' \"$@\"\n")
+    make_stub(stub, "tenant-run", f"exec '{TENANT_RUN}' --alone '{alone}' \"$@\"\n")
     for name in ("here", "tenant"):
-        words = [f"QEMU_RUN={TENANT_RUN} --alone {alone}"] * (name == "tenant")
+        words = [f"QEMU_RUN={stub}/tenant-run"] * (name == "tenant")
         folder = tmp_path / name
         shutil.copytree(source, folder)
         extra = {"CHOST": "aarch64-linux", "AR": "llvm-ar", "RANLIB": "true",
-                 "CC": f"{TENANT_CC} --library={library}"} if words else {}
+                 "CC": f"{stub}/tenant-cc"} if words else {}
         succeed(["./configure", "--static"], cwd=folder, extra={"CFLAGS": "-O1", **extra})
         succeed(["make", "-j2", "static"], cwd=folder)
         made = succeed(["make", *words, "teststatic"], cwd=folder)
@@ -438,13 +444,13 @@ def test_input_and_name_are_those_of_the_command(
 
 def test_closed_input_and_output(alone: pathlib.Path, ends: pathlib.Path) -> None:
     """No input is none; where nobody reads the output, the status is that of SIGPIPE."""
-    words = f"{sys.executable} {TENANT_RUN} --alone {alone} {ends}"
+    words = shlex.join(map(str, [sys.executable, TENANT_RUN, "--alone", alone, ends]))
     assert run(["bash", "-c", f"{words} copy <&-"]).out == b"copy\n"
     unread, output = os.pipe()
     os.close(unread)
     ran = subprocess.run([sys.executable, TENANT_RUN, "--alone", alone, ends, "output"],
                          stdin=subprocess.DEVNULL, stdout=output, stderr=subprocess.PIPE,
-                         timeout=60, check=False)
+                         timeout=HANG, check=False)
     os.close(output)
     assert (ran.returncode, ran.stderr) == (141, b"")
 

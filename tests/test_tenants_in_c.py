@@ -100,11 +100,13 @@ def test_calls_are_those_of_address_sanitizer(
 
 
 @pytest.fixture
-def makefile(tmp_path: pathlib.Path) -> pathlib.Path:
-    """A copy of the folder, in which make may write."""
+def makefile(alone: pathlib.Path, tmp_path: pathlib.Path) -> pathlib.Path:
+    """A copy of the folder, in which make may write, with the program."""
     need("make", "clang", "ld.lld")
     left_out = shutil.ignore_patterns("out")
-    return pathlib.Path(shutil.copytree(FOLDER, tmp_path / "c", ignore=left_out))
+    folder = pathlib.Path(shutil.copytree(FOLDER, tmp_path / "c", ignore=left_out))
+    (folder / "mte_run").symlink_to(alone)
+    return folder
 
 
 def make(folder: pathlib.Path, *words: str) -> Ran:
@@ -112,17 +114,17 @@ def make(folder: pathlib.Path, *words: str) -> Ran:
     return run(["make", "--no-print-directory", *words], cwd=folder, extra={"MAKEFLAGS": ""})
 
 
-def test_make_runs_a_tenant(alone: pathlib.Path, makefile: pathlib.Path) -> None:
+def test_make_runs_a_tenant(makefile: pathlib.Path) -> None:
     """`make hello.run`: its output, and its status where that is not 0."""
-    ran = make(makefile, "hello.run", f"ALONE={alone}")
+    ran = make(makefile, "hello.run", "ALONE=./mte_run")
     assert ran.status == 0 and ran.output.endswith("Hello, host\nended with 7\n"), ran.errors
 
 
-def test_make_draws_a_heap(alone: pathlib.Path, makefile: pathlib.Path) -> None:
+def test_make_draws_a_heap(makefile: pathlib.Path) -> None:
     """`make heap_overflow.svg`, also by gcc at another level."""
     need("aarch64-linux-gnu-gcc")
     for compiler, level in (("clang", "-O2"), ("gcc", "-Os")):
-        by = [f"COMPILER={compiler}", f"LEVEL={level}", f"ALONE={alone}"]
+        by = [f"COMPILER={compiler}", f"LEVEL={level}", "ALONE=./mte_run"]
         ran = make(makefile, "heap_overflow.svg", *by)
         end = "ended with 129\ndrawn: out/heap_overflow.svg\n"
         assert ran.status == 0 and ran.output.endswith(end), ran.errors

@@ -99,7 +99,7 @@ def test_a_trace_does_not_depend_on_the_number_of_symbols(
 def user_seconds(words: Sequence[Word]) -> float:
     """The processor time that a run takes, within its bound of memory."""
     before = resource.getrusage(resource.RUSAGE_CHILDREN).ru_utime
-    ran = run(words, seconds=60, memory=MEMORY)
+    ran = run(words, memory=MEMORY)
     assert ran.status >= 0 and "out of memory" not in ran.errors, ran.errors
     return resource.getrusage(resource.RUSAGE_CHILDREN).ru_utime - before
 

@@ -2,17 +2,22 @@
 # Builds mte_host, mte_split, mte_run, disassemble, the library for C, and the C library of tenants.
 #     tools/build.sh [--unproved] [--only NAME] [--jobs N] [PREFIX]
 #
-# What is built and newer than all sources stays. Programs and the library are in crates/*/out, the
-# C library of tenants in examples/libc/out. Programs and the library say of which commit they are
-# (tools/mark.py). With a PREFIX all of it is installed there (tools/install.sh).
+# What is built from the sources that are there stays: their sum is kept (sources.sh). Programs and
+# the library are in crates/*/out, the C library of tenants in examples/libc/out. Programs and the
+# library say of which commit they are (tools/mark.py). With a PREFIX all of it is installed there
+# (tools/install.sh). It says of how many crates or steps how many are done.
 #     --unproved   builds without proof, in minutes. Beside each such file is NAME.unproved, with
-#                  its sum. What is proved and newer than all sources stays as it is.
-#     --only NAME  this one alone: a program, libtombolopan_c.a, or tenants for the C library
+#                  its sum. What is proved of these sources stays as it is.
+#     --only NAME  this one alone: a program, libtombolopan_c.a, programs for these five, or tenants
+#                  for the C library of tenants
 #     --jobs N     how many are built at a time without proof (as processors and memory allow)
 set -euo pipefail
 here=$(cd "$(dirname "$0")" && pwd)
-crates=$here/../crates
-libc=$here/../examples/libc
+# shellcheck source-path=SCRIPTDIR
+source "$here/sources.sh"
+top=$(cd "$here/.." && pwd)
+crates=$top/crates
+libc=$top/examples/libc
 every=(disassemble mte_host mte_split libtombolopan_c.a mte_run)
 
 leave() {
@@ -32,7 +37,7 @@ while [[ $# -gt 0 ]]; do
     esac
     shift
 done
-[[ -z $only || " ${every[*]} tenants " == *" $only "* ]] || leave "$only is nothing to build"
+[[ -z $only || " ${every[*]} programs tenants " == *" $only "* ]] || leave "$only is nothing to build"
 [[ -z $jobs || $jobs =~ ^[1-9][0-9]?$ ]] || leave "--jobs takes a number"
 command -v rt >/dev/null || [[ $only == tenants ]] || leave "rt, the toolchain, is not there"
 
@@ -44,18 +49,12 @@ place() {
 
 # Whether it is marked as built without proof.
 is_unproved() {
-    local file
-    file=$(place "$1")
-    [[ -e $file.unproved ]] && (cd "${file%/*}" && sha256sum --check --status "$1.unproved")
+    has_sum "$(place "$1").unproved"
 }
 
-# Whether it is there, no source is newer, and it is proved where that is wanted.
+# Whether it is there, of these sources, and proved where that is wanted.
 is_built() {
-    local file
-    file=$(place "$1")
-    [[ -e $file ]] || return 1
-    [[ -z $(find "$crates"/*/{src,specs,proofs} "$crates/../crates.txt" -newer "$file" -print \
-        -quit 2> /dev/null) ]] || return 1
+    is_current "$top" "$(place "$1")" || return 1
     [[ $proof == no ]] || ! is_unproved "$1"
 }
 
@@ -63,10 +62,31 @@ say() {
     echo "build.sh: $1" >&2
 }
 
-# Runs a command whose lines go to a file; says each half minute how long it runs, and at which
-# crate the prover is.
+# Of the crates that a program or the library is made from, the lowest first.
+crates_of() {
+    local crate=${1#lib}
+    tac "$top/crates.txt" | awk -v RS='\n' -v FS='[ :]+' -v name="${crate%.a}" '
+        BEGIN { is_below[name] = 1 }
+        /^[a-z]/ && is_below[$1] { print $1; for (at = 2; at <= NF; at++) is_below[$at] = 1 }' | tac
+}
+
+# How far a build is, by the last crate or step that its lines name: "38 of 61, a64_step".
+progress() {
+    local crate at
+    crate=$(grep -ao 'jobs [0-9]* for [a-z0-9_]*' "$2" | tail -n 1 || true)
+    if [[ -n $crate ]]; then
+        crate=${crate/*for /}
+        at=$(crates_of "$1" | grep -nx "$crate" | cut -d : -f 1 || true)
+        echo "${at:-0} of $(crates_of "$1" | wc -l), $crate"
+    else
+        grep -ao '^[0-9]* of [0-9]*, .*' "$2" | tail -n 1 || true
+    fi
+}
+
+# Runs a command whose lines go to a file; says how far it is, and each half minute how long it
+# runs.
 watched() {
-    local what=$1 start=$SECONDS log last crate passed seen=''
+    local what=$1 start=$SECONDS log last now passed seen=''
     shift
     log=$(mktemp)
     # In a process group of its own, which ends with this one.
@@ -79,12 +99,11 @@ watched() {
     last=$start
     while kill -0 "$child" 2>/dev/null; do
         sleep 0.2
-        crate=$(grep -ao 'jobs [0-9]* for [a-z0-9_]*' "$log" | tail -n 1 || true)
-        crate=${crate/*for /}
+        now=$(progress "$what" "$log")
         passed=$((SECONDS - start))
-        if [[ $crate != "$seen" ]] || ((SECONDS - last >= 30)); then
-            say "$what: $((passed / 60)) min $((passed % 60)) s${crate:+, at $crate}"
-            seen=$crate last=$SECONDS
+        if [[ $now != "$seen" ]] || ((SECONDS - last >= 30)); then
+            say "$what: ${now:+$now, }$((passed / 60)) min $((passed % 60)) s"
+            seen=$now last=$SECONDS
         fi
     done
     if ! wait "$child"; then
@@ -106,6 +125,7 @@ prove() {
     fi
     "$here/mark.py" "$file"
     rm -f "$file.unproved"
+    note_sources "$file" "$sources"
 }
 
 # Builds it without proof beside its place, marks it, and puts it there.
@@ -113,13 +133,14 @@ unproved() {
     local file crate=${1#lib}
     file=$(place "$1")
     mkdir -p "${file%/*}"
-    "$here/unproved.py" "$here/.." "$file.new" "${crate%.a}"
+    "$here/unproved.py" "$top" "$file.new" "${crate%.a}"
     "$here/mark.py" --unproved "$file.new"
     {
         echo "# Built by tools/build.sh --unproved: nothing is proved of the file with this sum."
         (cd "${file%/*}" && sha256sum "$1.new") | sed "s/$1\.new\$/$1/"
     } >"$file.unproved"
     mv "$file.new" "$file"
+    note_sources "$file" "$sources"
 }
 
 build() {
@@ -137,10 +158,13 @@ build() {
 
 # The C library of tenants; without it all else is of use.
 build_libc() {
-    if [[ -e $libc/out/lib/libc.a && -z $(find "$libc/src" "$libc/include" "$libc/arch" \
-        "$libc/build.py" -newer "$libc/out/lib/libc.a" -print -quit) ]]; then
+    local sources
+    sources=$(cd "$libc" && find src include arch build.py -type f -print0 | LC_ALL=C sort -z |
+        xargs -0 sha256sum | sha256sum)
+    if [[ -e $libc/out/lib/libc.a && $sources == "$(cat "$libc/out/sources" 2>/dev/null)" ]]; then
         say "the C library of tenants: was there"
     elif (watched "the C library of tenants" "$libc/build.py" --jobs "$1"); then
+        echo "$sources" >"$libc/out/sources"
         say "the C library of tenants: built"
     elif [[ $only == tenants ]]; then
         exit 1
@@ -156,11 +180,12 @@ if [[ -z $jobs ]]; then
     jobs=$((room < 1 ? 1 : room < processors ? room : processors))
 fi
 wanted=("${every[@]}")
-[[ -z $only ]] || wanted=("$only")
+[[ -z $only || $only == programs ]] || wanted=("$only")
 if [[ $proof == yes && $only != tenants ]]; then
     say "proves what is not built yet: README.md, \"Build and check\", has the time"
 fi
 if [[ $only != tenants ]]; then
+    sources=$(sum_of_sources "$top")
     # Proofs take turns, since each uses what those before it have proved.
     [[ $proof == no ]] || jobs=1
     # shellcheck disable=SC2046

@@ -6,19 +6,22 @@
 Each bug is compiled by clang at -O0 as a tenant, which mte_run runs with tags alone, with --exact
 and with --check=all,places; and for this machine, where it runs under AddressSanitizer and
 Valgrind's memcheck.
-Without an option the table is printed; --write puts it into the page; --check compares the columns
-of mte_run with the page's, and those of the other tools that are here.
+Without an option the table is printed; --write puts it into the page. --check compares each cell of
+mte_run with the page's, and of the other tools those that do not depend on the machine ("yes").
 """
 
+import datetime
+import functools
 import os
 import pathlib
+import platform
 import re
 import shutil
 import subprocess
 import sys
 import tempfile
 from collections.abc import Iterator
-from typing import NamedTuple, Optional
+from typing import NamedTuple
 
 ROOT = pathlib.Path(__file__).resolve().parent.parent
 PAGE = ROOT / "docs" / "CHECKING.md"
@@ -30,8 +33,22 @@ RUN = BUILT.resolve() / "mte_run"
 TENANT = ("clang", "--target=aarch64-linux-gnu", "-fuse-ld=lld", "-O0", "-g", "-ffreestanding",
           "-nostdlib", "-static", "-mgeneral-regs-only", "-fno-builtin", "-w")
 NATIVE = ("gcc", "-O0", "-g", "-fno-builtin", "-w")
-COLUMNS = ("tags alone", "`--exact`", "`--check`", "AddressSanitizer", "memcheck")
-FOUND, MISSED, ABSENT = "yes", "-", "?"
+OURS = ("tags alone", "`--exact`", "`--check`")
+THEIRS = ("AddressSanitizer", "memcheck")
+COLUMNS = (*OURS, *THEIRS)
+FOUND, BY_CHANCE, MISSED, ABSENT = "yes", "(yes)", "-", "?"
+# The sources whose bugs a tool knows of: memcheck knows chunks and values that were never given,
+# AddressSanitizer knows chunks and variables. What else they report is chance: it depends on what
+# is next to the bytes on the stack of the machine.
+KNOWN = {
+    "AddressSanitizer": ("pointer_bugs.c", "place_bugs.c"),
+    "memcheck": ("pointer_bugs.c", "undefined_bugs.c"),
+}
+# Each of them knows what is no chunk and is freed.
+FREES = re.compile("is freed$|gets another size$")
+# An access to another chunk, and what is left of a pointer on the stack, are chance too.
+CHANCE = ("a read far", "lost: ")
+RECORD = "The columns of the other tools are of "
 # What only another library's functions have: a free of a chunk by a function that is not for it.
 MISMATCHES = {
     "10": "`new`, then `free`",
@@ -75,7 +92,7 @@ def run(words: list[str], given: bytes = b"", leaks: bool = False) -> tuple[int,
     """The exit status and what a command wrote on standard error; AddressSanitizer looks for leaks
     where these are wanted."""
     extra = {**os.environ, "ASAN_OPTIONS": f"detect_leaks={int(leaks)}"}
-    ran = subprocess.run(words, input=given, capture_output=True, timeout=120, check=False,
+    ran = subprocess.run(words, input=given, capture_output=True, timeout=900, check=False,
                          env=extra)
     return ran.returncode, ran.stderr.decode(errors="replace")
 
@@ -102,14 +119,27 @@ def as_tenant(bug: Bug, folder: pathlib.Path) -> list[str]:
     return found
 
 
-def has(tool: Optional[str], *words: str) -> bool:
+def ends_well(words: list[str], given: bytes = b"") -> bool:
     """Whether a tool is here and a command with it ends well."""
-    return tool is not None and run([tool, *words], b"int main(void) { return 0; }\n")[0] == 0
+    return shutil.which(words[0]) is not None and run(words, given)[0] == 0
 
 
-def has_sanitizer() -> bool:
-    """Whether programs with AddressSanitizer can be built here."""
-    return has(shutil.which("gcc"), "-fsanitize=address", "-x", "c", "-o", "/dev/null", "-")
+@functools.cache
+def tools_here() -> tuple[bool, bool]:
+    """Whether AddressSanitizer and memcheck run an empty program here."""
+    with tempfile.TemporaryDirectory() as folder:
+        program = f"{folder}/program"
+        words = [*NATIVE, "-fsanitize=address", "-x", "c", "-o", program, "-"]
+        has_sanitizer = ends_well(words, b"int main(void) { return 0; }\n") and ends_well([program])
+    return has_sanitizer, ends_well(["valgrind", "-q", "true"])
+
+
+def cell(tool: str, bug: Bug, is_found: bool) -> str:
+    """What the table says of a report of another tool, or of none."""
+    if not is_found:
+        return MISSED
+    is_known = bug.source in KNOWN[tool] or FREES.search(bug.title) is not None
+    return FOUND if is_known and not bug.title.startswith(CHANCE) else BY_CHANCE
 
 
 def natively(bug: Bug, folder: pathlib.Path) -> list[str]:
@@ -119,16 +149,16 @@ def natively(bug: Bug, folder: pathlib.Path) -> list[str]:
     if bug.source == "mismatched_frees.c":
         return [ABSENT, ABSENT]
     found = [ABSENT, ABSENT]
-    if has_sanitizer():
+    if tools_here()[0]:
         compile_to(program, (*NATIVE, "-fsanitize=address"), bug)
         _, errors = run([str(program)], bug.given, bug.is_leak)
-        found[0] = FOUND if "Sanitizer" in errors else MISSED
-    if shutil.which("valgrind"):
+        found[0] = cell(THEIRS[0], bug, "Sanitizer" in errors)
+    if tools_here()[1]:
         compile_to(program, NATIVE, bug)
         leaks = "full" if bug.is_leak else "no"
         words = ["valgrind", "-q", f"--leak-check={leaks}", "--error-exitcode=99", str(program)]
         status, errors = run(words, bug.given)
-        found[1] = FOUND if status == 99 or "== Invalid" in errors else MISSED
+        found[1] = cell(THEIRS[1], bug, status == 99 or "== Invalid" in errors)
     return found
 
 
@@ -147,7 +177,8 @@ def table(found: list[Row]) -> list[str]:
     lines = [f"| Bug | {' | '.join(COLUMNS)} |", "|---|" + "---|" * len(COLUMNS)]
     for row in found:
         lines.append(f"| {row.bug.title} | {' | '.join(row.cells)} |")
-    counts = [sum(row.cells[it] == FOUND for row in found) for it in range(len(COLUMNS))]
+    counts = [sum(row.cells[it] in (FOUND, BY_CHANCE) for row in found)
+              for it in range(len(COLUMNS))]
     asked = [sum(row.cells[it] != ABSENT for row in found) for it in range(len(COLUMNS))]
     sums = " | ".join(f"{count} of {all_}" for count, all_ in zip(counts, asked))
     return [*lines, f"| found | {sums} |"]
@@ -163,17 +194,35 @@ def page_table(text: str) -> list[str]:
     return lines[first:last]
 
 
-def differences(held: list[str], new: list[str]) -> set[str]:
-    """The cells of the page that differ, where both have a tool; sums are not compared."""
-    wrong = set()
-    for old, line in zip(held[:-1], new[:-1]):
-        pairs = zip(old.split("|"), line.split("|"))
-        for column, (a, b) in enumerate(pairs):
-            if a != b and ABSENT not in (a.strip(), b.strip()):
-                wrong.add(f"column {column}: page: {old}: run:{b}")
+def is_different(column: int, held: str, new: str) -> bool:
+    """Whether a cell of the page does not hold. Each cell of mte_run has to; of another tool that is
+    here, each report that does not depend on the machine."""
+    if column < len(OURS):
+        return held != new
+    return held == FOUND and new not in (FOUND, ABSENT)
+
+
+def differences(held: list[str], new: list[str]) -> list[str]:
+    """The cells of the page that do not hold; sums are not compared."""
     if len(held) != len(new):
-        wrong.add(f"the page has {len(held)} rows, the run {len(new)}")
+        return [f"the page has {len(held)} rows, the run {len(new)}"]
+    wrong = []
+    for old, line in zip(held[:-1], new[:-1]):
+        title, *cells = (it.strip() for it in old.strip("|").split("|"))
+        now, *others = (it.strip() for it in line.strip("|").split("|"))
+        if title != now:
+            wrong.append(f"the page has {title!r}, the run {now!r}")
+        wrong += [f"{title}: {COLUMNS[it]}: page {a}, run {b}"
+                  for it, (a, b) in enumerate(zip(cells, others)) if is_different(it, a, b)]
     return wrong
+
+
+def record() -> str:
+    """The sentence of the page that has the day and the machine of the other tools' columns."""
+    firsts = [subprocess.run([tool, "--version"], stdout=subprocess.PIPE, text=True, check=True)
+              .stdout.splitlines()[0] for tool in ("gcc", "valgrind")]
+    kernel = f"{platform.system()} {platform.release()}, {platform.machine()}"
+    return f"{RECORD}{datetime.date.today()}, by {', '.join(firsts)}, on {kernel}."
 
 
 def main() -> None:
@@ -187,14 +236,12 @@ def main() -> None:
     text = PAGE.read_text(encoding="utf-8")
     held = page_table(text)
     if options == ["--write"]:
-        PAGE.write_text(text.replace("\n".join(held), "\n".join(new)), encoding="utf-8")
+        text = text.replace("\n".join(held), "\n".join(new))
+        text = re.sub(rf"^{RECORD}.*$", lambda _: record(), text, flags=re.M)
+        PAGE.write_text(text, encoding="utf-8")
         return
-    wrong = differences(held, new)
-    if wrong:
-        # What memcheck says of a write beyond an array of the stack is chance: it differs twice.
-        wrong &= differences(held, table(rows()))
-    if wrong:
-        sys.exit("\n".join(["checking.py: the page differs", *sorted(wrong)]))
+    if wrong := differences(held, new):
+        sys.exit("\n".join(["checking.py: the page differs", *wrong]))
 
 
 if __name__ == "__main__":

@@ -2,6 +2,7 @@
 """Plants wrong bodies, one at a time, and says what of the test command notices each.
 
     plants.py [--built FOLDER] [--jobs N] [--proofs] [--only WORD] [FILE.toml..]
+    plants.py --draw N [--seed N] [..]
 
 A file (tools/wrong_bodies/*.toml) has a table for each body: the crate, the file, the text that is
 there once (`old`), the text in its place (`new`), and what a user then sees (`shows`). For each one
@@ -11,13 +12,15 @@ this copies the checkout, changes the file and tries what the test command has:
     the cases of the suite, over a build of the program without proof (unproved.py)
     with --proofs the proof of the crate, by `rt ci CRATE`, where nothing else noticed it
 
-FOLDER has the right programs (mte_host, mte_split, mte_run, disassemble, libtombolopan_c.a). Exit
-status 1 where one is not noticed.
+With --draw N of the bodies that mte_run shows are drawn, and the whole suite is tried. FOLDER has
+the right programs (mte_host, mte_split, mte_run, disassemble, libtombolopan_c.a); they are those of
+crates/*/out where none is named. Exit status 1 where one is not noticed.
 """
 import argparse
 import concurrent.futures
 import os
 import pathlib
+import random
 import re
 import shutil
 import subprocess
@@ -39,6 +42,7 @@ SUITES = {
     "mte_host": ["tests/test_host.py"],
     "mte_split": ["tests/test_split.py"],
 }
+PROGRAMS = (*SUITES, "disassemble", "libtombolopan_c.a")
 # The crates whose bodies another program than mte_run shows.
 SHOWN_BY = {"mte_host": "mte_host", "mte_split": "mte_split", "session_split": "mte_split"}
 
@@ -108,13 +112,19 @@ def by_border(checkout: pathlib.Path) -> Optional[str]:
     return None if ran.returncode == 0 else f"tools/border.py: {first_line(ran.stdout, '.')}"
 
 
-def by_suite(checkout: pathlib.Path, plant: Plant, built: pathlib.Path) -> Optional[str]:
+def right_programs(folder: Optional[pathlib.Path]) -> list[pathlib.Path]:
+    """The right programs and the library: of a folder, or of this checkout."""
+    found = folder.iterdir() if folder else (ROOT / "crates").glob("*/out/*")
+    return [path.resolve() for path in found if path.name in PROGRAMS]
+
+
+def by_suite(checkout: pathlib.Path, plant: Plant, given: argparse.Namespace) -> Optional[str]:
     """The first case of the suite that is red, over a build without proof."""
     name = plant.program
     assert name is not None
     programs = checkout / "built"
     programs.mkdir()
-    for path in built.iterdir():
+    for path in right_programs(given.built):
         if path.name != name:
             (programs / path.name).symlink_to(path)
     made = subprocess.run(
@@ -123,8 +133,9 @@ def by_suite(checkout: pathlib.Path, plant: Plant, built: pathlib.Path) -> Optio
     )
     if made.returncode != 0:
         sys.exit(f"plants.py: {plant.name} does not compile: {first_line(made.stdout, 'error')}")
+    cases = [*SUITES[name], *["tests"] * bool(given.draw)]
     ran = subprocess.run(
-        [PYTHON, "-m", "pytest", "-x", *SUITES[name]], cwd=checkout, stdout=subprocess.PIPE,
+        [PYTHON, "-m", "pytest", "-x", *cases], cwd=checkout, stdout=subprocess.PIPE,
         stderr=subprocess.STDOUT, text=True, check=False,
         env={**os.environ, "TOMBOLOPAN_BUILT": str(programs), "CI": "true"},
     )
@@ -141,7 +152,7 @@ def by_proof(checkout: pathlib.Path, plant: Plant) -> Optional[str]:
     return None if ran.returncode == 0 else f"proof: {goal}"
 
 
-def try_plant(plant: Plant, built: pathlib.Path, proofs: bool) -> tuple[Plant, Optional[str]]:
+def try_plant(plant: Plant, given: argparse.Namespace) -> tuple[Plant, Optional[str]]:
     """What notices a plant."""
     with tempfile.TemporaryDirectory(prefix="plant-") as folder:
         checkout = pathlib.Path(folder)
@@ -150,8 +161,8 @@ def try_plant(plant: Plant, built: pathlib.Path, proofs: bool) -> tuple[Plant, O
         if plant.program is None:
             found = by_border(checkout)
         else:
-            found = by_suite(checkout, plant, built)
-        if found is None and proofs:
+            found = by_suite(checkout, plant, given)
+        if found is None and given.proofs:
             found = by_proof(checkout, plant)
         return plant, found
 
@@ -160,17 +171,21 @@ def main() -> None:
     """Tries the plants, and counts what was noticed."""
     parser = argparse.ArgumentParser(description=__doc__.split("\n", 1)[0])
     parser.add_argument("files", nargs="*", type=pathlib.Path)
-    parser.add_argument("--built", type=pathlib.Path, required=True)
+    parser.add_argument("--built", type=pathlib.Path)
     parser.add_argument("--jobs", type=int, default=1)
     parser.add_argument("--proofs", action="store_true")
     parser.add_argument("--only", default="")
+    parser.add_argument("--draw", type=int)
+    parser.add_argument("--seed", type=int, default=1)
     options = parser.parse_args()
     files = options.files or sorted((ROOT / "tools" / "wrong_bodies").glob("*.toml"))
     plants = read_plants(files, options.only)
+    if options.draw:
+        shown = [plant for plant in plants if plant.program == "mte_run"]
+        plants = random.Random(options.seed).sample(shown, options.draw)
     noticed = 0
     with concurrent.futures.ThreadPoolExecutor(options.jobs) as pool:
-        built = options.built.resolve()
-        jobs = [pool.submit(try_plant, plant, built, options.proofs) for plant in plants]
+        jobs = [pool.submit(try_plant, plant, options) for plant in plants]
         for job in concurrent.futures.as_completed(jobs):
             plant, found = job.result()
             noticed += found is not None

@@ -410,7 +410,7 @@ def said_of(run: pathlib.Path, image: pathlib.Path, given: pathlib.Path) -> str:
     """What `--check` writes of a tenant."""
     words = [str(run), "--check=all,places", "--steps", "2000000", "--input", str(given),
              str(image)]
-    ran = subprocess.run(words, capture_output=True, timeout=120, check=False)
+    ran = subprocess.run(words, capture_output=True, timeout=900, check=False)
     return ran.stderr.decode(errors="replace")
 
 

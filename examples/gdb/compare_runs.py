@@ -181,7 +181,7 @@ def difference(stop: bytes, plain: "subprocess.CompletedProcess[bytes]", why: by
 
 def compare(path: str, words: Sequence[str], program_path: str, draw: random.Random) -> str:
     """How the two runs end where they end alike, or what differs."""
-    plain = subprocess.run([program_path, *words, path], capture_output=True, timeout=60)
+    plain = subprocess.run([program_path, *words, path], capture_output=True, timeout=600)
     if plain.returncode == 136:
         return "refused"
     front = Front([program_path, "--gdb", *words, path])

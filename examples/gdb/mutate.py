@@ -90,7 +90,7 @@ def answers_in(out: bytes) -> int:
 def kind_of(words: Sequence[str], stream: bytes, wanted: Optional[int]) -> str:
     """What came of a stream."""
     try:
-        ran = subprocess.run(words, input=stream, capture_output=True, timeout=60)
+        ran = subprocess.run(words, input=stream, capture_output=True, timeout=600)
     except subprocess.TimeoutExpired:
         return "hung"
     if ran.returncode != 0 or ran.stderr:

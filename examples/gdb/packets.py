@@ -75,7 +75,7 @@ class Front:
         self.given.close()
         said = self.errors.read()
         self.out.read()
-        status = self.process.wait(timeout=60)
+        status = self.process.wait(timeout=600)
         self.out.close()
         self.errors.close()
         return status, said

@@ -56,7 +56,7 @@ class Batch:
 
     def run(self, *options: Word, before: Sequence[Word] = ()) -> Ran:
         """Runs the sessions."""
-        return run([*before, *self.words(*options)], extra=self.extra, seconds=120)
+        return run([*before, *self.words(*options)], extra=self.extra)
 
     def told(self, *options: Word) -> dict[str, Any]:
         """What a run says as JSON."""

@@ -6,15 +6,14 @@ import pathlib
 import shutil
 
 from tests.support.places import ROOT
-from tests.support.running import succeed
+from tests.support.tools import git
 
 
 @functools.cache
 def tracked_files() -> tuple[str, ...]:
     """The files that a checkout has: those that git knows, and new ones that it does not ignore."""
-    listed = succeed(["git", "ls-files", "-z", "--cached", "--others", "--exclude-standard"],
-                     cwd=ROOT)
-    names = set(listed.output.split("\0")) - {""}
+    listed = git("ls-files", "-z", "--cached", "--others", "--exclude-standard")
+    names = set(listed.split("\0")) - {""}
     return tuple(sorted(name for name in names if (ROOT / name).is_file()))
 
 

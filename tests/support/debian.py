@@ -9,7 +9,7 @@ from collections.abc import Mapping, Sequence
 from tests.support.once import make_once
 from tests.support.places import ROOT
 from tests.support.running import Ran, run, succeed
-from tests.support.tools import need
+from tests.support.tools import git, need
 
 # What the packages need of the system, which a root has at its beginning.
 SYSTEM = ("libc6", "python3")
@@ -19,7 +19,7 @@ LEFT_OUT = ("Depends", "Pre-Depends", "Recommends", "Suggests", "Conflicts", "Br
 
 def git_folder() -> str:
     """Where git keeps the commit of this checkout."""
-    return succeed(["git", "rev-parse", "--absolute-git-dir"], cwd=ROOT).output.strip()
+    return git("rev-parse", "--absolute-git-dir").strip()
 
 
 def pack(out: pathlib.Path, built: pathlib.Path, top: pathlib.Path = ROOT) -> list[pathlib.Path]:

@@ -7,7 +7,7 @@ from collections.abc import Sequence
 from dataclasses import dataclass
 
 from tests.support.places import EXAMPLES
-from tests.support.running import run
+from tests.support.running import HANG, run
 from tests.support.tools import need
 
 GDB = "gdb-multiarch"
@@ -27,7 +27,7 @@ class Dialog:
         return self.answers[number]
 
 
-def gdb(words: Sequence[str], cwd: pathlib.Path, seconds: float = 120) -> str:
+def gdb(words: Sequence[str], cwd: pathlib.Path, seconds: float = HANG) -> str:
     """What GDB prints, standard error among it; it reads no file of the user's."""
     need(GDB)
     before = [part for it in QUIET for part in ("-iex", it)]

@@ -1,5 +1,6 @@
 """The library for C, as an archive and as a shared object, and what programs are linked with."""
 
+import functools
 import os
 import pathlib
 import shutil
@@ -7,17 +8,29 @@ import sys
 
 from tests.support.once import make_once
 from tests.support.places import BUILT, EXAMPLES, ROOT, program
-from tests.support.running import Word, succeed
+from tests.support.running import Word, run, succeed
 from tests.support.tools import give_up, need
 
 ARCHIVE = "libtombolopan_c.a"
 
 
+# Whether a file is one of the sources that are there, without proof.
+IS_UNPROVED = 'source tools/sources.sh; has_sum "$1.unproved" && is_current . "$1"'
+
+
+@functools.cache
+def is_unproved(path: pathlib.Path) -> bool:
+    """Whether tools/build.sh has built a file without proof, from the sources that are there."""
+    return run(["bash", "-c", IS_UNPROVED, "bash", path], cwd=ROOT).status == 0
+
+
 def static_library(shared: pathlib.Path) -> pathlib.Path:
-    """The archive: one that was built elsewhere, or one over what the gate has just proved."""
+    """The archive: one that was built elsewhere, one that tools/build.sh has built without proof,
+    or one over what the gate has just proved."""
+    found = program(ARCHIVE)
     if BUILT is not None:
-        found = program(ARCHIVE)
         assert found.exists(), f"{found} is not there"
+    if BUILT is not None or is_unproved(found):
         return found
     need("rt")
     return make_once(shared / ARCHIVE, lambda path: build(path))

@@ -13,7 +13,8 @@ BUILT = os.environ.get("TOMBOLOPAN_BUILT")
 
 
 def program(name: str) -> pathlib.Path:
-    """The built program of a crate."""
+    """The built program of a crate, or the library for C."""
     if BUILT is not None:
         return pathlib.Path(BUILT).resolve() / name
-    return ROOT / "crates" / name / "out" / name
+    crate = name.removeprefix("lib").removesuffix(".a")
+    return ROOT / "crates" / crate / "out" / name

@@ -30,7 +30,7 @@ def is_for_clang(source: pathlib.Path) -> bool:
 
 def tenant_cc(library: pathlib.Path, *words: str, cwd: Optional[pathlib.Path] = None) -> Ran:
     """Runs tenant-cc over a library."""
-    return run([sys.executable, TENANT_CC, f"--library={library}", *words], cwd=cwd, seconds=120)
+    return run([sys.executable, TENANT_CC, f"--library={library}", *words], cwd=cwd)
 
 
 def tenant_cxx(library: pathlib.Path, *words: str) -> Ran:
@@ -64,4 +64,4 @@ def native(source: pathlib.Path, program: pathlib.Path, *flags: str) -> pathlib.
 
 def run_as_tenant(alone: pathlib.Path, image: pathlib.Path, *options: str) -> Ran:
     """Runs a tenant alone."""
-    return run([str(alone), "--steps", STEPS, *options, str(image)], seconds=120)
+    return run([str(alone), "--steps", STEPS, *options, str(image)])

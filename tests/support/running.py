@@ -9,6 +9,8 @@ from dataclasses import dataclass
 from typing import Optional, Union
 
 Word = Union[str, bytes, pathlib.Path]
+# After so many seconds a program hangs, also on a machine that does much else.
+HANG = 900
 
 
 @dataclass(frozen=True)
@@ -35,7 +37,7 @@ def run(
     *,
     cwd: Optional[pathlib.Path] = None,
     stdin: bytes = b"",
-    seconds: float = 60,
+    seconds: float = HANG,
     memory: Optional[int] = None,
     extra: Optional[Mapping[str, str]] = None,
 ) -> Ran:
@@ -64,7 +66,7 @@ def succeed(
     *,
     cwd: Optional[pathlib.Path] = None,
     stdin: bytes = b"",
-    seconds: float = 300,
+    seconds: float = HANG,
     extra: Optional[Mapping[str, str]] = None,
 ) -> Ran:
     """Runs a program that has to end with status 0."""

@@ -25,7 +25,7 @@ def tenant_run(
 ) -> Ran:
     """Runs tenant-run over a program mte_run."""
     command = [sys.executable, str(TENANT_RUN), "--alone", str(alone), *words]
-    return run(command, cwd=cwd, stdin=stdin, seconds=120)
+    return run(command, cwd=cwd, stdin=stdin)
 
 
 def built(

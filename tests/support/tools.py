@@ -5,6 +5,9 @@ import shutil
 
 import pytest
 
+from tests.support.places import ROOT
+from tests.support.running import succeed
+
 
 def need(*names: str) -> None:
     """Skips the test where a tool is missing; where CI=true, fails it."""
@@ -14,7 +17,16 @@ def need(*names: str) -> None:
 
 
 def give_up(why: str) -> None:
-    """Says why a test cannot run here: a failure in CI, and a skip elsewhere."""
+    """Says why a test cannot run here: a failure in CI, and a skip elsewhere. It may be asked while
+    pytest collects the cases of a file, which are skipped together."""
     if os.environ.get("CI") == "true":
         pytest.fail(why)
-    pytest.skip(why)
+    pytest.skip(why, allow_module_level=True)
+
+
+def git(*words: str) -> str:
+    """What git says of the checkout that the tests are in."""
+    need("git")
+    if not (ROOT / ".git").exists():
+        give_up(f"{ROOT} is no checkout of git")
+    return succeed(["git", *words], cwd=ROOT).output

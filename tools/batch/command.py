@@ -17,6 +17,7 @@ import argparse
 import functools
 import os
 import pathlib
+import shlex
 import shutil
 import sys
 import time
@@ -129,7 +130,7 @@ def progress(total: int) -> Callable[[int], None]:
 
 def missing_command(commands: Sequence[str]) -> str:
     """The first command that is not there."""
-    first = [command.split()[0] if command.split() else "" for command in commands]
+    first = [(shlex.split(command) or [""])[0] for command in commands]
     return next((it for it in first if shutil.which(it) is None), "")
 
 

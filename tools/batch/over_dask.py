@@ -41,7 +41,7 @@ class DaskEngine:
             self.cluster = LocalCluster(n_workers=workers, threads_per_worker=1,
                                         dashboard_address=None, local_directory=self.held.name)
         self.client = Client(self.cluster or address)
-        self.client.wait_for_workers(1, timeout=60)
+        self.client.wait_for_workers(1, timeout=600)
         self.bundles: dict[str, Bundle] = {}
         self.done = as_completed(with_results=True, raise_errors=False)
         self.threads, self.counted = 0, -RECOUNT

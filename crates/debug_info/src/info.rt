@@ -1,16 +1,12 @@
 //! What compilers write of an image's functions.
 
-use crate::abbreviations::Abbreviations;
-use crate::budget::Budget;
 use crate::calls::{DEEPEST, InlinedCalls};
 use crate::entry::Entry;
 use crate::files::KnownFiles;
 use crate::origin::UnitView;
 use crate::scope::Scope;
 use crate::search::Search;
-use crate::sections::DebugSections;
-use crate::unit::{CompilationUnit, UnitBytes};
-use crate::value::number;
+use debug_entries::{Abbreviations, Budget, CompilationUnit, DebugSections, UnitBytes, number};
 use debug_lines::{DebugLines, UnitFiles};
 use std::alloc::{AllocError, Global};
 
@@ -112,6 +108,6 @@ impl<'a> DebugInfo<'a> {
 
     /// The files of a unit, by its first entry.
     fn files(&self, entry: &Entry<'a>) -> Option<UnitFiles<'a>> {
-        self.lines.files_of(entry.lines.number()?)
+        self.lines.files_of(entry.lines.offset()?)
     }
 }

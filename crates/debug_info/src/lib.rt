@@ -2,9 +2,6 @@
 //! 3.3.8).
 #![tactic(auto)]
 
-mod abbreviation;
-mod abbreviations;
-mod budget;
 mod calls;
 mod entry;
 mod files;
@@ -13,9 +10,6 @@ mod origin;
 mod ranges;
 mod scope;
 mod search;
-mod sections;
-mod unit;
-mod value;
 
 pub use calls::{CallsAt, DEEPEST, InlinedCall, InlinedCalls};
 pub use info::DebugInfo;

@@ -1,12 +1,11 @@
 //! The names of functions, which other entries than the call's may have (DWARF 5, 3.3.8.2).
 
-use crate::abbreviations::{Abbreviations, find};
-use crate::budget::Budget;
 use crate::entry::Entry;
 use crate::scope::Scope;
-use crate::sections::DebugSections;
-use crate::unit::{CompilationUnit, UnitBytes};
-use crate::value::{AttributeValue, number};
+use debug_entries::{
+    Abbreviations, AttributeValue, Budget, CompilationUnit, DebugSections, UnitBytes,
+    find_abbreviation, number,
+};
 use debug_lines::Reader;
 
 /// How many entries are looked at behind the first.
@@ -101,7 +100,7 @@ impl<'t, 'a> UnitView<'t, 'a> {
         let abbreviation = if at == self.unit.abbreviations {
             self.table.of(code)?
         } else {
-            find(self.scope.sections.abbreviations, at, code, budget)?
+            find_abbreviation(self.scope.sections.abbreviations, at, code, budget)?
         };
         Entry::read(&abbreviation, &mut entries, budget)
     }

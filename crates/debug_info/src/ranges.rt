@@ -1,9 +1,8 @@
 //! The ranges of addresses of an entry (DWARF 5, 2.17 and 7.25; DWARF 4, 2.17.3).
 
 use crate::entry::Entry;
-use crate::scope::{Scope, place};
-use crate::sections::reader_at;
-use crate::value::{AttributeValue, number};
+use crate::scope::Scope;
+use debug_entries::{AttributeValue, element_at, number, reader_at};
 use debug_lines::Reader;
 
 /// What says in `.debug_ranges` that an address follows, from which the next ranges go out.
@@ -157,11 +156,11 @@ fn whole<'a>(scope: &Scope<'a>, entry: &Entry<'a>) -> Option<AddressRange> {
 fn list<'a>(scope: &Scope<'a>, version: u16, value: &AttributeValue<'a>) -> Option<Reader<'a>> {
     let sections = &scope.sections;
     match value {
-        AttributeValue::Number(at) if version < 5 => reader_at(sections.ranges, *at),
-        AttributeValue::Number(at) => reader_at(sections.range_lists, *at),
+        AttributeValue::Offset(at) if version < 5 => reader_at(sections.ranges, *at),
+        AttributeValue::Offset(at) => reader_at(sections.range_lists, *at),
         AttributeValue::ListAt(number) => {
             let base = scope.range_lists?;
-            let mut offsets = reader_at(sections.range_lists, place(base, *number, 4)?)?;
+            let mut offsets = reader_at(sections.range_lists, element_at(base, *number, 4)?)?;
             let offset = u64::from(offsets.word()?);
             reader_at(sections.range_lists, base.checked_add(offset)?)
         }

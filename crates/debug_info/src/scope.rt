@@ -1,8 +1,7 @@
 //! What a unit's values mean: where its addresses, texts and lists of ranges stand.
 
 use crate::entry::Entry;
-use crate::sections::{DebugSections, reader_at};
-use crate::value::AttributeValue;
+use debug_entries::{AttributeValue, DebugSections};
 
 /// The most bytes of a name, with the 0 behind it.
 const LONGEST: usize = 80;
@@ -25,9 +24,9 @@ impl<'a> Scope<'a> {
         let mut scope = Scope {
             sections: *sections,
             base: 0,
-            range_lists: unit.range_lists.number(),
-            text_offsets: unit.text_offsets.number(),
-            addresses: unit.addresses.number(),
+            range_lists: unit.range_lists.offset(),
+            text_offsets: unit.text_offsets.offset(),
+            addresses: unit.addresses.offset(),
         };
         scope.base = scope.address(&unit.low).unwrap_or(0);
         scope
@@ -42,36 +41,22 @@ impl<'a> Scope<'a> {
         }
     }
 
-    /// The address of a number (DWARF 5, 7.27).
+    /// The address of a number.
     pub fn numbered_address(&self, number: u64) -> Option<u64> {
-        let at = place(self.addresses?, number, 8)?;
-        reader_at(self.sections.addresses, at)?.double_word()
+        self.sections.numbered_address(self.addresses?, number)
     }
 
     /// The name that a value is: fewer than 80 bytes in front of a 0.
     pub fn name(&self, value: &AttributeValue<'a>) -> Option<&'a [u8]> {
+        let sections = &self.sections;
         match value {
             AttributeValue::Text(text) => Some(*text),
-            AttributeValue::InfoText(at) => name_in(self.sections.texts, *at),
-            AttributeValue::LineText(at) => name_in(self.sections.line_texts, *at),
+            AttributeValue::InfoText(at) => sections.text(*at, LONGEST),
+            AttributeValue::LineText(at) => sections.line_text(*at, LONGEST),
             AttributeValue::TextAt(number) => {
-                let at = place(self.text_offsets?, *number, 4)?;
-                let offset = reader_at(self.sections.text_offsets, at)?.word()?;
-                name_in(self.sections.texts, u64::from(offset))
+                sections.numbered_text(self.text_offsets?, *number, LONGEST)
             }
             _ => None,
         }
     }
-}
-
-/// Where an element of a table is, by its number and its size.
-pub fn place(base: u64, number: u64, size: u64) -> Option<u64> {
-    base.checked_add(number.checked_mul(size)?)
-}
-
-/// The name that begins at a place of a section.
-fn name_in(section: &[u8], at: u64) -> Option<&[u8]> {
-    let rest = section.get(at as usize..)?;
-    let end = rest.iter().take(LONGEST).position(|byte| *byte == 0)?;
-    rest.get(..end)
 }

@@ -1,14 +1,18 @@
 //! The search for the inlined calls at some addresses.
 
-use crate::abbreviation::Abbreviation;
-use crate::budget::Budget;
 use crate::calls::{DEEPEST, InlinedCall, InlinedCalls, NestedCall};
 use crate::entry::Entry;
 use crate::files::KnownFiles;
 use crate::origin::UnitView;
 use crate::ranges::{AddressRange, Ranges};
-use crate::value::number;
+use debug_entries::{Abbreviation, Budget, number};
 use debug_lines::{FileLine, Reader};
+
+/// DW_TAG_inlined_subroutine.
+const INLINED: u64 = 0x1D;
+
+/// DW_TAG_subprogram.
+const FUNCTION: u64 = 0x2E;
 
 /// What a function or an inlined call costs besides its attributes, and a range besides the
 /// addresses in it.
@@ -105,7 +109,8 @@ impl<'a> Search<'a> {
         entries: &mut Reader<'a>,
         depth: u64,
     ) -> Option<()> {
-        if !abbreviation.has_code() {
+        let is_inlined = abbreviation.tag == INLINED;
+        if !is_inlined && abbreviation.tag != FUNCTION {
             return abbreviation.skip(entries, &mut self.budget);
         }
         self.budget.spend(ENTRY)?;
@@ -113,7 +118,6 @@ impl<'a> Search<'a> {
         if self.open.len() >= DEEPEST as usize {
             return Some(());
         }
-        let is_inlined = abbreviation.is_inlined();
         let open = OpenEntry {
             depth,
             is_inlined,

@@ -1,45 +1,43 @@
 //! What an entry says, as far as variables need it (DWARF 5, 7.5.4).
 
-use crate::abbreviation::EntryLayout;
-use crate::budget::ReadingBudget;
-use crate::value::FieldValue;
+use debug_entries::{Abbreviation, AttributeValue, Budget};
 use debug_lines::Reader;
 
-/// The attributes of an entry: one that it doesn't have is `FieldValue::Other`.
+/// The attributes of an entry: one that it doesn't have is `AttributeValue::Other`.
 #[derive(Clone, Copy)]
 pub struct VariableEntry<'a> {
     /// DW_AT_location.
-    pub location: FieldValue<'a>,
+    pub location: AttributeValue<'a>,
     /// DW_AT_name.
-    pub name: FieldValue<'a>,
+    pub name: AttributeValue<'a>,
     /// DW_AT_byte_size.
-    pub size: FieldValue<'a>,
+    pub size: AttributeValue<'a>,
     /// DW_AT_low_pc.
-    pub low: FieldValue<'a>,
+    pub low: AttributeValue<'a>,
     /// DW_AT_high_pc: an address, or how far it is from the low one.
-    pub high: FieldValue<'a>,
+    pub high: AttributeValue<'a>,
     /// DW_AT_upper_bound.
-    pub last: FieldValue<'a>,
+    pub last: AttributeValue<'a>,
     /// DW_AT_abstract_origin or DW_AT_specification: the entry that says more.
-    pub origin: FieldValue<'a>,
+    pub origin: AttributeValue<'a>,
     /// DW_AT_count.
-    pub count: FieldValue<'a>,
+    pub count: AttributeValue<'a>,
     /// DW_AT_decl_file.
-    pub file: FieldValue<'a>,
+    pub file: AttributeValue<'a>,
     /// DW_AT_decl_line.
-    pub line: FieldValue<'a>,
+    pub line: AttributeValue<'a>,
     /// DW_AT_frame_base.
-    pub frame: FieldValue<'a>,
+    pub frame: AttributeValue<'a>,
     /// DW_AT_type.
-    pub type_: FieldValue<'a>,
+    pub type_: AttributeValue<'a>,
     /// DW_AT_stmt_list, of a unit.
-    pub lines: FieldValue<'a>,
+    pub lines: AttributeValue<'a>,
     /// DW_AT_str_offsets_base, of a unit.
-    pub text_offsets: FieldValue<'a>,
+    pub text_offsets: AttributeValue<'a>,
     /// DW_AT_addr_base, of a unit.
-    pub addresses: FieldValue<'a>,
+    pub addresses: AttributeValue<'a>,
     /// DW_AT_producer, of a unit.
-    pub producer: FieldValue<'a>,
+    pub producer: AttributeValue<'a>,
     /// Whether it is said that all of a function's calls have entries (DW_AT_call_all_calls,
     /// DW_AT_GNU_all_call_sites).
     pub has_all_calls: bool,
@@ -48,30 +46,30 @@ pub struct VariableEntry<'a> {
 impl<'a> VariableEntry<'a> {
     /// An entry without attributes.
     const NOTHING: VariableEntry<'static> = VariableEntry {
-        location: FieldValue::Other,
-        name: FieldValue::Other,
-        size: FieldValue::Other,
-        low: FieldValue::Other,
-        high: FieldValue::Other,
-        last: FieldValue::Other,
-        origin: FieldValue::Other,
-        count: FieldValue::Other,
-        file: FieldValue::Other,
-        line: FieldValue::Other,
-        frame: FieldValue::Other,
-        type_: FieldValue::Other,
-        lines: FieldValue::Other,
-        text_offsets: FieldValue::Other,
-        addresses: FieldValue::Other,
-        producer: FieldValue::Other,
+        location: AttributeValue::Other,
+        name: AttributeValue::Other,
+        size: AttributeValue::Other,
+        low: AttributeValue::Other,
+        high: AttributeValue::Other,
+        last: AttributeValue::Other,
+        origin: AttributeValue::Other,
+        count: AttributeValue::Other,
+        file: AttributeValue::Other,
+        line: AttributeValue::Other,
+        frame: AttributeValue::Other,
+        type_: AttributeValue::Other,
+        lines: AttributeValue::Other,
+        text_offsets: AttributeValue::Other,
+        addresses: AttributeValue::Other,
+        producer: AttributeValue::Other,
         has_all_calls: false,
     };
 
     /// Reads the values of an entry.
     pub fn read(
-        abbreviation: &EntryLayout<'a>,
+        abbreviation: &Abbreviation<'a>,
         entries: &mut Reader<'a>,
-        budget: &mut ReadingBudget,
+        budget: &mut Budget,
     ) -> Option<VariableEntry<'a>> {
         let mut entry: VariableEntry<'a> = VariableEntry::NOTHING;
         for attribute in abbreviation.attributes {
@@ -82,7 +80,7 @@ impl<'a> VariableEntry<'a> {
     }
 
     /// Gives an attribute its value.
-    fn put(&mut self, name: u64, value: FieldValue<'a>) {
+    fn put(&mut self, name: u64, value: AttributeValue<'a>) {
         match name {
             0x02 => self.location = value,
             0x03 => self.name = value,

@@ -2,7 +2,7 @@
 
 use crate::declaration::{Declaration, VariableName};
 use crate::search::VariableSearch;
-use crate::sections::VariableSections;
+use debug_entries::DebugSections;
 use std::alloc::{AllocError, Global};
 
 /// What the place of a variable is counted from.
@@ -164,7 +164,7 @@ impl FrameVariables {
     /// bytes are one. `Err` where there is no memory for them: some 10 MiB at most.
     pub fn of(alloc: Global, file: &[u8]) -> Result<FrameVariables, AllocError> {
         let mut search = VariableSearch::new(alloc);
-        search.search_all(alloc, &VariableSections::of(file))?;
+        search.search_all(alloc, &DebugSections::of(file))?;
         let VariableSearch {
             mut functions,
             mut variables,

@@ -3,17 +3,12 @@
 //! What cannot be read is left out: a file with wrong entries has fewer variables.
 #![tactic(auto)]
 
-mod abbreviation;
-mod budget;
 mod declaration;
 mod entry;
 mod frame_table;
 mod object_table;
 mod search;
-mod sections;
 mod types;
-mod unit;
-mod value;
 
 pub use declaration::{Declaration, VariableName};
 pub use frame_table::{

@@ -1,14 +1,13 @@
 //! The search for variables through `.debug_info`.
 
-use crate::abbreviation::{EntryLayout, EntryLayouts};
-use crate::budget::ReadingBudget;
 use crate::declaration::{Declaration, VariableName};
 use crate::entry::VariableEntry;
 use crate::frame_table::{DeclaredObject, FrameBase, FrameFunction, FrameVariable};
-use crate::sections::VariableSections;
 use crate::types::{TypeSize, UnitTypes};
-use crate::unit::{SectionUnit, VariableUnit};
-use crate::value::{FieldValue, number};
+use debug_entries::{
+    Abbreviation, Abbreviations, AttributeValue, Budget, CompilationUnit, DebugSections, UnitBytes,
+    number,
+};
 use debug_lines::Reader;
 use std::alloc::{AllocError, Global};
 
@@ -17,6 +16,9 @@ const MOST: usize = 65_536;
 
 /// How many functions may be in one another.
 const DEEPEST: usize = 64;
+
+/// The most bytes of a text that is looked at, with the 0 behind it.
+const LONGEST: usize = 1_024;
 
 /// DW_TAG_formal_parameter and DW_TAG_variable.
 const PARAMETER: u64 = 0x05;
@@ -61,7 +63,7 @@ struct OpenFunction {
 /// A unit, its first entry and its types.
 #[derive(Clone, Copy)]
 struct UnitScope<'t, 's, 'a> {
-    sections: &'s VariableSections<'a>,
+    sections: &'s DebugSections<'a>,
     first: VariableEntry<'a>,
     types: UnitTypes<'t, 'a>,
     /// Whether gcc wrote it, which says of a function without calls that all have entries.
@@ -71,7 +73,7 @@ struct UnitScope<'t, 's, 'a> {
 /// A search through `.debug_info`.
 #[derive(Drop)]
 pub struct VariableSearch {
-    budget: ReadingBudget,
+    budget: Budget,
     pub functions: Vec<FrameFunction>,
     pub variables: Vec<FrameVariable>,
     pub declared: Vec<DeclaredObject>,
@@ -85,7 +87,7 @@ impl VariableSearch {
     /// One that has found nothing.
     pub fn new(alloc: Global) -> VariableSearch {
         VariableSearch {
-            budget: ReadingBudget::FULL,
+            budget: Budget::FULL,
             functions: Vec::new(alloc),
             variables: Vec::new(alloc),
             declared: Vec::new(alloc),
@@ -98,9 +100,9 @@ impl VariableSearch {
     pub fn search_all(
         &mut self,
         alloc: Global,
-        sections: &VariableSections<'_>,
+        sections: &DebugSections<'_>,
     ) -> Result<(), AllocError> {
-        let mut table = EntryLayouts::new(alloc);
+        let mut table = Abbreviations::new(alloc);
         let mut at = 0;
         for _ in 0..self.budget.left() {
             let Some(bytes) = self.next_unit(sections, at) else {
@@ -116,21 +118,17 @@ impl VariableSearch {
     }
 
     /// The unit at an offset, while there is something left to be spent.
-    fn next_unit<'a>(
-        &mut self,
-        sections: &VariableSections<'a>,
-        at: u64,
-    ) -> Option<SectionUnit<'a>> {
+    fn next_unit<'a>(&mut self, sections: &DebugSections<'a>, at: u64) -> Option<UnitBytes<'a>> {
         self.budget.spend(1)?;
-        SectionUnit::at(sections.info, at)
+        UnitBytes::at(sections.info, at)
     }
 
     /// Goes through a unit, and enters in its functions whether it was optimized.
     fn search_unit<'a>(
         &mut self,
-        sections: &VariableSections<'a>,
-        unit: &VariableUnit<'a>,
-        table: &EntryLayouts<'a>,
+        sections: &DebugSections<'a>,
+        unit: &CompilationUnit<'a>,
+        table: &Abbreviations<'a>,
     ) -> Result<(), AllocError> {
         let functions = self.functions.len();
         self.is_optimized = false;
@@ -163,7 +161,7 @@ impl VariableSearch {
     /// The first entry of a unit, if others are in it.
     fn first_entry<'a>(
         &mut self,
-        table: &EntryLayouts<'a>,
+        table: &Abbreviations<'a>,
         entries: &mut Reader<'a>,
     ) -> Option<VariableEntry<'a>> {
         let abbreviation = table.of(number(entries)?)?;
@@ -211,7 +209,7 @@ impl VariableSearch {
         &mut self,
         scope: &UnitScope<'_, '_, 'a>,
         entries: &mut Reader<'a>,
-    ) -> Option<Option<EntryLayout<'a>>> {
+    ) -> Option<Option<Abbreviation<'a>>> {
         self.budget.spend(1)?;
         let code = number(entries)?;
         if code == 0 {
@@ -233,7 +231,7 @@ impl VariableSearch {
     fn enter<'a>(
         &mut self,
         scope: &UnitScope<'_, '_, 'a>,
-        abbreviation: &EntryLayout<'a>,
+        abbreviation: &Abbreviation<'a>,
         entry: &VariableEntry<'a>,
         depth: u64,
     ) -> Result<(), AllocError> {
@@ -279,8 +277,8 @@ impl VariableSearch {
         entry: &VariableEntry<'a>,
     ) -> Result<(), AllocError> {
         let expression = match entry.location {
-            FieldValue::Block(expression) => expression,
-            FieldValue::Offset(_) => {
+            AttributeValue::Block(expression) => expression,
+            AttributeValue::Offset(_) | AttributeValue::ListAt(_) => {
                 self.is_optimized = true;
                 return Ok(());
             }
@@ -355,12 +353,12 @@ impl VariableSearch {
 impl<'t, 's, 'a> UnitScope<'t, 's, 'a> {
     /// A function that has a frame and one range of addresses.
     fn function(&self, entry: &VariableEntry<'a>) -> Option<FrameFunction> {
-        let FieldValue::Block(expression) = entry.frame else {
+        let AttributeValue::Block(expression) = entry.frame else {
             return None;
         };
         let low = self.address(&entry.low)?;
         let high = match entry.high {
-            FieldValue::Number(size) => low.checked_add(size)?,
+            AttributeValue::Number(size) => low.checked_add(size)?,
             _ => self.address(&entry.high)?,
         };
         Some(FrameFunction {
@@ -382,7 +380,7 @@ impl<'t, 's, 'a> UnitScope<'t, 's, 'a> {
             BASE_31 => VariablePlace::Frame(Some(FrameBase::StackPointer), operations.signed()?),
             AT_ADDRESS => VariablePlace::Image(operations.double_word()?),
             AT_NUMBERED_ADDRESS => {
-                let number = FieldValue::AddressAt(number(&mut operations)?);
+                let number = AttributeValue::AddressAt(number(&mut operations)?);
                 VariablePlace::Image(self.address(&number)?)
             }
             _ => return None,
@@ -395,10 +393,10 @@ impl<'t, 's, 'a> UnitScope<'t, 's, 'a> {
     }
 
     /// The address that a value is.
-    fn address(&self, value: &FieldValue<'a>) -> Option<u64> {
+    fn address(&self, value: &AttributeValue<'a>) -> Option<u64> {
         match value {
-            FieldValue::Address(address) => Some(*address),
-            FieldValue::AddressAt(number) => {
+            AttributeValue::Address(address) => Some(*address),
+            AttributeValue::AddressAt(number) => {
                 let base = self.first.addresses.offset()?;
                 self.sections.numbered_address(base, *number)
             }
@@ -407,7 +405,7 @@ impl<'t, 's, 'a> UnitScope<'t, 's, 'a> {
     }
 
     /// An entry with what another entry says that it refers to.
-    fn whole(&self, entry: &VariableEntry<'a>, budget: &mut ReadingBudget) -> VariableEntry<'a> {
+    fn whole(&self, entry: &VariableEntry<'a>, budget: &mut Budget) -> VariableEntry<'a> {
         match self.origin(entry, budget) {
             Some(origin) => VariableEntry {
                 name: origin.name,
@@ -421,30 +419,26 @@ impl<'t, 's, 'a> UnitScope<'t, 's, 'a> {
     }
 
     /// What the type of a variable has, if that is known.
-    fn size(&self, entry: &VariableEntry<'a>, budget: &mut ReadingBudget) -> Option<TypeSize> {
+    fn size(&self, entry: &VariableEntry<'a>, budget: &mut Budget) -> Option<TypeSize> {
         self.types.size(entry.type_.entry()?, budget)
     }
 
     /// The entry that an entry refers to, which says more.
-    fn origin(
-        &self,
-        entry: &VariableEntry<'a>,
-        budget: &mut ReadingBudget,
-    ) -> Option<VariableEntry<'a>> {
+    fn origin(&self, entry: &VariableEntry<'a>, budget: &mut Budget) -> Option<VariableEntry<'a>> {
         let mut entries = self.types.unit.entries_at(entry.origin.entry()?)?;
         let abbreviation = self.types.table.of(number(&mut entries)?)?;
         VariableEntry::read(&abbreviation, &mut entries, budget)
     }
 
     /// The text that a value is.
-    fn text(&self, value: &FieldValue<'a>) -> Option<&'a [u8]> {
+    fn text(&self, value: &AttributeValue<'a>) -> Option<&'a [u8]> {
         let sections = self.sections;
         match value {
-            FieldValue::Text(text) => Some(*text),
-            FieldValue::InfoText(at) => sections.text(*at),
-            FieldValue::LineText(at) => sections.line_text(*at),
-            FieldValue::TextAt(number) => {
-                sections.numbered_text(self.first.text_offsets.offset()?, *number)
+            AttributeValue::Text(text) => Some(*text),
+            AttributeValue::InfoText(at) => sections.text(*at, LONGEST),
+            AttributeValue::LineText(at) => sections.line_text(*at, LONGEST),
+            AttributeValue::TextAt(number) => {
+                sections.numbered_text(self.first.text_offsets.offset()?, *number, LONGEST)
             }
             _ => None,
         }

@@ -1,10 +1,7 @@
 //! How many bytes a type has, by its entries (DWARF 5, 5.1 to 5.15).
 
-use crate::abbreviation::EntryLayouts;
-use crate::budget::ReadingBudget;
 use crate::entry::VariableEntry;
-use crate::unit::VariableUnit;
-use crate::value::number;
+use debug_entries::{Abbreviations, Budget, CompilationUnit, number};
 use debug_lines::Reader;
 
 /// How many types are followed, as a typedef's and an array's.
@@ -43,14 +40,14 @@ pub struct TypeSize {
 /// The types of a unit.
 #[derive(Clone, Copy)]
 pub struct UnitTypes<'t, 'a> {
-    pub unit: VariableUnit<'a>,
-    pub table: &'t EntryLayouts<'a>,
+    pub unit: CompilationUnit<'a>,
+    pub table: &'t Abbreviations<'a>,
 }
 
 impl<'t, 'a> UnitTypes<'t, 'a> {
     /// The bytes of the type at an offset of the unit, where they are known: not of an array whose
     /// bounds are no numbers, nor of a pointer to a member, and not more than 2^32.
-    pub fn size(&self, offset: u64, budget: &mut ReadingBudget) -> Option<TypeSize> {
+    pub fn size(&self, offset: u64, budget: &mut Budget) -> Option<TypeSize> {
         let (mut at, mut elements, mut is_array) = (offset, 1u64, false);
         for _ in 0..FOLLOWED {
             let mut entries = self.unit.entries_at(at)?;
@@ -75,7 +72,7 @@ impl<'t, 'a> UnitTypes<'t, 'a> {
     }
 
     /// How many elements an array has, by the entries behind its own.
-    fn elements(&self, mut entries: Reader<'a>, budget: &mut ReadingBudget) -> Option<u64> {
+    fn elements(&self, mut entries: Reader<'a>, budget: &mut Budget) -> Option<u64> {
         let mut elements = 1u64;
         for _ in 0..DIMENSIONS {
             let code = number(&mut entries)?;

@@ -18,7 +18,7 @@ const HEADER_SIZE: u64 = 64;
 const PROGRAM_HEADER_SIZE: u64 = 56;
 
 /// ELF64, little endian, version 1.
-const IDENTIFICATION: [u8; 16] = [0x7F, b'E', b'L', b'F', 2, 1, 1, 0, 0, 0, 0, 0, 0, 0, 0, 0];
+static IDENTIFICATION: [u8; 16] = [0x7F, b'E', b'L', b'F', 2, 1, 1, 0, 0, 0, 0, 0, 0, 0, 0, 0];
 
 /// ET_CORE and EM_AARCH64.
 const CORE_FOR_AARCH64: u32 = 4 + (183 << 16);

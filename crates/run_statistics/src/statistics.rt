@@ -11,7 +11,7 @@ use mte_tenant::TenantParts;
 use scudo_heap::HeapCall;
 
 /// The heap calls, one of each kind, in the order of their services' numbers.
-pub const KINDS: [HeapCall; 6] = [
+pub static KINDS: [HeapCall; 6] = [
     HeapCall::Malloc { size: 0 },
     HeapCall::Free { pointer: 0 },
     HeapCall::Calloc { count: 0, size: 0 },

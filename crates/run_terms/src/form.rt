@@ -28,7 +28,7 @@ pub enum ExpectedWord {
 }
 
 /// The words of an admission; `async` may follow.
-const ADMIT: [ExpectedWord; 12] = [
+static ADMIT: [ExpectedWord; 12] = [
     ExpectedWord::Word("admit"),
     ExpectedWord::Tenant,
     ExpectedWord::Word("image"),

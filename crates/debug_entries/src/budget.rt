@@ -1,7 +1,7 @@
 //! What reading may cost, whatever the sections say.
 
-/// How much may be spent on all addresses of an image: one for each abbreviation, entry, attribute
-/// and range that is read, and as much for what takes as long.
+/// How much may be spent on a search of an image: one for each abbreviation, entry, attribute and
+/// range that is read, and as much for what takes as long.
 const WHOLE: u64 = 16_000_000;
 
 /// What is left to be spent.

@@ -15,15 +15,10 @@ const BYTES: u64 = 32;
 /// DW_FORM_implicit_const.
 const IMPLICIT: u64 = 0x21;
 
-/// DW_TAG_inlined_subroutine.
-const INLINED: u64 = 0x1D;
-
-/// DW_TAG_subprogram.
-const FUNCTION: u64 = 0x2E;
-
 /// An attribute of an abbreviation.
 #[derive(Clone, Copy)]
 pub struct Attribute {
+    /// DW_AT.
     pub name: u64,
     form: u64,
     /// The value of each entry, if the form is DW_FORM_implicit_const.
@@ -89,17 +84,20 @@ impl<'a> Iterator for Attributes<'a> {
 /// What the entries of a code have.
 #[derive(Clone, Copy)]
 pub struct Abbreviation<'a> {
-    pub code: u64,
+    pub(crate) code: u64,
+    /// DW_TAG.
+    pub tag: u64,
+    /// Whether other entries follow up to a code of 0, which are its own.
     pub has_children: bool,
+    /// What each entry has.
     pub attributes: Attributes<'a>,
-    tag: u64,
     /// The bytes of an entry's values, where all entries have as many.
     size: Option<u64>,
 }
 
 impl<'a> Abbreviation<'a> {
     /// Reads the next abbreviation of a table. Code 0 ends the table.
-    pub fn read(table: &mut Reader<'a>, budget: &mut Budget) -> Option<Abbreviation<'a>> {
+    pub(crate) fn read(table: &mut Reader<'a>, budget: &mut Budget) -> Option<Abbreviation<'a>> {
         let code = number(table)?;
         if code == 0 {
             return None;
@@ -120,21 +118,11 @@ impl<'a> Abbreviation<'a> {
         *table = all.table;
         Some(Abbreviation {
             code,
+            tag,
             has_children,
             attributes,
-            tag,
             size,
         })
-    }
-
-    /// Whether its entries are functions or inlined calls.
-    pub fn has_code(&self) -> bool {
-        self.tag == FUNCTION || self.tag == INLINED
-    }
-
-    /// Whether its entries are inlined calls.
-    pub fn is_inlined(&self) -> bool {
-        self.tag == INLINED
     }
 
     /// Passes over the values of an entry.

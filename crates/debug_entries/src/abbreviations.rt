@@ -92,7 +92,7 @@ impl<'a> Abbreviations<'a> {
 
 /// The abbreviation of a code in the table at an offset of `.debug_abbrev`, of which no more is
 /// kept.
-pub fn find<'a>(
+pub fn find_abbreviation<'a>(
     section: &'a [u8],
     offset: u64,
     code: u64,
