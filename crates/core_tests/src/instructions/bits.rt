@@ -1,4 +1,4 @@
-//! Masks of the logical immediates. The other functions are run by the vectors of `a64_vectors`.
+//! Masks of the logical immediates. The other functions are run by recorded steps (`tests/vectors`).
 
 use a64_bits::{bit_masks, is_mask};
 
