@@ -10,6 +10,7 @@ import sys
 import checking
 import pytest
 
+from tests.support.instructions import call, program
 from tests.support.once import make_once
 from tests.support.places import EXAMPLES, ROOT
 from tests.support.running import Ran, run, succeed
@@ -255,6 +256,21 @@ def test_variables_that_are_not_told(
         assert "variable" not in check(alone, stripped, kinds="places").errors
 
 
+def test_names_of_variables(alone: pathlib.Path, tmp_path: pathlib.Path) -> None:
+    """A symbol with a letter that no terminal shows is a question mark. An image that has no
+    symbols, no sections and no DWARF has no variables."""
+    path, renamed = image(tmp_path, "clang-O0", "place_bugs.c", "BUG=8"), tmp_path / "renamed.elf"
+    for name, shown in (("another", "another"), ("a\nb", "?")):
+        words = ["--strip-debug", "--redefine-sym", f"text_of_image={name}"]
+        succeed(["llvm-objcopy", *words, path, renamed])
+        assert f" right of the 16-byte variable `{shown}` at " in check(
+            alone, renamed, kinds="places").errors
+    bare = tmp_path / "bare.elf"
+    bare.write_bytes(program(*call(0, 0)))
+    ran = check(alone, bare, kinds="places")
+    assert ran.status == 0 and "Cause" not in ran.errors, ran.errors
+
+
 @pytest.mark.parametrize("build", [it for it in sorted(BUILDS) if it.endswith("-O0")])
 def test_an_overflow_after_a_jump(
     alone: pathlib.Path, tmp_path: pathlib.Path, build: str
@@ -297,7 +313,7 @@ def test_kinds(alone: pathlib.Path, tmp_path: pathlib.Path) -> None:
         errors = run([alone, f"--check={two}", path]).errors
         said = "Cause: [check]" in errors or "lost at the end" in errors
         assert said == (kind != "undefined"), (kind, two, errors)
-    for wrong in ("leak", "leaks,", "Frees"):
+    for wrong in ("leak", "leaks,", "Frees", "", "leaks, frees"):
         told = run([alone, f"--check={wrong}", cases["leaks"]])
         assert told.status == 2 and "--check takes provenance, frees" in told.errors
 

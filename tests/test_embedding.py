@@ -281,10 +281,12 @@ def test_what_is_measured(shared: pathlib.Path) -> None:
     ran = started(it, "2000")
     assert (ran.status, ran.errors) == (0, "")
     lines = [re.sub(r"-?[0-9]+[.][0-9]+", "F", it) for it in ran.output.splitlines()]
-    assert lines[:3] == ["a tenant of 136 steps and 24 pages: F us, without its steps F us",
+    assert lines[:5] == ["a tenant of 136 steps and 24 pages: F us, without its steps F us",
+                         "a read: F ns, over two pages F ns; a write: F ns, over two pages F ns",
+                         "a page that is mapped and unmapped: F ns",
                          "a traced access: F ns over the run", "heap calls: F million a second"]
-    grown = re.fullmatch(r"2000 sessions, tenants and heap traces: ([0-9]+) KiB more", lines[3])
-    assert grown and int(grown[1]) < 2000 and len(lines) == 4
+    grown = re.fullmatch(r"2000 sessions, tenants and heap traces: ([0-9]+) KiB more", lines[5])
+    assert grown and int(grown[1]) < 2000 and len(lines) == 6
 
 
 @pytest.mark.parametrize("language, file", [("rust", "calls.rs"), ("python", "calls.py")])

@@ -165,6 +165,17 @@ print(max(fuzz.counts) == 255)
 """) == "True\n"
 
 
+def test_the_edges_of_a_loop(shared: pathlib.Path) -> None:
+    """A loop of three turns takes its branch twice, and each time by the same count."""
+    # mov x0, #3; sub x0, x0, #1; cbnz x0, .-4; mov x8, #0; svc #0
+    image = program(0xD2800060, 0xD1000400, 0xB5FFFFE0, 0xD2800008, 0xD4000001)
+    assert told(shared, f"""
+with Fuzz(bytes.fromhex({image.hex()!r}), setup=[1], pages=60, room=16) as fuzz:
+    assert fuzz.run(b"").number == 0
+    print(list(filter(None, fuzz.counts)))
+""") == "[2]\n"
+
+
 def test_runs_are_those_of_fresh_tenants(shared: pathlib.Path) -> None:
     """Some thousand runs from a snapshot: each ends as the tenant does that starts anew, and the
     process does not grow."""

@@ -532,6 +532,47 @@ HUGE = [b"m0,ffffffffffffffff", b"m10000,ffffffffffffffff", b"m10000,fff", b"x10
         b"M10000,ffffffffffffffff:00", b"p" + b"f" * 16000, b"Hg" + b"f" * 16000]
 
 
+# /proc/1/maps, and what is no file of the front.
+MAPS, OTHER = b"/proc/1/maps".hex().encode(), b"/proc".hex().encode()
+# What a packet asks for, by the parts of its text, and how its answer begins.
+ASKED = (
+    (b"?", b"T05thread:p1.1;"),
+    (b"qSupported:multiprocess+;swbreak+", b"PacketSize=4000;QStartNoAckMode+;multiprocess+;"),
+    (b"qXfer:features:read:target.xml:0,1000", b"l<?xml version=\"1.0\"?>"),
+    (b"qXfer:features:read:target.xml:2,5", b"mxml v"),
+    (b"qXfer:siginfo:read::0,4", b"m\x05\x00\x00\x00"),
+    (b"qXfer:siginfo:read::1,2", b"m\x00\x00"),
+    (b"qSymbol::", b""),
+    (b"vFile:open:" + MAPS + b",0,1c0", b"F3"), (b"vFile:open:" + OTHER + b",0,1c0", b"F-1,2"),
+    (b"vFile:readlink:" + OTHER, b"F-1,2"),
+    (b"P0=0500000000000000", b"E."), (b"M400200,2:01ff", b"E01"), (b"X400200,4:$}*#", b"E01"),
+    (b"G0500000000000000", b"E01"), (b"QMemTags:400200,1:1:03", b"E01"),
+)
+
+
+@pytest.mark.parametrize(("packet", "wanted"), ASKED, ids=[it[0][:24].decode() for it in ASKED])
+def test_what_gdb_asks(alone: pathlib.Path, packet: bytes, wanted: bytes) -> None:
+    """Packets as GDB 13.1 sends them: the object, the offset and the length, the path, and what
+    would change the tenant. A feature is offered where GDB names it."""
+    front = Front([str(alone), "--gdb", str(EXAMPLES / "hi.elf")])
+    answer = front.ask(packet)
+    assert answer.startswith(wanted) and (wanted or not answer), answer
+    if packet.startswith(b"qSupported"):
+        assert answer.endswith(b";swbreak+")
+        assert b"swbreak" not in front.ask(b"qSupported:multiprocess+")
+    assert front.ask_user("why").startswith(b"it is running, after 0 steps")
+    assert front.end() == (0, b"")
+
+
+def test_frames(alone: pathlib.Path) -> None:
+    """A frame of GDB 13.1 with escaped bytes and one of its documentation, byte for byte; one with
+    another sum is asked for again."""
+    sent = b"$X400200,4:}\x04}]}\n}\x03#7a"
+    assert sent == frame(b"X400200,4:$}*#")
+    ran = flooded(alone, sent + b"$?#3f" + sent.replace(b"7a", b"7b"))
+    assert (ran.status, ran.out) == (0, b"+$E01#a6+$T05thread:p1.1;#a6-")
+
+
 def flooded(alone: pathlib.Path, stream: bytes, memory: int = MEMORY) -> Ran:
     """What came of a front that reads a stream to its end, within a minute and some memory."""
     return run([alone, "--gdb", EXAMPLES / "hi.elf"], stdin=stream, memory=memory)

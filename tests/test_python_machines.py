@@ -2,6 +2,7 @@
 
 import pathlib
 
+from tests.support import small_programs
 from tests.support.growth import MEASURED
 from tests.support.instructions import call, move, program
 from tests.support.places import IMAGES
@@ -106,3 +107,66 @@ def turn():
     machine.write(machine.regs.x9, b"12345678")
     assert len(machine.regions()) == 3 and machine.slice(100).number == 0x31
 """ + MEASURED) == "\n"
+
+
+# A machine step by step: each instruction is tested for care, and after each the chunks that were
+# given are compared with the laws of docs/PROVED.md.
+WATCHED = """
+PLAIN, SVC = (1 << 56) - 1, 0xd4000001
+MALLOC, FREE, CALLOC, REALLOC, MEMALIGN = range(3, 8)
+
+def header(machine, pointer):
+    return machine.read((pointer & PLAIN) - 16, 8)
+
+def may_read(machine, pointer):
+    try:
+        return machine.load_tag(pointer) == pointer >> 56 & 15
+    except Fault:
+        return False
+
+def stores_tags(word):
+    return word & 0xff200000 == 0xd9200000 and word & 0xc00 != 0 or word & 0xfe400000 == 0x68000000
+
+def is_lawful(machine, pointer, size, is_live):
+    if not is_live:
+        return not may_read(machine, pointer)
+    end = pointer + (size + 15 & ~15)
+    inside = [may_read(machine, it) for it in range(pointer, end, 16)]
+    return all([*inside, may_read(machine, end - 1)]) and not any(
+        may_read(machine, it) for it in (pointer - 1, end))
+
+def watched(image, slices):
+    machine, chunks, is_careful, steps = Machine(image, seed=5, pages=60, room=16), {}, True, 0
+    while machine.is_running and steps < sum(slices):
+        x, word = list(machine.regs.x), int.from_bytes(machine.read(machine.regs.pc, 4), "little")
+        call = x[8] if word == SVC else 0
+        if call in (FREE, REALLOC):
+            known = chunks.get(x[0] & PLAIN)
+            is_careful &= bool(known) and (known[0], known[2], known[3]) == (
+                x[0], header(machine, x[0]), True)
+            chunks[x[0] & PLAIN] = (*known[:3], False)
+        is_careful &= not stores_tags(word)
+        machine.slice(1)
+        steps += 1
+        sizes = {MALLOC: x[0], CALLOC: x[0] * x[1], REALLOC: x[1], MEMALIGN: x[1]}
+        if call in sizes:
+            given = machine.regs.x0
+            chunks[given & PLAIN] = (given, sizes[call], header(machine, given), True)
+        assert not is_careful or all(
+            is_lawful(machine, pointer, size, is_live)
+            for pointer, size, _, is_live in chunks.values()), (steps, chunks)
+    return is_careful, len(chunks), machine.tenant
+"""
+
+
+def test_a_careful_tenant(shared: pathlib.Path) -> None:
+    """The chunks of a tenant that is careful may be used to their last granule and not around it,
+    and freed ones are out of reach. A tenant that stores a tag is not careful."""
+    careful, careless = (program(it).hex() for it in (small_programs.CAREFUL,
+                                                      small_programs.CARELESS))
+    assert told(shared, WATCHED + f"""
+is_careful, count, tenant = watched(bytes.fromhex({careful!r}), [7, 1, 20, 100])
+assert is_careful and count >= 3 and (tenant.status, tenant.steps) == (TenantStatus.FAULT, 40)
+is_careful, _, tenant = watched(bytes.fromhex({careless!r}), [7, 1, 20, 100])
+assert not is_careful and tenant.status == TenantStatus.EXIT
+""") == ""

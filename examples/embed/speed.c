@@ -1,7 +1,7 @@
 /*
- * Measures calls of the library: a short tenant alone, what an access costs a traced run, a replay
- * of 257,000 heap calls, and whether many sessions, tenants and heap traces take more memory than
- * few.
+ * Measures calls of the library: a short tenant alone, reads, writes and mapped pages of a memory,
+ * what an access costs a traced run, a replay of 257,000 heap calls, and whether many sessions,
+ * tenants and heap traces take more memory than few.
  *
  *     speed [TURNS]
  *
@@ -124,6 +124,43 @@ static double of_trace(void) {
     return now() - begin;
 }
 
+/* Of reads or writes of eight bytes, from a place on at seven addresses in turn; two neighbouring
+   pages have tags other than 0. */
+static uint64_t place;
+static bool is_write;
+
+static double of_accesses(void) {
+    uint8_t bytes[8] = {0};
+    tb_fault fault;
+    tb_memory_init(pages, PAGES, &state, false);
+    for (int i = 0; i < 2; i++)
+        tb_map(pages, PAGES, DATA / 4096 + i, TB_READ | TB_WRITE | TB_TAGGED);
+    tb_store_tags(pages, PAGES, &state, DATA, 512, 5, false, &fault);
+    const double begin = now();
+    for (int i = 0; i < 2100; i++) {
+        const uint64_t addr = (5ull << 56) + place + i % 7;
+        if ((is_write ? tb_write(pages, PAGES, &state, addr, bytes, 8, true, &fault)
+                      : tb_read(pages, PAGES, &state, addr, bytes, 8, true, &fault)) != TB_OK)
+            exit(1);
+    }
+    return (now() - begin) / 2100;
+}
+
+static double of_access(bool writes, uint64_t first) {
+    place = first;
+    is_write = writes;
+    return least(of_accesses, 100) * 1e9;
+}
+
+static double of_mapping(void) {
+    tb_memory_init(pages, PAGES, &state, false);
+    const double begin = now();
+    for (int i = 0; i < 500; i++)
+        if (tb_map(pages, PAGES, 19, TB_READ) != TB_OK || tb_unmap(pages, PAGES, 19) != TB_OK)
+            exit(1);
+    return (now() - begin) / 500;
+}
+
 /* Allocations of up to 400 bytes, every other one of which the call behind it frees. */
 static void draw(size_t length) {
     uint32_t drawn = 1;
@@ -177,6 +214,11 @@ int main(int argc, char **argv) {
     slices[0] = 1000;
     printf("a tenant of 136 steps and 24 pages: %.2f us, without its steps %.2f us\n",
            least(of_lone, 400) * 1e6, empty * 1e6);
+    printf("a read: %.1f ns, over two pages %.1f ns; ", of_access(false, DATA),
+           of_access(false, DATA + 4096 - 7));
+    printf("a write: %.1f ns, over two pages %.1f ns\n", of_access(true, DATA),
+           of_access(true, DATA + 4096 - 7));
+    printf("a page that is mapped and unmapped: %.1f ns\n", least(of_mapping, 100) * 1e9);
     printf("a traced access: %.1f ns over the run\n",
            (least(of_trace, 100) - least(of_run, 100)) / (STEPS / 5 * 4) * 1e9);
     draw(CALLS);

@@ -1,5 +1,4 @@
-//! A writer in memory, which says all bytes that it took, and a reader that fails where a test
-//! wants it.
+//! A writer in memory, and a reader that fails where a test wants it.
 
 ghost use Rattle.std.specs.Prelude.{Some, None};
 ghost use Rattle.mte_streams.specs.Reading.{unknown_reads};
@@ -7,27 +6,17 @@ ghost use Rattle.mte_streams.specs.Reading.{unknown_reads};
 use mte_session::{Sink, Source, StreamError};
 use std::alloc::Global;
 
-/// Takes bytes into memory, at most `most` of them in a write, and fails once it holds `limit`.
+/// Takes all bytes into memory.
 #[derive(Drop)]
 pub struct MemorySink {
     /// The bytes that writes took.
     pub held: Vec<u8>,
-    /// The most bytes of a write.
-    pub most: usize,
-    /// The most bytes in all.
-    pub limit: usize,
-    /// Whether a full sink returns an error; otherwise it takes no byte.
-    pub fails_by_error: bool,
 }
 
 impl MemorySink {
-    /// A sink without limits.
     pub fn new(alloc: Global) -> MemorySink {
         MemorySink {
             held: Vec::new(alloc),
-            most: usize::MAX,
-            limit: usize::MAX,
-            fails_by_error: true,
         }
     }
 }
@@ -36,13 +25,8 @@ impl Sink for MemorySink {
     ghost log = { λ s. record { taken = Some s.held.items; calls = None; failures = None } };
 
     fn write(&mut self, bytes: &[u8]) -> Result<usize, StreamError> {
-        let room = self.limit.saturating_sub(self.held.len());
-        let count = bytes.len().min(self.most).min(room);
-        if count == 0 && !bytes.is_empty() && self.fails_by_error {
-            return Err(StreamError);
-        }
-        match self.held.extend_from_slice(&bytes[..count]) {
-            Ok(()) => Ok(count),
+        match self.held.extend_from_slice(bytes) {
+            Ok(()) => Ok(bytes.len()),
             Err(_) => Err(StreamError),
         }
     }

@@ -45,15 +45,6 @@ pub const UNTAGGED: [u32; 7] = [
     0xD2A7FFE0, 0x91403000, 0x9ADF1001, 0xD9200821, 0xF9000021, 0xF9400022, 0xF9400002,
 ];
 
-/// Reads ten bytes of input to the stack, writes as many as it got, and exits with their number.
-pub const READS: [u32; 12] = [
-    0xD2A7FFE0, 0x91403000, 0xD2800141, 0xD2800048, 0xD4000001, 0xAA0003E1, 0xD2A7FFE0, 0x91403000,
-    0xD2800028, 0xD4000001, 0xD2800008, 0xD4000001,
-];
-
-/// Exits with the steps that its slice has left after its first service.
-pub const COUNTS: [u32; 4] = [0xD2800148, 0xD4000001, 0xD2800008, 0xD4000001];
-
 /// Allocates 24 bytes, writes a byte of their header through an untagged pointer, and frees them.
 pub const CORRUPTS: [u32; 8] = [
     0xD2800300, 0xD2800068, 0xD4000001, 0xD2A24001, 0xD2800062, 0x39000022, 0xD2800088, 0xD4000001,

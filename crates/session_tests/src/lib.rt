@@ -1,29 +1,20 @@
-//! Tests of whole sessions, and of the readers and writers, the scripts and the endings below them.
+//! Tests of what no program reaches of sessions, hosts and streams, and of what embedders in
+//! Rattle call.
 #![tactic(auto)]
 
 #[cfg(test)]
-mod careful;
-#[cfg(test)]
-mod discipline;
+mod commands;
 #[cfg(test)]
 mod doubles;
+#[cfg(test)]
+mod embedding;
 #[cfg(test)]
 mod hosts;
 #[cfg(test)]
 mod images;
 #[cfg(test)]
-mod limits;
-#[cfg(test)]
-mod scripts;
-#[cfg(test)]
-mod sessions;
-#[cfg(test)]
-mod snapshots;
+mod laws;
 #[cfg(test)]
 mod streams;
 #[cfg(test)]
-mod tenant_alone;
-#[cfg(test)]
 mod tenants;
-#[cfg(test)]
-mod wrong_lines;

@@ -1,9 +1,8 @@
-//! Readers and writers that fail, and the endings of the program.
+//! Readers that fail at each place.
 
-use crate::doubles::{MemorySink, ScriptedSource};
-use mte_session::{Ending, ReadFault, ScriptFault, SessionError, finish, read_whole, write_all};
+use crate::doubles::ScriptedSource;
+use mte_session::{ReadFault, read_whole};
 use std::alloc::Global;
-use std::process::Abort;
 use std::test::Fail;
 
 /// How many bytes are read of a source that gives `left` of them, at most `most` in a read, of
@@ -28,61 +27,4 @@ fn readers(rt: HostRuntime) -> Result<(), Fail> {
         assert!(rt; matches!(&result, Err(ReadFault::Read)));
     }
     Ok(())
-}
-
-/// The status of an ending, and what it writes to a sink that takes `limit` bytes.
-fn ended(alloc: Global, ending: &Ending<'_>, limit: usize) -> (u8, Vec<u8>) {
-    let mut out = MemorySink::new(alloc);
-    out.limit = limit;
-    let status = finish(ending, &mut out);
-    (status, out.held)
-}
-
-/// Endings, with their status and what they write.
-const ENDINGS: [(Ending<'static>, u8, &[u8]); 5] = [
-    (Ending::Done, 0, b""),
-    (
-        Ending::Script(1, ScriptFault::Syntax),
-        3,
-        b"mte_host: script line 1: Syntax\n",
-    ),
-    (Ending::Memory, 4, b"mte_host: out of memory\n"),
-    (Ending::Read("no.elf"), 5, b"mte_host: cannot read no.elf\n"),
-    (Ending::Write, 6, b"mte_host: cannot write\n"),
-];
-
-fn two_bytes_are_written(rt: &impl Abort, alloc: Global) -> Result<(), Fail> {
-    let mut out = MemorySink::new(alloc);
-    write_all(&mut out, b"ab")?;
-    assert_eq!(rt; out.held.as_slice(), b"ab".as_slice());
-    Ok(())
-}
-
-#[test]
-fn endings(rt: HostRuntime) -> Result<(), Fail> {
-    for (ending, status, line) in ENDINGS {
-        let (found, written) = ended(rt.alloc(), &ending, usize::MAX);
-        assert_eq!(rt; found, status);
-        assert_eq!(rt; written.as_slice(), line);
-        assert_eq!(rt; ended(rt.alloc(), &ending, 0).0, status);
-    }
-    two_bytes_are_written(&rt, rt.alloc())
-}
-
-#[test]
-fn endings_of_errors(rt: HostRuntime) {
-    let script = SessionError::Script(7, ScriptFault::NoSuchFile);
-    for (ending, want) in [
-        (
-            Ending::from(script),
-            Ending::Script(7, ScriptFault::NoSuchFile),
-        ),
-        (Ending::from(SessionError::OutOfMemory), Ending::Memory),
-        (Ending::from(SessionError::Write), Ending::Write),
-        (Ending::of_read(ReadFault::OutOfMemory, "x"), Ending::Memory),
-        (Ending::of_read(ReadFault::Read, "x"), Ending::Read("x")),
-        (Ending::of_read(ReadFault::TooLong, "x"), Ending::Read("x")),
-    ] {
-        assert!(rt; ending == want, "{want:?}");
-    }
 }

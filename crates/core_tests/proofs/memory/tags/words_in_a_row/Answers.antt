@@ -1,0 +1,11 @@
+use Rattle.std.proofs.Common.{◌∙◌, ◌+◌, ◌/◌, ◌%◌, ◌^◌, ap, arith, is_some}
+use Rattle.mte_tags.specs.Memory.{page_at}
+use Rattle.mte_tags.proofs.PageLaws.{page_at-with_new_pages_in, IsMapped-from_pages}
+use Rattle.core_tests.proofs.memory.tags.words_in_a_row.Goals as goal
+
+pub load_bytes-requires : goal.load_bytes-requires
+load_bytes-requires g c =
+    IsMapped-from_pages c.map_pages.new.self 0x10FFC 4 (λ i l.
+    let q = (0x10FFC + i) % 2 ^ 56 / 4096 in
+    ap is_some (ap (λ m. page_at m q) c.in_ok-map_pages.ensures.ok
+    ∙ page_at-with_new_pages_in 1 c.in_ok-memory.memory 16 (record { 0 = 5 }) q (omega arith) (omega arith)))

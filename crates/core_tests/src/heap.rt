@@ -1,0 +1,15 @@
+//! Tests of the heap and its parts, of its calls as values, and of its picture.
+
+mod cache;
+mod calls;
+mod careful;
+mod copies;
+mod frames;
+mod header;
+mod operations;
+mod picture;
+mod primary;
+mod secondary;
+mod table_runs;
+mod tables;
+mod words;
