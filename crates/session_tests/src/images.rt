@@ -34,27 +34,27 @@ pub fn image(alloc: Global, words: &[u32]) -> Result<Vec<u8>, AllocError> {
 pub const HEADERS: usize = 120;
 
 /// Writes `Hi` and exits with 0.
-pub const HI: [u32; 9] = [
+pub static HI: [u32; 9] = [
     0xD2A00020, 0x91008000, 0xD2800041, 0xD2800028, 0xD4000001, 0xD2800000, 0xD2800008, 0xD4000001,
     0x00006948,
 ];
 
 /// Tags a granule of the stack, stores and loads through the tagged pointer, then through the
 /// untagged.
-pub const UNTAGGED: [u32; 7] = [
+pub static UNTAGGED: [u32; 7] = [
     0xD2A7FFE0, 0x91403000, 0x9ADF1001, 0xD9200821, 0xF9000021, 0xF9400022, 0xF9400002,
 ];
 
 /// Allocates 24 bytes, writes a byte of their header through an untagged pointer, and frees them.
-pub const CORRUPTS: [u32; 8] = [
+pub static CORRUPTS: [u32; 8] = [
     0xD2800300, 0xD2800068, 0xD4000001, 0xD2A24001, 0xD2800062, 0x39000022, 0xD2800088, 0xD4000001,
 ];
 
 /// Allocates 200000 bytes, stores there, frees them, yields, and loads from there.
-pub const LARGE_FREED: [u32; 11] = [
+pub static LARGE_FREED: [u32; 11] = [
     0xD281A800, 0xF2A00060, 0xD2800068, 0xD4000001, 0xAA0003F3, 0xF9000273, 0xD2800088, 0xD4000001,
     0xD2800128, 0xD4000001, 0xF9400261,
 ];
 
 /// The word 0.
-pub const ILLEGAL: [u32; 1] = [0];
+pub static ILLEGAL: [u32; 1] = [0];

@@ -8,7 +8,7 @@ use scudo_heap::HeapAbort;
 
 /// Each byte of a live chunk's granules may be used, also behind its size; the granules just before
 /// and just after them may not.
-const LIVE_CHUNK: [CallRow; 7] = [
+const LIVE_CHUNK: &[CallRow] = &[
     CallRow(1, TestCall::Malloc(40), CallAnswer::Is(CHUNK)),
     CallRow(1, TestCall::CheckedWrite(CHUNK, u64::MAX), DONE),
     CallRow(1, TestCall::CheckedWrite(CHUNK + 40, u64::MAX), DONE),
@@ -20,7 +20,7 @@ const LIVE_CHUNK: [CallRow; 7] = [
 
 /// So may each byte of the pages of a chunk that has its own. The page before them and the one
 /// after them are not mapped, nor are they after the free.
-const LIVE_PAGES: [CallRow; 7] = [
+const LIVE_PAGES: &[CallRow] = &[
     CallRow(1, TestCall::Malloc(131_057), CallAnswer::Is(0x3D00_2000)),
     CallRow(1, TestCall::Checked(0x3D00_2000), CallAnswer::Is(0)),
     CallRow(1, TestCall::CheckedWrite(0x3D02_1FF8, u64::MAX), DONE),
@@ -31,7 +31,7 @@ const LIVE_PAGES: [CallRow; 7] = [
 ];
 
 /// The bytes that a call asks for may be used through what it answers: the last eight, here.
-const ANSWERED_CHUNKS: [CallRow; 12] = [
+const ANSWERED_CHUNKS: &[CallRow] = &[
     CallRow(1, TestCall::Calloc(5, 8), CallAnswer::Is(CHUNK)),
     CallRow(1, TestCall::CheckedWrite(CHUNK + 32, u64::MAX), DONE),
     CallRow(1, TestCall::Realloc(CHUNK, 24), CallAnswer::Is(CHUNK)),
@@ -57,7 +57,7 @@ const ANSWERED_CHUNKS: [CallRow; 12] = [
 const UNMAPPED: CallAnswer = CallAnswer::Faults(FaultKind::Translation);
 
 /// Calls leave the bytes and the header of a chunk that they do not name.
-const OTHER_CHUNK: [CallRow; 9] = [
+const OTHER_CHUNK: &[CallRow] = &[
     CallRow(1, TestCall::Malloc(24), CallAnswer::Is(CHUNK)),
     CallRow(1, TestCall::CheckedWrite(CHUNK + 16, u64::MAX), DONE),
     CallRow(1, TestCall::Malloc(24), CallAnswer::Is(NEXT)),
@@ -74,7 +74,7 @@ const OTHER_CHUNK: [CallRow; 9] = [
 ];
 
 /// A new chunk is zero to its last granule, whatever its free block held.
-const ZERO_AGAIN: [CallRow; 5] = [
+const ZERO_AGAIN: &[CallRow] = &[
     CallRow(1, TestCall::Malloc(24), CallAnswer::Is(CHUNK)),
     CallRow(1, TestCall::Free(CHUNK), DONE),
     CallRow(1, TestCall::Write(0x1200_0028, u64::MAX), DONE),
@@ -87,7 +87,7 @@ const ZERO_AGAIN: [CallRow; 5] = [
 ];
 
 /// A second free aborts, also after other calls, while the block is free and its header stays.
-const SECOND_FREE: [CallRow; 6] = [
+const SECOND_FREE: &[CallRow] = &[
     CallRow(1, TestCall::Malloc(24), CallAnswer::Is(CHUNK)),
     CallRow(1, TestCall::Free(CHUNK), DONE),
     CallRow(1, TestCall::Free(CHUNK), INVALID_STATE),
@@ -103,7 +103,7 @@ const SECOND_FREE: [CallRow; 6] = [
 const INVALID_STATE: CallAnswer = CallAnswer::Aborts(HeapAbort::InvalidState);
 
 /// Three blocks apart the tags differ. Two blocks apart they may be the same, as here.
-const THREE_BLOCKS_APART: [CallRow; 4] = [
+const THREE_BLOCKS_APART: &[CallRow] = &[
     CallRow(1, TestCall::Malloc(24), CallAnswer::Is(CHUNK)),
     CallRow(
         3,
@@ -114,23 +114,18 @@ const THREE_BLOCKS_APART: [CallRow; 4] = [
     CallRow(1, TestCall::Checked(CHUNK + 128), CallAnswer::Is(0)),
 ];
 
-pub(crate) const CAREFUL: [CallTable; 7] = [
-    CallTable("live chunk", 512, TagMode::Sync, &LIVE_CHUNK),
-    CallTable("live pages", 512, TagMode::Sync, &LIVE_PAGES),
-    CallTable("answered chunks", 512, TagMode::Sync, &ANSWERED_CHUNKS),
-    CallTable("other chunk", 512, TagMode::Sync, &OTHER_CHUNK),
-    CallTable("zero again", 512, TagMode::Sync, &ZERO_AGAIN),
-    CallTable("second free", 512, TagMode::Sync, &SECOND_FREE),
-    CallTable(
-        "three blocks apart",
-        512,
-        TagMode::Sync,
-        &THREE_BLOCKS_APART,
-    ),
+pub(crate) const CAREFUL: &[CallTable] = &[
+    CallTable("live chunk", 512, TagMode::Sync, LIVE_CHUNK),
+    CallTable("live pages", 512, TagMode::Sync, LIVE_PAGES),
+    CallTable("answered chunks", 512, TagMode::Sync, ANSWERED_CHUNKS),
+    CallTable("other chunk", 512, TagMode::Sync, OTHER_CHUNK),
+    CallTable("zero again", 512, TagMode::Sync, ZERO_AGAIN),
+    CallTable("second free", 512, TagMode::Sync, SECOND_FREE),
+    CallTable("three blocks apart", 512, TagMode::Sync, THREE_BLOCKS_APART),
 ];
 
 /// The header of a freed chunk is written: the second free aborts at another check.
-const FREED_TWICE_WITH_A_HEADER: [CallRow; 5] = [
+const FREED_TWICE_WITH_A_HEADER: &[CallRow] = &[
     CallRow(1, TestCall::Malloc(24), CallAnswer::Is(CHUNK)),
     CallRow(1, TestCall::Malloc(24), CallAnswer::Is(NEXT)),
     CallRow(1, TestCall::Free(NEXT), DONE),
@@ -143,7 +138,7 @@ const FREED_TWICE_WITH_A_HEADER: [CallRow; 5] = [
 ];
 
 /// A header with another size: a reallocation leaves the last bytes behind.
-const MOVED_BY_A_COPIED_HEADER: [CallRow; 6] = [
+const MOVED_BY_A_COPIED_HEADER: &[CallRow] = &[
     CallRow(1, TestCall::Malloc(48), CallAnswer::Is(CHUNK)),
     CallRow(1, TestCall::Malloc(48), CallAnswer::Is(NEXT)),
     CallRow(1, TestCall::CheckedWrite(NEXT + 40, u64::MAX), DONE),
@@ -157,7 +152,7 @@ const MOVED_BY_A_COPIED_HEADER: [CallRow; 6] = [
 ];
 
 /// A tag is stored to a chunk three blocks away, which may be read through the other's pointer.
-const TAG_THREE_BLOCKS_APART: [CallRow; 5] = [
+const TAG_THREE_BLOCKS_APART: &[CallRow] = &[
     CallRow(1, TestCall::Malloc(24), CallAnswer::Is(CHUNK)),
     CallRow(
         3,
@@ -170,7 +165,7 @@ const TAG_THREE_BLOCKS_APART: [CallRow; 5] = [
 ];
 
 /// A header inside a live chunk's own data: the next chunk takes its block and clears its bytes.
-const CLEARED_FROM_WITHIN: [CallRow; 5] = [
+const CLEARED_FROM_WITHIN: &[CallRow] = &[
     CallRow(1, TestCall::Malloc(48), CallAnswer::Is(CHUNK)),
     CallRow(
         1,
@@ -188,42 +183,42 @@ const CLEARED_FROM_WITHIN: [CallRow; 5] = [
 
 /// A tag is stored to the second granule of a live chunk: after a reallocation in place it may not
 /// be read through the answer, which has the tag of the first.
-const TAG_OF_A_SECOND_GRANULE: [CallRow; 4] = [
+const TAG_OF_A_SECOND_GRANULE: &[CallRow] = &[
     CallRow(1, TestCall::Malloc(40), CallAnswer::Is(CHUNK)),
     CallRow(1, TestCall::StoreTags(0x1200_0020, 1, 7), DONE),
     CallRow(1, TestCall::Realloc(CHUNK, 48), CallAnswer::Is(CHUNK)),
     CallRow(1, TestCall::Checked(CHUNK + 16), REFUSED),
 ];
 
-pub(crate) const LAWS_BROKEN: [CallTable; 5] = [
+pub(crate) const LAWS_BROKEN: &[CallTable] = &[
     CallTable(
         "freed twice with a header",
         512,
         TagMode::Sync,
-        &FREED_TWICE_WITH_A_HEADER,
+        FREED_TWICE_WITH_A_HEADER,
     ),
     CallTable(
         "moved by a copied header",
         512,
         TagMode::Sync,
-        &MOVED_BY_A_COPIED_HEADER,
+        MOVED_BY_A_COPIED_HEADER,
     ),
     CallTable(
         "tag three blocks apart",
         512,
         TagMode::Sync,
-        &TAG_THREE_BLOCKS_APART,
+        TAG_THREE_BLOCKS_APART,
     ),
     CallTable(
         "cleared from within",
         512,
         TagMode::Sync,
-        &CLEARED_FROM_WITHIN,
+        CLEARED_FROM_WITHIN,
     ),
     CallTable(
         "tag of a second granule",
         512,
         TagMode::Sync,
-        &TAG_OF_A_SECOND_GRANULE,
+        TAG_OF_A_SECOND_GRANULE,
     ),
 ];

@@ -73,7 +73,7 @@ fn answers_over_frames(
 
 #[test]
 fn tables_over_shared_frames(rt: HostRuntime) -> Result<(), Fail> {
-    for table in &TABLES {
+    for table in TABLES {
         let CallTable(name, pages, mode, rows) = *table;
         if answers_over_frames(rt.alloc(), pages, mode, rows) != Ok(true) {
             return Err(Fail::new(name));

@@ -6,7 +6,7 @@ use scudo_header::{
 };
 
 /// The sizes of the classes 1 to 44.
-const CLASS_SIZES: [u64; 44] = [
+static CLASS_SIZES: [u64; 44] = [
     32, 64, 96, 128, 160, 192, 224, 256, 320, 384, 448, 512, 640, 768, 896, 1024, 1280, 1536, 1792,
     2048, 2560, 3072, 3584, 4096, 5120, 6144, 7168, 8192, 10240, 12288, 14336, 16384, 20480, 24576,
     28672, 32768, 40960, 49152, 57344, 65536, 81920, 98304, 114_688, 131_072,
@@ -40,7 +40,7 @@ fn have_sizes(sizes: &[u64]) -> bool {
 }
 
 /// What is needed, and the least class that has it.
-const NEEDS: [(u64, Option<u8>); 14] = [
+static NEEDS: [(u64, Option<u8>); 14] = [
     (0, Some(1)),
     (1, Some(1)),
     (32, Some(1)),
@@ -73,7 +73,7 @@ fn sizes_of_classes(rt: HostRuntime) {
 }
 
 /// Cookies, pointers and headers with their checksums.
-const CHECKSUMS: [(u32, u64, u64, u16); 6] = [
+static CHECKSUMS: [(u32, u64, u64, u16); 6] = [
     (0, 0x1040_0010, 0x18102, 0x1322),
     (0, 0x0500_0000_1040_0010, 0x18102, 0x1322),
     (0, 0x1040_0010, 0xFFFF_0000_0001_8102, 0x1322),
@@ -113,7 +113,7 @@ const ALIGNED: Header = Header {
 };
 
 /// Cookies, pointers and headers with their words.
-const PACKED: [(u32, u64, Header, u64); 4] = [
+static PACKED: [(u32, u64, Header, u64); 4] = [
     (0, 0x1040_0010, CHUNK, 0x1322_0000_0001_8102),
     (0, 0x1200_0010, CHUNK, 0x1142_0000_0001_8102),
     (0xDEAD_BEEF, 0x2000_FFF0, ODD, 0xB8F1_1234_FEDC_B7AB),

@@ -18,7 +18,7 @@ const REFUSED: HeapAnswer = HeapAnswer::Fault(MemFault {
 });
 
 /// Each kind of operation once, and what a chunk that was freed is kept from.
-const TABLE: [(HeapOp, HeapAnswer); 14] = [
+static TABLE: [(HeapOp, HeapAnswer); 14] = [
     (
         HeapOp::Call(HeapCall::Malloc { size: 24 }),
         HeapAnswer::Value(CHUNK),

@@ -43,7 +43,7 @@ fn line(marked: Marked, addr: u64) -> PictureLine {
 }
 
 /// What the line of an access behind the chunk contains.
-const BEHIND: [&str; 9] = [
+static BEHIND: [&str; 9] = [
     "<g transform=\"translate(0 68)\">",
     ">0x12000000</text>",
     ">class 2</text>",

@@ -57,20 +57,20 @@ fn all_pass(alloc: Global, tables: &[CallTable]) -> Result<(), Fail> {
 
 #[test]
 fn tables_over_a_plain_memory(rt: HostRuntime) -> Result<(), Fail> {
-    all_pass(rt.alloc(), &TABLES)
+    all_pass(rt.alloc(), TABLES)
 }
 
 /// What the laws of careful runs say, each by a run that is.
 #[test]
 fn careful_runs(rt: HostRuntime) -> Result<(), Fail> {
-    all_pass(rt.alloc(), &CAREFUL)
+    all_pass(rt.alloc(), CAREFUL)
 }
 
 /// What the laws of careful runs deny, each by a run that is not careful.
 #[test]
 fn runs_that_are_not_careful(rt: HostRuntime) -> Result<(), Fail> {
-    all_pass(rt.alloc(), &NOT_CAREFUL)?;
-    all_pass(rt.alloc(), &LAWS_BROKEN)
+    all_pass(rt.alloc(), NOT_CAREFUL)?;
+    all_pass(rt.alloc(), LAWS_BROKEN)
 }
 
 /// A page in the range of chunks with pages of their own that no heap mapped may be read, though no

@@ -31,7 +31,7 @@ pub(crate) const HEADER: u64 = 0x11C2_0000_0001_8102;
 
 /// A freed chunk's granules get another tag, and so does the chunk that takes its block.
 /// Neighbours' tags are odd and even in turn.
-const REUSE: [CallRow; 7] = [
+const REUSE: &[CallRow] = &[
     CallRow(1, TestCall::Malloc(24), CallAnswer::Is(CHUNK)),
     CallRow(1, TestCall::Free(0x1200_0010), DONE),
     CallRow(1, TestCall::Tag(0x1200_0010), CallAnswer::Is(3)),
@@ -50,7 +50,7 @@ const REUSE: [CallRow; 7] = [
 ];
 
 /// A shorter chunk leaves tag 0 on the granule after it, where the block had another.
-const SHORTER: [CallRow; 4] = [
+const SHORTER: &[CallRow] = &[
     CallRow(1, TestCall::Malloc(40), CallAnswer::Is(CHUNK)),
     CallRow(1, TestCall::Free(CHUNK), DONE),
     CallRow(
@@ -63,7 +63,7 @@ const SHORTER: [CallRow; 4] = [
 
 /// The largest class holds 131056 bytes. One more gets pages of its own, which a free unmaps at
 /// once.
-const LARGEST: [CallRow; 8] = [
+const LARGEST: &[CallRow] = &[
     CallRow(
         1,
         TestCall::Malloc(131_056),
@@ -91,7 +91,7 @@ const LARGEST: [CallRow; 8] = [
 ];
 
 /// Requests over the limit, of nothing, and the null pointer.
-const EDGES: [CallRow; 11] = [
+const EDGES: &[CallRow] = &[
     CallRow(1, TestCall::Malloc(1_048_577), NULL),
     CallRow(1, TestCall::Calloc(1 << 63, 2), NULL),
     CallRow(1, TestCall::Calloc(3, 8), CallAnswer::Is(CHUNK)),
@@ -110,7 +110,7 @@ const EDGES: [CallRow; 11] = [
 ];
 
 /// No bytes are one byte.
-const NOTHING: [CallRow; 2] = [
+const NOTHING: &[CallRow] = &[
     CallRow(
         1,
         TestCall::Malloc(0),
@@ -120,7 +120,7 @@ const NOTHING: [CallRow; 2] = [
 ];
 
 /// Where a page is left, a request that needs more changes nothing.
-const LAST_PAGES: [CallRow; 11] = [
+const LAST_PAGES: &[CallRow] = &[
     CallRow(1, TestCall::Malloc(24), CallAnswer::Is(CHUNK)),
     CallRow(1, TestCall::Malloc(5000), NULL),
     CallRow(1, TestCall::Calloc(5, 1000), NULL),
@@ -139,7 +139,7 @@ const LAST_PAGES: [CallRow; 11] = [
 ];
 
 /// Where none is left, there is none for a second class. The heap's accesses set no flag.
-const NO_PAGE: [CallRow; 9] = [
+const NO_PAGE: &[CallRow] = &[
     CallRow(1, TestCall::Malloc(24), CallAnswer::Is(CHUNK)),
     CallRow(1, TestCall::Malloc(300), NULL),
     CallRow(1, TestCall::Calloc(1, 300), NULL),
@@ -156,7 +156,7 @@ const NO_PAGE: [CallRow; 9] = [
 ];
 
 /// The first check that fails, in its order, whatever the size.
-const WILD_POINTERS: [CallRow; 17] = [
+const WILD_POINTERS: &[CallRow] = &[
     CallRow(1, TestCall::Malloc(24), CallAnswer::Is(CHUNK)),
     CallRow(
         1,
@@ -234,7 +234,7 @@ const WILD_POINTERS: [CallRow; 17] = [
 
 /// Headers with the right checksum, written by hand: of the states Available and Quarantined, of
 /// the classes 45, 1 and 0, with the offset 1, with the sizes 0, 49 and 48, and of a free block.
-const FORGED_HEADERS: [CallRow; 21] = [
+const FORGED_HEADERS: &[CallRow] = &[
     CallRow(1, TestCall::Malloc(24), CallAnswer::Is(CHUNK)),
     CallRow(1, TestCall::Write(0x1200_0000, 0x0D42_0000_0001_8002), DONE),
     CallRow(
@@ -295,7 +295,7 @@ const FORGED_HEADERS: [CallRow; 21] = [
 ];
 
 /// A block of 64 bytes holds 48 after the header. The granule that comes has the chunk's tag.
-const IN_PLACE: [CallRow; 4] = [
+const IN_PLACE: &[CallRow] = &[
     CallRow(1, TestCall::Realloc(0, 24), CallAnswer::Is(CHUNK)),
     CallRow(1, TestCall::Realloc(CHUNK, 48), CallAnswer::Is(CHUNK)),
     CallRow(1, TestCall::UsableSize(CHUNK), CallAnswer::Is(48)),
@@ -307,7 +307,7 @@ const IN_PLACE: [CallRow; 4] = [
 ];
 
 /// It does not hold 49: the 24 bytes go to a block of the next class.
-const TO_ANOTHER_CLASS: [CallRow; 6] = [
+const TO_ANOTHER_CLASS: &[CallRow] = &[
     CallRow(1, TestCall::Malloc(24), CallAnswer::Is(CHUNK)),
     CallRow(
         1,
@@ -333,7 +333,7 @@ const TO_ANOTHER_CLASS: [CallRow; 6] = [
 ];
 
 /// A granule that comes to a chunk is zero and has its tag, and the one after it has tag 0.
-const A_GRANULE_COMES: [CallRow; 11] = [
+const A_GRANULE_COMES: &[CallRow] = &[
     CallRow(
         1,
         TestCall::Malloc(288),
@@ -360,7 +360,7 @@ const A_GRANULE_COMES: [CallRow; 11] = [
 ];
 
 /// The granules that a chunk gives up have tag 0 and keep their bytes.
-const GRANULES_GO: [CallRow; 8] = [
+const GRANULES_GO: &[CallRow] = &[
     CallRow(
         1,
         TestCall::Malloc(241),
@@ -380,7 +380,7 @@ const GRANULES_GO: [CallRow; 8] = [
 ];
 
 /// In place the header keeps its origin, and the answer has nothing of the pointer's bits 63:56.
-const ALIGNMENTS: [CallRow; 8] = [
+const ALIGNMENTS: &[CallRow] = &[
     CallRow(1, TestCall::Memalign(0, 100), NULL),
     CallRow(1, TestCall::Memalign(24, 100), NULL),
     CallRow(1, TestCall::Memalign(8192, 100), NULL),
@@ -412,7 +412,7 @@ const ALIGNMENTS: [CallRow; 8] = [
 ];
 
 /// A chunk with pages of its own gets others, whether it grows or shrinks.
-const TO_OTHER_PAGES: [CallRow; 4] = [
+const TO_OTHER_PAGES: &[CallRow] = &[
     CallRow(1, TestCall::Malloc(131_057), CallAnswer::Is(0x3D00_2000)),
     CallRow(
         1,
@@ -432,7 +432,7 @@ const TO_OTHER_PAGES: [CallRow; 4] = [
 ];
 
 /// From pages of its own into a block, as many bytes as the block's chunk has.
-const INTO_A_BLOCK: [CallRow; 6] = [
+const INTO_A_BLOCK: &[CallRow] = &[
     CallRow(1, TestCall::Malloc(131_057), CallAnswer::Is(0x3D00_2000)),
     CallRow(1, TestCall::CheckedWrite(0x3D00_23E0, u64::MAX), DONE),
     CallRow(1, TestCall::CheckedWrite(0x3D00_23E8, u64::MAX), DONE),
@@ -446,7 +446,7 @@ const INTO_A_BLOCK: [CallRow; 6] = [
 ];
 
 /// From a block to pages of its own.
-const OUT_OF_A_BLOCK: [CallRow; 6] = [
+const OUT_OF_A_BLOCK: &[CallRow] = &[
     CallRow(
         1,
         TestCall::Malloc(1000),
@@ -472,7 +472,7 @@ const OUT_OF_A_BLOCK: [CallRow; 6] = [
 ];
 
 /// The block that was freed last is used first.
-const LAST_FIRST: [CallRow; 5] = [
+const LAST_FIRST: &[CallRow] = &[
     CallRow(
         29,
         TestCall::Malloc(24),
@@ -497,14 +497,14 @@ const LAST_FIRST: [CallRow; 5] = [
 ];
 
 /// A page has twelve blocks of 320 bytes; the thirteenth begins in it and ends in the next.
-const OVER_TWO_PAGES: [CallRow; 1] = [CallRow(
+const OVER_TWO_PAGES: &[CallRow] = &[CallRow(
     13,
     TestCall::Malloc(300),
     CallAnswer::Is(0x0500_0000_1900_0F10),
 )];
 
 /// A region holds 128 blocks of the largest class.
-const A_WHOLE_REGION: [CallRow; 3] = [
+const A_WHOLE_REGION: &[CallRow] = &[
     CallRow(
         17,
         TestCall::Malloc(131_056),
@@ -518,32 +518,32 @@ const A_WHOLE_REGION: [CallRow; 3] = [
     CallRow(1, TestCall::Malloc(131_056), NULL),
 ];
 
-pub(crate) const TABLES: [CallTable; 20] = [
-    CallTable("reuse", 512, TagMode::Sync, &REUSE),
-    CallTable("shorter", 512, TagMode::Sync, &SHORTER),
-    CallTable("largest", 512, TagMode::Sync, &LARGEST),
-    CallTable("edges", 512, TagMode::Sync, &EDGES),
-    CallTable("nothing", 512, TagMode::Sync, &NOTHING),
-    CallTable("last pages", 2, TagMode::Sync, &LAST_PAGES),
-    CallTable("no page", 1, TagMode::Async, &NO_PAGE),
-    CallTable("wild pointers", 512, TagMode::Sync, &WILD_POINTERS),
-    CallTable("forged headers", 512, TagMode::Sync, &FORGED_HEADERS),
-    CallTable("in place", 512, TagMode::Sync, &IN_PLACE),
-    CallTable("to another class", 512, TagMode::Sync, &TO_ANOTHER_CLASS),
-    CallTable("a granule comes", 512, TagMode::Sync, &A_GRANULE_COMES),
-    CallTable("granules go", 512, TagMode::Sync, &GRANULES_GO),
-    CallTable("alignments", 512, TagMode::Sync, &ALIGNMENTS),
-    CallTable("to other pages", 512, TagMode::Sync, &TO_OTHER_PAGES),
-    CallTable("into a block", 512, TagMode::Sync, &INTO_A_BLOCK),
-    CallTable("out of a block", 512, TagMode::Sync, &OUT_OF_A_BLOCK),
-    CallTable("last first", 512, TagMode::Sync, &LAST_FIRST),
-    CallTable("over two pages", 512, TagMode::Sync, &OVER_TWO_PAGES),
-    CallTable("a whole region", 4096, TagMode::Sync, &A_WHOLE_REGION),
+pub(crate) const TABLES: &[CallTable] = &[
+    CallTable("reuse", 512, TagMode::Sync, REUSE),
+    CallTable("shorter", 512, TagMode::Sync, SHORTER),
+    CallTable("largest", 512, TagMode::Sync, LARGEST),
+    CallTable("edges", 512, TagMode::Sync, EDGES),
+    CallTable("nothing", 512, TagMode::Sync, NOTHING),
+    CallTable("last pages", 2, TagMode::Sync, LAST_PAGES),
+    CallTable("no page", 1, TagMode::Async, NO_PAGE),
+    CallTable("wild pointers", 512, TagMode::Sync, WILD_POINTERS),
+    CallTable("forged headers", 512, TagMode::Sync, FORGED_HEADERS),
+    CallTable("in place", 512, TagMode::Sync, IN_PLACE),
+    CallTable("to another class", 512, TagMode::Sync, TO_ANOTHER_CLASS),
+    CallTable("a granule comes", 512, TagMode::Sync, A_GRANULE_COMES),
+    CallTable("granules go", 512, TagMode::Sync, GRANULES_GO),
+    CallTable("alignments", 512, TagMode::Sync, ALIGNMENTS),
+    CallTable("to other pages", 512, TagMode::Sync, TO_OTHER_PAGES),
+    CallTable("into a block", 512, TagMode::Sync, INTO_A_BLOCK),
+    CallTable("out of a block", 512, TagMode::Sync, OUT_OF_A_BLOCK),
+    CallTable("last first", 512, TagMode::Sync, LAST_FIRST),
+    CallTable("over two pages", 512, TagMode::Sync, OVER_TWO_PAGES),
+    CallTable("a whole region", 4096, TagMode::Sync, A_WHOLE_REGION),
 ];
 
 /// The header of a chunk of 24 bytes is copied before one of 48 whose checksum is the same: a free
 /// leaves the old tag on the last granule, which still may be read through the freed pointer.
-const FREED_BY_A_COPIED_HEADER: [CallRow; 9] = [
+const FREED_BY_A_COPIED_HEADER: &[CallRow] = &[
     CallRow(1, TestCall::Malloc(48), CallAnswer::Is(CHUNK)),
     CallRow(1, TestCall::Malloc(48), CallAnswer::Is(NEXT)),
     CallRow(
@@ -560,7 +560,7 @@ const FREED_BY_A_COPIED_HEADER: [CallRow; 9] = [
 ];
 
 /// The chunk before a reallocation: the granule after the chunk keeps its tag.
-const RESIZED_BY_A_COPIED_HEADER: [CallRow; 6] = [
+const RESIZED_BY_A_COPIED_HEADER: &[CallRow] = &[
     CallRow(1, TestCall::Malloc(48), CallAnswer::Is(CHUNK)),
     CallRow(1, TestCall::Malloc(48), CallAnswer::Is(NEXT)),
     CallRow(1, TestCall::Write(0x1200_0040, HEADER), DONE),
@@ -570,7 +570,7 @@ const RESIZED_BY_A_COPIED_HEADER: [CallRow; 6] = [
 ];
 
 /// A header inside a live chunk's own data: its block is freed, and used again while it lives.
-const FREED_FROM_WITHIN: [CallRow; 4] = [
+const FREED_FROM_WITHIN: &[CallRow] = &[
     CallRow(1, TestCall::Malloc(48), CallAnswer::Is(CHUNK)),
     CallRow(
         1,
@@ -586,7 +586,7 @@ const FREED_FROM_WITHIN: [CallRow; 4] = [
 ];
 
 /// A tag is stored to a freed chunk, which may be read again.
-const TAG_OF_A_FREED_CHUNK: [CallRow; 4] = [
+const TAG_OF_A_FREED_CHUNK: &[CallRow] = &[
     CallRow(1, TestCall::Malloc(24), CallAnswer::Is(CHUNK)),
     CallRow(1, TestCall::Free(CHUNK), DONE),
     CallRow(1, TestCall::StoreTags(0x1200_0010, 2, 1), DONE),
@@ -594,7 +594,7 @@ const TAG_OF_A_FREED_CHUNK: [CallRow; 4] = [
 ];
 
 /// A tag is stored between a free and an allocation, which draws the one that the free gave.
-const TAG_BEFORE_REUSE: [CallRow; 5] = [
+const TAG_BEFORE_REUSE: &[CallRow] = &[
     CallRow(1, TestCall::Malloc(24), CallAnswer::Is(CHUNK)),
     CallRow(1, TestCall::Free(CHUNK), DONE),
     CallRow(1, TestCall::Tag(CHUNK), CallAnswer::Is(3)),
@@ -607,7 +607,7 @@ const TAG_BEFORE_REUSE: [CallRow; 5] = [
 ];
 
 /// A tag is stored to a neighbour, which may be read through the other's pointer.
-const TAG_OF_A_NEIGHBOUR: [CallRow; 5] = [
+const TAG_OF_A_NEIGHBOUR: &[CallRow] = &[
     CallRow(1, TestCall::Malloc(24), CallAnswer::Is(CHUNK)),
     CallRow(1, TestCall::Malloc(24), CallAnswer::Is(NEXT)),
     CallRow(1, TestCall::Checked(CHUNK + 64), REFUSED),
@@ -617,7 +617,7 @@ const TAG_OF_A_NEIGHBOUR: [CallRow; 5] = [
 
 /// Tags are stored to live chunks, one in a block and one with pages of its own, and the pointers
 /// to them have other tags.
-const TAGS_OF_LIVE_CHUNKS: [CallRow; 7] = [
+const TAGS_OF_LIVE_CHUNKS: &[CallRow] = &[
     CallRow(1, TestCall::Malloc(24), CallAnswer::Is(CHUNK)),
     CallRow(1, TestCall::StoreTags(0x1200_0010, 2, 7), DONE),
     CallRow(1, TestCall::Tag(CHUNK), CallAnswer::Is(7)),
@@ -628,7 +628,7 @@ const TAGS_OF_LIVE_CHUNKS: [CallRow; 7] = [
 ];
 
 /// A free finds no header: the next chunk is in another block.
-const FREED_WITHOUT_A_HEADER: [CallRow; 4] = [
+const FREED_WITHOUT_A_HEADER: &[CallRow] = &[
     CallRow(1, TestCall::Malloc(24), CallAnswer::Is(CHUNK)),
     CallRow(1, TestCall::Write(0x1200_0000, 0), DONE),
     CallRow(
@@ -640,43 +640,38 @@ const FREED_WITHOUT_A_HEADER: [CallRow; 4] = [
 ];
 
 /// Runs that are not careful.
-pub(crate) const NOT_CAREFUL: [CallTable; 8] = [
+pub(crate) const NOT_CAREFUL: &[CallTable] = &[
     CallTable(
         "freed by a copied header",
         512,
         TagMode::Sync,
-        &FREED_BY_A_COPIED_HEADER,
+        FREED_BY_A_COPIED_HEADER,
     ),
     CallTable(
         "resized by a copied header",
         512,
         TagMode::Sync,
-        &RESIZED_BY_A_COPIED_HEADER,
+        RESIZED_BY_A_COPIED_HEADER,
     ),
-    CallTable("freed from within", 512, TagMode::Sync, &FREED_FROM_WITHIN),
+    CallTable("freed from within", 512, TagMode::Sync, FREED_FROM_WITHIN),
     CallTable(
         "tag of a freed chunk",
         512,
         TagMode::Sync,
-        &TAG_OF_A_FREED_CHUNK,
+        TAG_OF_A_FREED_CHUNK,
     ),
-    CallTable("tag before reuse", 512, TagMode::Sync, &TAG_BEFORE_REUSE),
-    CallTable(
-        "tag of a neighbour",
-        512,
-        TagMode::Sync,
-        &TAG_OF_A_NEIGHBOUR,
-    ),
+    CallTable("tag before reuse", 512, TagMode::Sync, TAG_BEFORE_REUSE),
+    CallTable("tag of a neighbour", 512, TagMode::Sync, TAG_OF_A_NEIGHBOUR),
     CallTable(
         "tags of live chunks",
         512,
         TagMode::Sync,
-        &TAGS_OF_LIVE_CHUNKS,
+        TAGS_OF_LIVE_CHUNKS,
     ),
     CallTable(
         "freed without a header",
         512,
         TagMode::Sync,
-        &FREED_WITHOUT_A_HEADER,
+        FREED_WITHOUT_A_HEADER,
     ),
 ];

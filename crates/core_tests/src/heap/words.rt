@@ -4,7 +4,7 @@ use scudo_heap::HeapCall;
 use std::test::Fail;
 
 /// Each call as C has it.
-const TABLE: [(HeapCall, &str); 6] = [
+static TABLE: [(HeapCall, &str); 6] = [
     (HeapCall::Malloc { size: 24 }, "malloc(24)"),
     (
         HeapCall::Free {

@@ -109,7 +109,7 @@ fn begins_empty(arena: &mut Arena) -> bool {
     none && !is_there(arena, 0) && is_zero(arena, 1) && is_zero(arena, 2)
 }
 
-const MARKED: [(usize, u8); 6] = [(0, 15), (1, 0), (2, 0), (253, 0), (254, 6), (255, 9)];
+static MARKED: [(usize, u8); 6] = [(0, 15), (1, 0), (2, 0), (253, 0), (254, 6), (255, 9)];
 
 /// Whether a frame holds what is written to it.
 fn holds_what_is_written(arena: &mut Arena) -> bool {

@@ -12,7 +12,7 @@ mod compiled;
 mod over_frames;
 
 /// The program that writes "Hi": its instructions, and the two letters.
-const HI: [u32; 9] = [
+static HI: [u32; 9] = [
     0xD2A0_0020,
     0x9100_8000,
     0xD280_0041,
@@ -27,7 +27,7 @@ const HI: [u32; 9] = [
 /// The file header of an executable that begins at 0x10000, but for the number of its program
 /// headers.
 #[rattlefmt::skip]
-const EXECUTABLE: [u8; 64] = [
+static EXECUTABLE: [u8; 64] = [
     0x7F, b'E', b'L', b'F', 2, 1, 1, 0, 0, 0, 0, 0, 0, 0, 0, 0,
     2, 0, 183, 0, 1, 0, 0, 0, 0, 0, 1, 0, 0, 0, 0, 0,
     64, 0, 0, 0, 0, 0, 0, 0, 0, 0, 0, 0, 0, 0, 0, 0,
@@ -218,7 +218,7 @@ fn second_headers(rt: HostRuntime) {
 }
 
 /// What its memory of 8 pages answers.
-const TWO_SEGMENTS: [(MapCall, Value); 9] = [
+static TWO_SEGMENTS: [(MapCall, Value); 9] = [
     (MapCall::PagesLeft, Value::Number(5)),
     (MapCall::Fetch(0x10000), Value::Number(0xD2A0_0020)),
     (MapCall::Fetch(0x1001C), Value::Number(0xD400_0001)),

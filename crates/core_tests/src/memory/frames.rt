@@ -213,9 +213,9 @@ fn a_frame_comes_back_zero(rt: HostRuntime) -> Result<(), Fail> {
 }
 
 /// Bytes, and tags of granules, at their places.
-const BYTES_OF_BLOCK: [(usize, u8); 4] = [(0, 7), (1, 0), (4094, 0), (4095, 8)];
+static BYTES_OF_BLOCK: [(usize, u8); 4] = [(0, 7), (1, 0), (4094, 0), (4095, 8)];
 
-const TAGS_OF_BLOCK: [(usize, u8); 5] = [(0, 1), (1, 2), (2, 0), (254, 3), (255, 4)];
+static TAGS_OF_BLOCK: [(usize, u8); 5] = [(0, 1), (1, 2), (2, 0), (254, 3), (255, 4)];
 
 /// Whether both planes of a frame are written at once.
 fn is_written_at_once(pool: &mut FramePool, quota: &Quota, f: usize) -> bool {
@@ -232,7 +232,7 @@ fn is_filled_if_there(pool: &mut FramePool, quota: &Quota, f: usize) -> bool {
     !none && before && some && after && has_tags(pool, quota, f, &TAGS_OF_BLOCK)
 }
 
-const AFTER_RUNS: [(usize, u8); 12] = [
+static AFTER_RUNS: [(usize, u8); 12] = [
     (0, 0),
     (2, 0),
     (3, 5),

@@ -150,7 +150,7 @@ struct Row {
 
 /// Bytes that are read put the page into the lookaside buffer.
 #[rattlefmt::skip]
-const TOUCHED: [Row; 2] = [
+static TOUCHED: [Row; 2] = [
     Row { second: false, call: MapCall::Turn(PAGE), answer: Value::Number(1) },
     Row { second: false, call: MapCall::Read(PAGE * 4096 + 4088, true), answer: Value::Number(0) },
 ];
@@ -158,7 +158,7 @@ const TOUCHED: [Row; 2] = [
 /// An access that faults changes nothing. The frame of a page that the first fills and unmaps comes
 /// to the second, all zero.
 #[rattlefmt::skip]
-const TAKEN_OVER: [Row; 12] = [
+static TAKEN_OVER: [Row; 12] = [
     Row { second: false, call: MapCall::StoreTags(PAGE * 4096, 1, 1), answer: Value::Number(0) },
     Row {
         second: false,
@@ -193,7 +193,7 @@ const TAKEN_OVER: [Row; 12] = [
 
 /// The first has another frame now.
 #[rattlefmt::skip]
-const APART: [Row; 4] = [
+static APART: [Row; 4] = [
     Row { second: false, call: MapCall::Turn(PAGE), answer: Value::Number(1) },
     Row { second: false, call: MapCall::Fill(PAGE, 0xFF, 15), answer: Value::Number(1) },
     Row { second: true, call: MapCall::Holds(PAGE, 0, 0), answer: Value::Number(1) },

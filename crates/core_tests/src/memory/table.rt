@@ -100,7 +100,7 @@ struct Row {
 
 /// Three pages, of which two share a leaf.
 #[rattlefmt::skip]
-const LIFE: [Row; 6] = [
+static LIFE: [Row; 6] = [
     Row { is_map: true, page: 1023, counts: (1, 1, 3), first: Some(1023) },
     Row { is_map: true, page: 262_143, counts: (2, 2, 5), first: Some(1023) },
     Row { is_map: true, page: 512, counts: (3, 2, 6), first: Some(512) },

@@ -10,7 +10,7 @@ use mte_tags::{
 };
 use std::test::Fail;
 
-const CHOICES: [(u8, u8, u16, u8); 5] = [
+static CHOICES: [(u8, u8, u16, u8); 5] = [
     (0, 0, 0x0001, 1),
     (15, 0, 0x8001, 1),
     (3, 2, 0x0000, 5),
@@ -45,7 +45,7 @@ fn draws(rt: HostRuntime) {
 }
 
 /// What a memory that has the page 0x3FFFC alone answers.
-const OVER_TWO_GRANULES: [(MapCall, Value); 10] = [
+static OVER_TWO_GRANULES: [(MapCall, Value); 10] = [
     (MapCall::Turn(0x3FFFC), Value::Number(1)),
     (MapCall::StoreTags(0x3FFF_C000, 1, 1), Value::Number(0)),
     (MapCall::LoadTag(0x3FFF_C00F), Value::Number(1)),
@@ -86,7 +86,7 @@ const OVER_TWO_GRANULES: [(MapCall, Value); 10] = [
 ];
 
 /// Pages that come again are zero, and so are their tags.
-const MAPPED_AGAIN: [(MapCall, Value); 13] = [
+static MAPPED_AGAIN: [(MapCall, Value); 13] = [
     (MapCall::Turn(16), Value::Number(1)),
     (MapCall::Turn(17), Value::Number(1)),
     (
@@ -106,7 +106,7 @@ const MAPPED_AGAIN: [(MapCall, Value); 13] = [
 ];
 
 /// A chunk of two granules at 0x10020, and one that would begin the next page.
-const OF_A_CHUNK: [(MapCall, Value); 12] = [
+static OF_A_CHUNK: [(MapCall, Value); 12] = [
     (MapCall::Turn(16), Value::Number(1)),
     (MapCall::Turn(17), Value::Number(1)),
     (MapCall::Fill(16, 0xFF, 7), Value::Number(1)),
@@ -136,7 +136,7 @@ fn calls_of_a_plain_memory(rt: HostRuntime) {
 
 /// The last page can be read and not written. An access whose tag differs in a granule: one that
 /// is permitted completes and sets the flag, one that is not, at its last byte, faults and doesn't.
-const ASYNCHRONOUS: [(MapCall, Value); 6] = [
+static ASYNCHRONOUS: [(MapCall, Value); 6] = [
     (MapCall::StoreTags(0x3FFF_E000, 1, 1), Value::Number(0)),
     (
         MapCall::Write(0x0200_0000_3FFF_EFF9, 9, true),
@@ -176,7 +176,7 @@ fn laws() {
 }
 
 /// What a memory whose only page holds instructions answers.
-const OF_TEXT: [(MapCall, Value); 4] = [
+static OF_TEXT: [(MapCall, Value); 4] = [
     (
         MapCall::Fetch(0x10001),
         Value::Refused(MemFault {
@@ -258,13 +258,13 @@ fn words_in_a_row(rt: HostRuntime) -> Result<(), Fail> {
     Ok(())
 }
 
-const LOADED: [(MapCall, Value); 1] = [(
+static LOADED: [(MapCall, Value); 1] = [(
     MapCall::Read(0x0400_0000_0001_0FFC, true),
     Value::Number(0x0807_0605_0403_0201),
 )];
 
 /// What a memory of two pages answers after three are refused.
-const REFUSED: [(MapCall, Value); 2] = [
+static REFUSED: [(MapCall, Value); 2] = [
     (MapCall::PagesLeft, Value::Number(2)),
     (
         MapCall::LoadTag(0x10008),

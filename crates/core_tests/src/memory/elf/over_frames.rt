@@ -31,7 +31,7 @@ fn load_into<M: Paged>(plan: &Plan, file: &[u8], memory: &mut M) -> bool
     room
 }
 
-const ATTRS: [Attrs; 5] = [
+static ATTRS: [Attrs; 5] = [
     Attrs::NONE,
     Attrs::READ,
     Attrs::WRITE,
