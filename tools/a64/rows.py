@@ -49,7 +49,7 @@ def written(rows: Rows) -> dict[str, str]:
         "crates/a64_decode/proofs/RowLemmas.antt": lemmas_file(listed, ways),
         "crates/a64_text/src/rows.rt": text_file(
             listed, calls.read_sources(set(), calls.TEXT_CRATES)),
-        "crates/core_tests/src/instructions/row_words.rt": words_file(listed),
+        "crates/a64_tests/src/tests/row_words.rt": words_file(listed),
         "tools/disassembly/rows.py": objdump_file(listed),
     }
 
@@ -505,7 +505,7 @@ def text_file(rows: list[Row], sources: Sources) -> str:
                        for row, call in called))
 
 
-# ---- core_tests
+# ---- a64_tests
 
 
 WORDS_FILE = """\

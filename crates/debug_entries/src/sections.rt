@@ -1,7 +1,7 @@
 //! The sections with what compilers write of an image's functions and variables.
 
 use debug_lines::Reader;
-use elf_symbols::Sections;
+use elf_sections::Sections;
 
 /// The sections of a file. One that is not there, is not in the file or is compressed is
 /// empty.

@@ -11,7 +11,7 @@ use crate::row::LineRow;
 use crate::source_line::SourceLine;
 use crate::source_lines::{FileLine, SourceLines};
 use crate::unit::{LineProgram, Units};
-use elf_symbols::Sections;
+use elf_sections::Sections;
 use std::alloc::{AllocError, Global};
 use std::fmt;
 

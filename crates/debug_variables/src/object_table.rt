@@ -1,7 +1,7 @@
 //! The variables of an image, by its symbol table.
 
 use crate::declaration::VariableName;
-use elf_symbols::Sections;
+use elf_sections::Sections;
 use std::alloc::{AllocError, Global};
 
 /// SHT_SYMTAB.

@@ -1,10 +1,7 @@
-//! The sections of an image, and the names of its addresses.
+//! The names of an image's addresses, by its symbols.
 #![tactic(auto)]
 
-mod fields;
 mod pieces;
-mod sections;
 mod symbols;
 
-pub use sections::{Section, Sections};
 pub use symbols::{Label, SymbolOffset, Symbols};

@@ -2,10 +2,9 @@
 //! `Elf64_Sym`). A file without one, or with one that is not in it, has no
 //! names.
 
-use crate::fields::{double_word, half, word};
 use crate::pieces::{Piece, Rank, Sweep, SymbolRank};
-use crate::sections::Sections;
 use cxx_names::SymbolName;
+use elf_sections::{Sections, double_word, half, word};
 use std::alloc::{AllocError, Global};
 use std::{fmt, str};
 

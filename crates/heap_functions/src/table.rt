@@ -1,7 +1,7 @@
 //! Where an image has the functions that make and free chunks.
 
 use crate::function::HeapFunction;
-use elf_symbols::Sections;
+use elf_sections::Sections;
 use std::alloc::{AllocError, Global};
 use std::str;
 
