@@ -1,4 +1,4 @@
-//! Masks of the logical immediates. The other functions are run by recorded steps (`tests/vectors`).
+//! Masks of the logical immediates. Recorded steps (`tests/vectors`) run the other functions.
 
 use a64_bits::{bit_masks, is_mask};
 
