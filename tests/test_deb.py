@@ -188,6 +188,7 @@ def test_library(root: Root, tmp_path: pathlib.Path) -> None:
 def test_unproved(alone: pathlib.Path, tmp_path: pathlib.Path) -> None:
     """What an installation marks as built without proof, a package does too: its version sorts
     below that of what is proved, and the mark has the sum of the program in the package."""
+    need("git", "dpkg-deb")
     prefix = tmp_path / "usr"
     for name in ("bin/mte_run", "lib/libtombolopan.so.2"):
         (prefix / name).parent.mkdir(parents=True)

@@ -184,7 +184,7 @@ def test_c_program(moved: pathlib.Path, tmp_path: pathlib.Path,
     flags = "$(pkg-config --cflags --libs tombolopan)"
     if library == "static":
         flags = f"$(pkg-config --cflags tombolopan) -x none {moved}/lib/libtombolopan.a"
-    command = f"{compiler} -Wall -Wextra -Werror {source} {flags}"
+    command = f"{compiler} -Wall -Wextra -Werror '{source}' {flags}"
     succeed(["bash", "-c", command], cwd=tmp_path, extra=installed.variables(moved))
     extra = {} if library == "static" else installed.variables(moved)
     ran = run([tmp_path / "a.out"], extra=extra)
