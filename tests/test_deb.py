@@ -125,7 +125,7 @@ def test_sums(packages: dict[str, pathlib.Path], tmp_path: pathlib.Path) -> None
 def test_lintian(packages: dict[str, pathlib.Path]) -> None:
     """Debian's own checker has no error. (Its warnings differ from release to release.)"""
     need("lintian")
-    ran = run(["lintian", "--fail-on", "error", *packages.values()], seconds=300)
+    ran = run(["lintian", "--fail-on", "error", *packages.values()])
     assert ran.status == 0 and "E: " not in ran.output, ran.output
 
 

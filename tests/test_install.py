@@ -456,7 +456,7 @@ def test_from_a_checkout(prefix: pathlib.Path, tmp_path: pathlib.Path) -> None:
             link_built(clone, file.resolve())
     out = clone / "crates" / "mte_run" / "out"
     succeed(["sh", "-c", "sha256sum mte_run >mte_run.unproved"], cwd=out)
-    ran = run([clone / "tools" / "install.sh", "prefix"], cwd=tmp_path, seconds=300)
+    ran = run([clone / "tools" / "install.sh", "prefix"], cwd=tmp_path)
     place = tmp_path / "prefix"
     assert (ran.status, ran.output) == (0, WRITTEN.format(place))
     assert ran.errors == (

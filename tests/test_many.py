@@ -122,7 +122,7 @@ def test_mutated_runs(alone: pathlib.Path, images: list[pathlib.Path], tmp_path:
     words: list[Word] = [sys.executable, MUTATE, what, alone, str(MUTATED_RUNS), "7"]
     if what != "frames":
         words += images
-    ran = run(words, cwd=tmp_path, seconds=300, memory=1 << 30)
+    ran = run(words, cwd=tmp_path, memory=1 << 30)
     assert (ran.status, ran.errors) == (0, "")
     ends = {int(end): int(times) for end, times in re.findall(r"(-?\d+): (\d+)", ran.output)}
     assert sum(ends.values()) == MUTATED_RUNS and min(ends) >= 0
