@@ -27,7 +27,7 @@ def need_scudo() -> None:
 
 def measure(shared: pathlib.Path, script: pathlib.Path = SCRIPT) -> Ran:
     """What the script writes."""
-    return run([sys.executable, script], seconds=300,
+    return run([sys.executable, script],
                extra={"TOMBOLOPAN": str(shared_object(shared))})
 
 

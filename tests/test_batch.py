@@ -332,7 +332,8 @@ def test_a_sample_that_is_lost(made: Batch, host: pathlib.Path, tmp_path: pathli
     assert ran.status == 1 and summary(ran)[0] == RIGHT
     assert re.fullmatch(rf"{COUNT} run, 0 kept, {COUNT} lost elsewhere: .* status 255: .*",
                         summary(ran)[1])
-    ran = made.run("--sample", "20", "--elsewhere", str(lost), "--elsewhere", shlex.quote(str(host)))
+    ran = made.run("--sample", "20", "--elsewhere", str(lost), "--elsewhere",
+                   shlex.quote(str(host)))
     assert (ran.status, summary(ran)[0]) == (0, RIGHT), ran.output
 
 

@@ -29,7 +29,7 @@ def sample(shared: pathlib.Path) -> pathlib.Path:
 
 def compare(shared: pathlib.Path, *words: str) -> Ran:
     """What the script says of it."""
-    return run([sys.executable, FOLDER / "cosimulate.py", *words], seconds=300,
+    return run([sys.executable, FOLDER / "cosimulate.py", *words],
                extra={"TOMBOLOPAN": str(shared_object(shared))})
 
 

@@ -125,7 +125,7 @@ def test_sums(packages: dict[str, pathlib.Path], tmp_path: pathlib.Path) -> None
 def test_lintian(packages: dict[str, pathlib.Path]) -> None:
     """Debian's own checker has no error. (Its warnings differ from release to release.)"""
     need("lintian")
-    ran = run(["lintian", "--fail-on", "error", *packages.values()], seconds=300)
+    ran = run(["lintian", "--fail-on", "error", *packages.values()])
     assert ran.status == 0 and "E: " not in ran.output, ran.output
 
 
@@ -188,6 +188,7 @@ def test_library(root: Root, tmp_path: pathlib.Path) -> None:
 def test_unproved(alone: pathlib.Path, tmp_path: pathlib.Path) -> None:
     """What an installation marks as built without proof, a package does too: its version sorts
     below that of what is proved, and the mark has the sum of the program in the package."""
+    need("git", "dpkg-deb")
     prefix = tmp_path / "usr"
     for name in ("bin/mte_run", "lib/libtombolopan.so.2"):
         (prefix / name).parent.mkdir(parents=True)

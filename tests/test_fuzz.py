@@ -182,7 +182,7 @@ def test_runs_are_those_of_fresh_tenants(shared: pathlib.Path) -> None:
     extra = in_python(shared, PACKAGE).extra
     words: list[Word] = ["python3", "-B", FUZZ / "compare_fresh.py", fuzzers.witness(shared),
                          "2000"]
-    ran = run(words, extra=extra, seconds=300)
+    ran = run(words, extra=extra)
     assert (ran.status, ran.errors) == (0, "")
     assert ran.output.startswith("2000 runs are those of fresh tenants (exit ")
 
@@ -193,7 +193,7 @@ def test_changed_inputs_of_a_corpus(shared: pathlib.Path, tmp_path: pathlib.Path
         (tmp_path / name).write_bytes(text)
     words: list[Word] = ["python3", "-B", FUZZ / "compare_fresh.py", "--corpus", tmp_path,
                          fuzzers.cards(shared), "3000"]
-    ran = run(words, extra=in_python(shared, PACKAGE).extra, seconds=300)
+    ran = run(words, extra=in_python(shared, PACKAGE).extra)
     assert (ran.status, ran.errors) == (0, "")
     ends = re.search(r"\(abort (\d+), exit (\d+), fault (\d+)\)", ran.output)
     assert ends and min(map(int, ends.groups())) > 100, ran.output

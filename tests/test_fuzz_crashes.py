@@ -42,7 +42,7 @@ def test_a_crash_is_replayed(
     image, crash = fuzzers.cards(shared), tmp_path / "crash"
     crash.write_bytes(PLANTED[bug][0])
     ran = succeed([sys.executable, FUZZ / "replay.py", "--times", str(TIMES), "--program", alone,
-                   image, crash], seconds=300)
+                   image, crash])
     assert f"{TIMES} runs alike: " in ran.output and PLANTED[bug][1] in ran.output
     told = dict(re.findall(r"; (access|made|freed) ([^;\n]+)", ran.output))
     for stack, line in zip(("access", "made", "freed"), STACKS[bug]):

@@ -655,7 +655,7 @@ def test_mutated_packets(alone: pathlib.Path, tmp_path: pathlib.Path) -> None:
     """Mutated streams end no front by a signal, and each packet that is whole is answered."""
     images = images_of(tmp_path, ["use_after_free", "lru"])
     ran = run([sys.executable, GDB_EXAMPLES / "mutate.py", alone, "60", "64", *images],
-              cwd=tmp_path, seconds=300)
+              cwd=tmp_path)
     assert ran.status == 0, ran.output
 
 
@@ -663,6 +663,6 @@ def test_debugged_runs_are_the_plain_ones(alone: pathlib.Path, tmp_path: pathlib
     """Stops, steps and returns change nothing of a run: output, end, steps, report."""
     images = images_of(tmp_path, ["hello", "use_after_free", "double_free"])
     ran = run([sys.executable, GDB_EXAMPLES / "compare_runs.py", alone, "30", "64", *images],
-              cwd=tmp_path, seconds=300)
+              cwd=tmp_path)
     assert ran.status == 0, ran.output
     assert "differs" not in ran.output

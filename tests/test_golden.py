@@ -322,7 +322,7 @@ def test_the_page_shows_a_step(shared: pathlib.Path) -> None:
 def release(*words: Word) -> Ran:
     """What the script that makes a release's file says."""
     need("rt", "git")
-    return run([sys.executable, ROOT / "tools" / "golden_release.py", *words], seconds=300)
+    return run([sys.executable, ROOT / "tools" / "golden_release.py", *words])
 
 
 def test_the_file_of_a_release(shared: pathlib.Path, tmp_path: pathlib.Path) -> None:
@@ -366,5 +366,5 @@ def test_a_release_without_its_steps(shared: pathlib.Path, tmp_path: pathlib.Pat
     for path in (copy / "examples" / "golden").glob("*.h"):
         path.write_text(path.read_text().replace("below(1008)", "below(1007)"))
     ran = run([sys.executable, copy / "tools" / "golden_release.py", "--count", "860", "--library",
-               static_library(shared), tmp_path / "out"], seconds=300)
+               static_library(shared), tmp_path / "out"])
     assert ran.status == 1 and "has another sum" in ran.errors and not (tmp_path / "out").exists()

@@ -217,7 +217,7 @@ def test_a_trace_that_is_none(
 
 def margins(shared: pathlib.Path, *words: str) -> Ran:
     """What the script says."""
-    return run([sys.executable, ALLOC / "margins.py", *words], seconds=300,
+    return run([sys.executable, ALLOC / "margins.py", *words],
                extra={"TOMBOLOPAN": str(shared_object(shared))})
 
 

@@ -1,4 +1,4 @@
-"""A gate that fails or is interrupted leaves what was built, and what is installed."""
+"""The gate's script: what was built stays where it fails or is interrupted, and which cases run."""
 
 import os
 import pathlib
@@ -9,7 +9,7 @@ import time
 import pytest
 
 from tests.support.checkout import copy_files, make_stub
-from tests.support.running import HANG
+from tests.support.running import HANG, succeed
 from tests.support.tools import need
 
 # Moves all that was built away, as the toolchain does before it proves; builds one program anew.
@@ -81,3 +81,20 @@ def test_a_gate_that_is_interrupted(clone: pathlib.Path, number: int) -> None:
     os.killpg(running.pid, number)
     assert running.wait(HANG) != 0
     assert contents(clone) == WANTED
+
+
+SKIPS = """import pytest
+def test_one(): pass
+def test_two(): pytest.skip("git is not installed")
+"""
+
+
+def test_files_of_the_suite(clone: pathlib.Path) -> None:
+    """The cases of a file alone; what is built without proof and what is skipped is named."""
+    (clone / "tests" / "test_style.py").write_text(SKIPS, encoding="utf-8")
+    place = (clone / FILES["mte_run"]).parent
+    succeed(["sh", "-c", "sha256sum mte_run >mte_run.unproved"], cwd=place)
+    ran = succeed([clone / "tests" / "run.sh", "--suite", "tests/test_style.py"])
+    assert ran.errors == f"run.sh: built without proof: {FILES['mte_run']}\n"
+    assert "git is not installed" in ran.output
+    assert ran.output.endswith("\n1 passed, 0 failed, 1 skipped\n")

@@ -100,6 +100,5 @@ def test_rows_that_overlap() -> None:
 def test_wrong_changes_are_noticed() -> None:
     """Of the wrong changes to data, written files and definitions, some that are drawn: each makes
     the check red."""
-    ran = run([sys.executable, TOOLS / "isa_plants.py", "--count", str(WRONG_CHANGES)],
-              seconds=300)
+    ran = run([sys.executable, TOOLS / "isa_plants.py", "--count", str(WRONG_CHANGES)])
     assert ran == Ran(0, f"{WRONG_CHANGES} noticed, 0 not, green after the last\n".encode(), b"")

@@ -117,12 +117,13 @@ def images(shared: pathlib.Path) -> list[pathlib.Path]:
 @pytest.mark.parametrize("what", ["image", "debug", "calls", "symbols", "frames"])
 def test_mutated_runs(alone: pathlib.Path, images: list[pathlib.Path], tmp_path: pathlib.Path,
                       what: str) -> None:
-    """No mutated image, table or chain of frames ends the program by a signal, takes a minute,
-    needs more than a gigabyte, or has it write a raw byte or a file that is no document."""
+    """No mutated image, table or chain of frames ends the program by a signal, takes a minute of a
+    processor, needs more than a gigabyte, or has it write a raw byte or a file that is no
+    document."""
     words: list[Word] = [sys.executable, MUTATE, what, alone, str(MUTATED_RUNS), "7"]
     if what != "frames":
         words += images
-    ran = run(words, cwd=tmp_path, seconds=300, memory=1 << 30)
+    ran = run(words, cwd=tmp_path, memory=1 << 30)
     assert (ran.status, ran.errors) == (0, "")
     ends = {int(end): int(times) for end, times in re.findall(r"(-?\d+): (\d+)", ran.output)}
     assert sum(ends.values()) == MUTATED_RUNS and min(ends) >= 0

@@ -31,7 +31,7 @@ def test_a_step_calls_nothing(host: pathlib.Path) -> None:
 def test_a_step_takes_few_instructions(host: pathlib.Path) -> None:
     """Loops between registers, of loads and stores, and compiled code."""
     need("clang", "ld.lld", "valgrind")
-    ran = run([sys.executable, ROOT / "tools/speed/measure.py", "--ir", host], seconds=600)
+    ran = run([sys.executable, ROOT / "tools/speed/measure.py", "--ir", host])
     assert ran.status == 0, ran.errors
     found = {name: float(number) for name, number in
              re.findall(r"^(\w+) +\S+: ([0-9.]+) instructions$", ran.output, re.M)}
@@ -49,7 +49,7 @@ def test_a_step_of_a_real_program(host: pathlib.Path, shared: pathlib.Path, name
     """A short run of a library of others, as a tenant."""
     need("clang", "ld.lld", "valgrind", "qemu-aarch64", "apt-get")
     ran = run([sys.executable, ROOT / "tools/speed/measure.py", "--real", "--ir", "--only", name,
-               "--work", shared / f"real-{name}", host], seconds=600)
+               "--work", shared / f"real-{name}", host])
     if f"without {name}" in ran.errors:
         give_up(ran.errors.strip()[-300:])
     assert ran.status == 0, ran.errors
@@ -63,7 +63,7 @@ def test_loops_beside_others(host: pathlib.Path) -> None:
     if not pathlib.Path("/usr/include/unicorn/unicorn.h").exists():
         give_up("missing: libunicorn-dev (tests/packages.txt has the Debian packages)")
     ran = run([sys.executable, ROOT / "tools/speed/measure.py", "--qemu", "--unicorn",
-               "--rounds", "1", host], seconds=600)
+               "--rounds", "1", host])
     assert ran.status == 0, ran.errors
     sides = {line.split()[0]: re.findall(r"(\S[^:]*): -?[0-9.]+ ns", line.split(maxsplit=1)[1])
              for line in ran.output.splitlines()}
@@ -77,8 +77,7 @@ def test_a_real_program_beside_others(host: pathlib.Path, shared: pathlib.Path) 
     under AddressSanitizer. Each writes the same sum, which the tool compares."""
     need("clang", "ld.lld", "valgrind", "qemu-aarch64", "apt-get")
     ran = run([sys.executable, ROOT / "tools/speed/measure.py", "--real", "--native", "--only",
-               "bzip2", "--rounds", "1", "--work", shared / "real-bzip2-natively", host],
-              seconds=600)
+               "bzip2", "--rounds", "1", "--work", shared / "real-bzip2-natively", host])
     if "without bzip2" in ran.errors:
         give_up(ran.errors.strip()[-300:])
     assert ran.status == 0, ran.errors
@@ -97,7 +96,7 @@ MOST_OF = {"slice": {"1 live in turns": 620, "64 live in turns": 620, "255 live 
 def test_calls_take_few_instructions(host: pathlib.Path, kind: str) -> None:
     """A slice of one step with its line of the script, a round with services, a whole session."""
     need("valgrind")
-    ran = run([sys.executable, ROOT / "tools/speed/room.py", "--only", kind, host], seconds=600)
+    ran = run([sys.executable, ROOT / "tools/speed/room.py", "--only", kind, host])
     assert ran.status == 0, ran.errors
     found = {name: int(number) for name, number in
              re.findall(rf"^\S+: {kind}, (.+): (\d+) instructions$", ran.output, re.M)}
@@ -116,7 +115,7 @@ def test_a_fuzzed_step_takes_few_more(shared: pathlib.Path, tmp_path: pathlib.Pa
     data = tmp_path / "input"
     data.write_bytes(b"")
     ran = run([sys.executable, ROOT / "tools/speed/fuzzed.py", "--library", static_library(shared),
-               "--setup", "0", image, data], seconds=600)
+               "--setup", "0", image, data])
     assert ran.status == 0, ran.errors
     found = re.search(r"([0-9.]+) times that of the library", ran.output)
     assert found and float(found[1]) <= MOST_TIMES, ran.output

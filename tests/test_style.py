@@ -124,7 +124,7 @@ def test_python() -> None:
 def test_types(shared: pathlib.Path) -> None:
     """mypy accepts what pyproject.toml names, whose functions have types."""
     need("mypy")
-    ran = run(["mypy", "--cache-dir", shared / "mypy"], cwd=ROOT, seconds=300)
+    ran = run(["mypy", "--cache-dir", shared / "mypy"], cwd=ROOT)
     assert ran.status == 0, ran.output + ran.errors
 
 

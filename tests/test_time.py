@@ -20,8 +20,7 @@ def instructions(words: Sequence[Word], folder: pathlib.Path) -> int:
     """How many instructions of this machine a program takes."""
     need("valgrind")
     counts = folder / "callgrind.out"
-    ran = run(["valgrind", "--tool=callgrind", f"--callgrind-out-file={counts}", *words],
-              seconds=600)
+    ran = run(["valgrind", "--tool=callgrind", f"--callgrind-out-file={counts}", *words])
     found = re.search(r"Collected : (\d+)", ran.errors)
     assert found, ran.errors
     return int(found[1])

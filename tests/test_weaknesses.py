@@ -20,7 +20,7 @@ def test_a_sample_is_told(alone: pathlib.Path) -> None:
     """Each by its cause and its line, and without its weakness not."""
     need("clang", "ld.lld", "aarch64-linux-gnu-gcc")
     script = ROOT / "tools" / "weaknesses.py"
-    ran = run([sys.executable, script, "--run", alone, "--sample", "15"], seconds=300)
+    ran = run([sys.executable, script, "--run", alone, "--sample", "15"])
     assert ran.status == 0 and "| all | 12 | 12, 12 | 12, 12 |" in ran.output, ran.output
 
 
@@ -47,7 +47,7 @@ def test_a_weakness_of_a_library(
     script = EXAMPLES / "cves" / "cves.py"
     words: list[Word] = [sys.executable, script, "--run", alone]
     words += ["--work", cache_folder() / "cves"]
-    ran = run([*words, "--only", name], seconds=600)
+    ran = run([*words, "--only", name])
     if ran.status == 3:
         give_up(ran.errors.strip()[-300:])
     row = ran.output.splitlines()[-1]

@@ -37,7 +37,8 @@ while [[ $# -gt 0 ]]; do
     esac
     shift
 done
-[[ -z $only || " ${every[*]} programs tenants " == *" $only "* ]] || leave "$only is nothing to build"
+[[ -z $only || " ${every[*]} programs tenants " == *" $only "* ]] ||
+    leave "$only is nothing to build"
 [[ -z $jobs || $jobs =~ ^[1-9][0-9]?$ ]] || leave "--jobs takes a number"
 command -v rt >/dev/null || [[ $only == tenants ]] || leave "rt, the toolchain, is not there"
 

@@ -195,8 +195,8 @@ def page_table(text: str) -> list[str]:
 
 
 def is_different(column: int, held: str, new: str) -> bool:
-    """Whether a cell of the page does not hold. Each cell of mte_run has to; of another tool that is
-    here, each report that does not depend on the machine."""
+    """Whether a cell of the page does not hold. Each cell of mte_run has to, and each report of
+    another tool that is here, unless it depends on the machine."""
     if column < len(OURS):
         return held != new
     return held == FOUND and new not in (FOUND, ABSENT)

@@ -1,6 +1,6 @@
 #!/usr/bin/env python3
 """Runs a program on many mutated images, inputs and options, and counts how each run ended. A run
-that a signal ended, that took longer than a minute, that wrote a byte to standard error which is
+that a signal ended, that took a minute of a processor, that wrote a byte to standard error which is
 neither printable ASCII nor a newline, or a file that is no JSON or SVG, is kept in the folder
 `mutated` and told.
 
@@ -39,7 +39,7 @@ VALUES = ["0", "1", "5", "64", "4096", "4097", "65536", "-1", "18446744073709551
 KINDS = ("image", "debug", "calls", "symbols", "frames")
 # What may stand on standard error.
 PLAIN = {10, *range(32, 127)}
-SECONDS = 60  # of a run
+SECONDS = 60  # of a processor, for a run
 
 Part = tuple[int, int]  # where it begins, and how many bytes it has
 
@@ -196,12 +196,10 @@ def drawn(what: str, images: list[bytes], draw: random.Random) -> tuple[bytes, b
 
 
 def run(words: list[str]) -> Union[int, str]:
-    """How a program ended: its status, below 0 where a signal ended it, or `timeout`."""
-    try:
-        ran = subprocess.run(words, stdin=subprocess.DEVNULL, stdout=subprocess.DEVNULL,
-                             stderr=subprocess.PIPE, timeout=SECONDS, check=False)
-    except subprocess.TimeoutExpired:
-        return "timeout"
+    """How a program ended: its status, below 0 where a signal ended it, as one does where it takes
+    too long."""
+    ran = subprocess.run(["prlimit", f"--cpu={SECONDS}", *words], stdin=subprocess.DEVNULL,
+                         stdout=subprocess.DEVNULL, stderr=subprocess.PIPE, check=False)
     return ran.returncode if set(ran.stderr) <= PLAIN else "raw bytes"
 
 

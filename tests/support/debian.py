@@ -25,7 +25,7 @@ def git_folder() -> str:
 def pack(out: pathlib.Path, built: pathlib.Path, top: pathlib.Path = ROOT) -> list[pathlib.Path]:
     """Packs what was built, by a checkout or a copy of its files."""
     need("dpkg-deb", "dpkg-shlibdeps", "strip", "git")
-    ran = run([top / "tools" / "deb.sh", out, built], seconds=300,
+    ran = run([top / "tools" / "deb.sh", out, built],
               extra={"GIT_DIR": git_folder()})
     assert (ran.status, ran.errors) == (0, "")
     return [pathlib.Path(line) for line in ran.output.splitlines()]

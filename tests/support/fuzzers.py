@@ -68,7 +68,7 @@ def fuzzers(shared: pathlib.Path, name: str) -> pathlib.Path:
     def fill(path: pathlib.Path) -> None:
         made = path.with_name(f"{path.name}.new")
         succeed([sys.executable, FUZZ / "build.py", made, "--library", archive, "--fuzzer", name,
-                 "--tenant", "cards", "--tenant", "labels"], seconds=300)
+                 "--tenant", "cards", "--tenant", "labels"])
         made.rename(path)
 
     return make_once(shared / f"fuzz-{name}", fill)

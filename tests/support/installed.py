@@ -41,7 +41,7 @@ def built_folder(shared: pathlib.Path, folder: pathlib.Path) -> pathlib.Path:
 def install(words: Sequence[str], path: str = "", root: str = "") -> Ran:
     """Runs the installer."""
     extra = {"DESTDIR": root, **({"PATH": path} if path else {})}
-    return run([INSTALLER, *words], seconds=300, extra=extra)
+    return run([INSTALLER, *words], extra=extra)
 
 
 def prefix(shared: pathlib.Path) -> pathlib.Path:

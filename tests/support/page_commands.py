@@ -13,7 +13,7 @@ from tests.support.running import Ran, run
 
 # What is not run: what the command has in it, and why.
 NOT_RUN = {
-    r"^(rt ci|tests/run.sh)$": "proves everything, or is this suite",
+    r"^(rt ci|tests/(run|quick).sh)$": "proves everything, or is this suite",
     r"^apt-get ": "changes the machine; tests/packages.txt has what is needed",
     r"^pip install ":
         "changes the machine; tests/test_python_package.py installs the wheel into a folder",

@@ -35,7 +35,7 @@ def tenant_cc(library: pathlib.Path, *words: str, cwd: Optional[pathlib.Path] = 
 
 def tenant_cxx(library: pathlib.Path, *words: str) -> Ran:
     """Runs tenant-c++ over a library."""
-    return run([sys.executable, TENANT_CXX, f"--library={library}", *words], seconds=300)
+    return run([sys.executable, TENANT_CXX, f"--library={library}", *words])
 
 
 def is_refused(ran: Ran, said: str) -> None:

@@ -3,6 +3,7 @@
 import os
 import pathlib
 import subprocess
+import sys
 from dataclasses import dataclass
 from datetime import datetime, timezone
 from email.utils import format_datetime
@@ -17,7 +18,11 @@ def read_version() -> str:
 
 def git(*words: str) -> str:
     """What git answers of the checkout."""
-    ran = subprocess.run(["git", "-C", ROOT, *words], stdout=subprocess.PIPE, text=True, check=True)
+    try:
+        ran = subprocess.run(["git", "-C", ROOT, *words], stdout=subprocess.PIPE, text=True,
+                             check=True)
+    except FileNotFoundError:
+        sys.exit("git is not installed")
     return ran.stdout.strip()
 
 

@@ -3,12 +3,9 @@
 crate=$(cd "$(dirname "${BASH_SOURCE[0]}")/../../crates/mte_host" && pwd)
 host=$crate/out/mte_host
 
-# Builds the program where there is none or a source is newer, and runs it with these words.
+# Proves and builds the program where it is not there or of other sources.
 build_host() {
-    if [[ ! -x $host || -n $(find "$crate"/../*/src "$crate/../../crates.txt" -newer "$host" \
-        -print -quit) ]]; then
-        (cd "$crate" && rt run -- "$@") >&2
-    fi
+    "$crate/../../tools/build.sh" --only mte_host
 }
 
 # Microseconds since 1970, whatever sign the locale puts before the fraction.

@@ -20,7 +20,7 @@ session() {
     "$host" "${words[@]}"
 }
 
-build_host "${words[@]}"
+build_host
 
 # Once before the clock starts, so that the files are in memory, and to see that the session is a
 # good one.

@@ -33,7 +33,7 @@ trap 'rm -rf "$work"' EXIT
     done
 } >"$work/script"
 
-build_host --help
+build_host
 
 # Runs a loop, sees that it ran to the end, and prints its rate.
 run() {
