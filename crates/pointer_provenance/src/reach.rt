@@ -96,17 +96,6 @@ impl ReachTable {
         Ok(lost)
     }
 
-    /// How many chunks are reached.
-    pub fn reachable(&self) -> usize {
-        let mut count = 0usize;
-        for state in self.states.iter() {
-            if *state == Reach::Reachable {
-                count = count.saturating_add(1);
-            }
-        }
-        count
-    }
-
     /// Whether a chunk is live and nothing was found that points into it.
     fn is_unreached(&self, shadow: &Shadow, index: usize) -> bool {
         let is_live = shadow.chunks.get(index).is_some_and(|chunk| chunk.is_live);
