@@ -2,26 +2,9 @@
 //! that such parts make.
 #![tactic(auto)]
 
-mod command_line;
-mod failure;
-mod files;
-mod request;
-mod splitting;
-
-use command_line::read_command_line;
-use failure::{SplitFailure, report};
-use mte_program::EarlyEnd;
-use splitting::run_request;
+use session_split::answer_command_line;
 use std::process::ExitCode;
 
 fn main(rt: HostRuntime) -> ExitCode {
-    let status = match &read_command_line(&rt) {
-        Ok(request) => match run_request(&rt, request) {
-            Ok(()) => 0,
-            Err(failure) => report(&rt, &failure),
-        },
-        Err(EarlyEnd::Exit(status)) => *status,
-        Err(EarlyEnd::OutOfMemory) => report(&rt, &SplitFailure::Memory),
-    };
-    ExitCode::from(status)
+    ExitCode::from(answer_command_line(&rt))
 }

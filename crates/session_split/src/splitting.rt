@@ -1,17 +1,29 @@
 //! A run of the program: files are read, and what is wanted is written.
 
-use crate::failure::SplitFailure;
+use crate::command_line::read_command_line;
+use crate::failure::{SplitFailure, report};
 use crate::files::read_files;
+use crate::making::{ledger_part, tenant_part};
+use crate::merging::merge;
 use crate::request::{SplitRequest, Wanted};
-use mte_program::StreamSink;
+use mte_program::{EarlyEnd, StreamSink};
 use mte_session::{Session, write_all};
-use session_split::{ledger_part, merge, tenant_part};
+
+/// Does what the process's command line requests: prints help, or reads files and writes what is
+/// wanted, or says why it cannot. Returns the exit status.
+pub fn answer_command_line(rt: &HostRuntime) -> u8 {
+    match &read_command_line(rt) {
+        Ok(request) => match run_request(rt, request) {
+            Ok(()) => 0,
+            Err(failure) => report(rt, &failure),
+        },
+        Err(EarlyEnd::Exit(status)) => *status,
+        Err(EarlyEnd::OutOfMemory) => report(rt, &SplitFailure::Memory),
+    }
+}
 
 /// Reads the files in order, and writes what is wanted. Nothing is written before all is known.
-pub fn run_request<'a>(
-    rt: &HostRuntime,
-    request: &'a SplitRequest,
-) -> Result<(), SplitFailure<'a>> {
+fn run_request<'a>(rt: &HostRuntime, request: &'a SplitRequest) -> Result<(), SplitFailure<'a>> {
     let names = request.names.as_slice();
     let whole = read_files(rt, names)?;
     let files = whole.as_slice();

@@ -1,7 +1,9 @@
 //! Why the program has no whole answer.
 
+use crate::merging::MergeFault;
+use crate::part::PartFault;
+use crate::split_fault::SplitFault;
 use mte_session::{ScriptFault, WriteFault};
-use session_split::{MergeFault, PartFault, SplitFault};
 use std::alloc::AllocFailed;
 use std::fmt;
 
