@@ -154,7 +154,7 @@ def test_which_build_it_is(prefix: pathlib.Path) -> None:
     ran = run([sys.executable, "-c", told], extra=installed.variables(prefix))
     assert ran.status == 0 and re.fullmatch(wanted, ran.output), ran.output
     archive = (prefix / "lib" / "libtombolopan.a").read_bytes()
-    assert re.search(wanted.rstrip("\n").encode(), archive)
+    assert re.search(wanted.removesuffix(r"\n").encode(), archive)
 
 
 def test_what_it_writes(prefix: pathlib.Path) -> None:

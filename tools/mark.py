@@ -30,7 +30,8 @@ commit:    {commit:->40}
 changes:   {changes:->4}
 toolchain: {toolchain:->40}
 build:     {build:->8}"""
-HELD = re.compile(rb"\d+\.\d+\ncommit:    .{40}\nchanges:   .{4}\ntoolchain: .{40}\nbuild:     .{8}")
+HELD = re.compile(rb"\d+\.\d+\ncommit:    .{40}\nchanges:   .{4}\n"
+                  rb"toolchain: .{40}\nbuild:     .{8}")
 UNKNOWN = {"commit": "", "changes": "", "toolchain": "", "build": ""}
 
 
