@@ -36,8 +36,9 @@ PYTHON = "/usr/bin/python3"
 SUITES = {
     "mte_run": [
         "tests/test_causes.py", "tests/test_explanations.py", "tests/test_run_statuses.py",
-        "tests/test_checks.py", "tests/test_gdb.py", "tests/test_run_files.py", "tests/test_sarif.py",
-        "tests/test_explanations_beside_tools.py", "tests/test_explanations_in_gdb.py",
+        "tests/test_checks.py", "tests/test_gdb.py", "tests/test_run_files.py",
+        "tests/test_sarif.py", "tests/test_explanations_beside_tools.py",
+        "tests/test_explanations_in_gdb.py",
     ],
     "mte_host": ["tests/test_host.py"],
     "mte_split": ["tests/test_split.py"],
