@@ -172,7 +172,8 @@ def test_installed(root: Root, tmp_path: pathlib.Path) -> None:
 def test_library(root: Root, tmp_path: pathlib.Path) -> None:
     """A C program is built by pkg-config, and Python finds the module and the library."""
     need("pkg-config", "cc")
-    command = f"cc {EXAMPLES}/embed/first.c $(pkg-config --cflags --libs tombolopan) && ./a.out"
+    source = EXAMPLES / "embed" / "first.c"
+    command = f"cc '{source}' $(pkg-config --cflags --libs tombolopan) && ./a.out"
     wanted = Ran(0, b"breakpoint 1, x0 is 42\n", b"")
     assert root.run(["bash", "-c", command], tmp_path) == wanted
     script = (EXAMPLES / "embed" / "first.py").read_text(encoding="utf-8")

@@ -129,20 +129,32 @@ def test_no_place_of_the_build(prefix: pathlib.Path) -> None:
     assert not wrong
 
 
+def lines_of(built: pathlib.Path) -> str:
+    """The lines of what is installed: the commit is that at which it was built, where tools/build.sh
+    has marked it, and else that of the checkout."""
+    held = re.search(rb"commit:    ([0-9a-f]{40})", built.read_bytes())
+    commit = held[1].decode() if held else git("rev-parse", "HEAD").strip()
+    return rf"commit:    {commit}\nchanges:   (none|some)\ntoolchain: [0-9a-f]{{40}}\n" \
+           r"build:     (  |un)proved\n"
+
+
 def test_which_build_it_is(prefix: pathlib.Path) -> None:
-    """Programs and the library say the commit of the checkout that they were installed from."""
+    """Programs and the library say the commit of the checkout that they were built in."""
     need("readelf")
-    commit = git("rev-parse", "HEAD").strip()
-    wanted = rf"commit:    {commit}\nchanges:   (none|some)\ntoolchain: [0-9a-f]{{40}}\n" \
-             r"build:     (  |un)proved\n"
+    built = prefix.parent / "built"
+    for name in ("mte_host", "mte_run", "disassemble"):
+        wanted = rf"\d\.\d\n{lines_of(built / name)}"
+        assert re.fullmatch(wanted, noted(prefix / "bin" / name)), name
     ran = run([prefix / "bin" / "mte_run", "--version"])
-    assert ran.status == 0 and re.fullmatch(rf"mte_run \d\.\d\n{wanted}", ran.output), ran.output
-    for name in ("bin/mte_host", "bin/mte_run", "bin/disassemble", "lib/libtombolopan.so.2"):
-        assert f"commit:    {commit}" in noted(prefix / name)
+    wanted = rf"mte_run \d\.\d\n{lines_of(built / 'mte_run')}"
+    assert ran.status == 0 and re.fullmatch(wanted, ran.output), ran.output
+    wanted = rf"\d\.\d\n{lines_of(built / 'libtombolopan_c.a')}"
+    assert re.fullmatch(wanted, noted(prefix / "lib" / "libtombolopan.so.2"))
     told = "import tombolopan; print(tombolopan.build_info())"
     ran = run([sys.executable, "-c", told], extra=installed.variables(prefix))
-    assert ran.status == 0 and re.fullmatch(rf"\d\.\d\n{wanted}", ran.output), ran.output
-    assert commit.encode() in (prefix / "lib" / "libtombolopan.a").read_bytes()
+    assert ran.status == 0 and re.fullmatch(wanted, ran.output), ran.output
+    archive = (prefix / "lib" / "libtombolopan.a").read_bytes()
+    assert re.search(wanted.removesuffix(r"\n").encode(), archive)
 
 
 def test_what_it_writes(prefix: pathlib.Path) -> None:

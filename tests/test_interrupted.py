@@ -46,11 +46,17 @@ def clone(tmp_path: pathlib.Path) -> pathlib.Path:
     return top
 
 
+def take_interrupts() -> None:
+    """A process that a shell has started in the background ignores them."""
+    signal.signal(signal.SIGINT, signal.SIG_DFL)
+
+
 def gate(clone: pathlib.Path, seconds: int) -> "subprocess.Popen[bytes]":
     """The gate over a toolchain that takes so long, in a process group of its own."""
     stub = make_stub(clone.parent / "stub", "rt", TOOLCHAIN)
     return subprocess.Popen([clone / "tests" / "run.sh"], stdout=subprocess.DEVNULL,
                             stderr=subprocess.DEVNULL, start_new_session=True,
+                            preexec_fn=take_interrupts,
                             env={**os.environ, **stub, "SECONDS_OF_PROOF": str(seconds)})
 
 

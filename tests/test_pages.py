@@ -5,6 +5,7 @@ import json
 import os
 import pathlib
 import re
+import shlex
 import shutil
 import sys
 from collections.abc import Callable
@@ -23,7 +24,7 @@ from tests.support.page_links import prose
 from tests.support.pages import (
     Part, all_parts, folder_of, named_code, pages, parts_of, read_page, sample_of,
 )
-from tests.support.library import static_library
+from tests.support.library import rust_program, static_library
 from tests.support.places import EXAMPLES, ROOT
 from tests.support.running import Word, run, succeed
 from tests.support.samples import (
@@ -219,7 +220,7 @@ def test_dialogs(built: Built, part: Part) -> None:
     commands = [line[6:] for line in part.lines if line.startswith("(gdb) ")]
     wanted = [line.strip() for line in part.lines if not line.startswith("(gdb) ")]
     words = [*GDB, "-iex", f"file {image.name}",
-             "-ex", f"target remote | {built.alone} --gdb {image.name}"]
+             "-ex", f"target remote | {shlex.quote(str(built.alone))} --gdb {image.name}"]
     for command in commands:
         words += ["-ex", command]
     ran = run(["bash", "-c", 'exec "$@" 2>&1', "bash", *words], cwd=image.parent)
@@ -282,6 +283,8 @@ def is_explained(result: Result, status: int) -> bool:
 def test_commands(built: Built, part: Part) -> None:
     """Each command of a page does what it should, in a copy of the checkout."""
     need(*(tool for tool in TOOLS_OF_COMMANDS if re.search(rf"(^|\s){tool}\s", part.text)))
+    if re.search(r"^rustc ", part.text, re.M):
+        rust_program("rustc", 85)
     folder = copy_files(built.folder / "copy", *COPIED)
     prefix = installed.prefix(built.shared) if "PREFIX" in part.text else built.folder / "nowhere"
     copy = copy_with_programs(folder, str(prefix), built.host, built.alone, built.disassemble)

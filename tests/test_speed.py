@@ -34,7 +34,7 @@ def test_a_step_takes_few_instructions(host: pathlib.Path) -> None:
     ran = run([sys.executable, ROOT / "tools/speed/measure.py", "--ir", host])
     assert ran.status == 0, ran.errors
     found = {name: float(number) for name, number in
-             re.findall(r"^(\w+) +\S+: ([0-9.]+) instructions$", ran.output, re.M)}
+             re.findall(r"^(\w+) +.+: ([0-9.]+) instructions$", ran.output, re.M)}
     assert found.keys() >= MOST.keys(), ran.output
     assert {name: found[name] for name, most in MOST.items() if found[name] > most} == {}
 
@@ -99,7 +99,7 @@ def test_calls_take_few_instructions(host: pathlib.Path, kind: str) -> None:
     ran = run([sys.executable, ROOT / "tools/speed/room.py", "--only", kind, host])
     assert ran.status == 0, ran.errors
     found = {name: int(number) for name, number in
-             re.findall(rf"^\S+: {kind}, (.+): (\d+) instructions$", ran.output, re.M)}
+             re.findall(rf"^.+: {kind}, (.+): (\d+) instructions$", ran.output, re.M)}
     assert found.keys() >= MOST_OF[kind].keys(), ran.output
     assert {name: found[name] for name, most in MOST_OF[kind].items() if found[name] > most} == {}
 

@@ -30,6 +30,8 @@ commit:    {commit:->40}
 changes:   {changes:->4}
 toolchain: {toolchain:->40}
 build:     {build:->8}"""
+HELD = re.compile(rb"\d+\.\d+\ncommit:    .{40}\nchanges:   .{4}\n"
+                  rb"toolchain: .{40}\nbuild:     .{8}")
 UNKNOWN = {"commit": "", "changes": "", "toolchain": "", "build": ""}
 
 
@@ -80,15 +82,17 @@ def add_note(path: pathlib.Path, text: bytes) -> None:
 
 
 def mark(path: pathlib.Path, text: bytes) -> None:
-    """Writes the lines of a build into a file that has none yet."""
+    """Writes the lines of a build into a file that has none yet. A library that is linked of an
+    archive has the lines of that."""
     data, empty = path.read_bytes(), text_of({})
-    is_marked = re.search(rb"\ncommit:    .{40}\nchanges:   .{4}\ntoolchain: ", data) is not None
     if empty in data:
-        path.write_bytes(data.replace(empty, text))
-    elif not is_marked and path.name.startswith(SAYING):
+        data = data.replace(empty, text)
+        path.write_bytes(data)
+    held = HELD.search(data)
+    if held is None and path.name.startswith(SAYING):
         sys.exit(f"mark.py: {path} has no lines of version {read_version()}")
     if not data.startswith(b"!<arch>") and SECTION.encode() not in data:
-        add_note(path, text)
+        add_note(path, held[0] if held else text)
 
 
 def main() -> None:

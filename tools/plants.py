@@ -36,8 +36,9 @@ PYTHON = "/usr/bin/python3"
 SUITES = {
     "mte_run": [
         "tests/test_causes.py", "tests/test_explanations.py", "tests/test_run_statuses.py",
-        "tests/test_gdb.py", "tests/test_run_files.py", "tests/test_sarif.py",
-        "tests/test_explanations_beside_tools.py", "tests/test_explanations_in_gdb.py",
+        "tests/test_checks.py", "tests/test_gdb.py", "tests/test_run_files.py",
+        "tests/test_sarif.py", "tests/test_explanations_beside_tools.py",
+        "tests/test_explanations_in_gdb.py",
     ],
     "mte_host": ["tests/test_host.py"],
     "mte_split": ["tests/test_split.py"],
@@ -133,7 +134,7 @@ def by_suite(checkout: pathlib.Path, plant: Plant, given: argparse.Namespace) ->
     )
     if made.returncode != 0:
         sys.exit(f"plants.py: {plant.name} does not compile: {first_line(made.stdout, 'error')}")
-    cases = [*SUITES[name], *["tests"] * bool(given.draw)]
+    cases = [*SUITES[name], *["-n", str(os.cpu_count()), "tests"] * bool(given.draw)]
     ran = subprocess.run(
         [PYTHON, "-m", "pytest", "-x", *cases], cwd=checkout, stdout=subprocess.PIPE,
         stderr=subprocess.STDOUT, text=True, check=False,

@@ -20,6 +20,7 @@ some packages autoconf, automake, libtool, bison, perl, tcl, python3-six and uni
 """
 import argparse
 import concurrent.futures
+import contextlib
 import filecmp
 import json
 import os
@@ -108,18 +109,34 @@ def native_words(place: Place) -> dict[str, str]:
     standard error is where a tenant has it."""
     return {"CC": "clang", "CXX": "clang++", "AR": "ar", "RANLIB": "ranlib",
             "CONFIGURE": "./configure", "CMAKE": CMAKE, "RUN": "env HOME=/tmp stdbuf -oL",
-            "SOURCES": str(place.out / "sources"), "PROGRAMS": str(HERE / "programs")}
+            "SOURCES": str(place.out / "sources"),
+            "PROGRAMS": without_blanks(HERE / "programs", place)}
+
+
+def without_blanks(path: pathlib.Path, place: Place) -> str:
+    """The path, or that of a link to it where it has a blank: makefiles and lines of shell take a
+    path for one word."""
+    if not re.search(r"\s", str(path)):
+        return str(path)
+    link = place.out / "links" / path.name
+    link.parent.mkdir(parents=True, exist_ok=True)
+    with contextlib.suppress(FileExistsError):
+        link.symlink_to(path)
+    return str(link)
 
 
 def tenant_words(package: Package, place: Place) -> dict[str, str]:
     """The environment of a build of tenants."""
-    run = [str(LIBC / "tenant-run"), f"--alone={place.alone}", "--env=HOME=/tmp"]
+    cc, cxx, runner, programs, alone = (without_blanks(path, place) for path in (
+        LIBC / "tenant-cc", LIBC / "tenant-c++", LIBC / "tenant-run", HERE / "programs",
+        place.alone))
+    run = [runner, f"--alone={alone}", "--env=HOME=/tmp"]
     run += [f"--files={name}" for name in package.files] + ["--out-files"] * package.writes
     run += [f"--option={word}" for word in package.options]
     return {
-        "CC": str(LIBC / "tenant-cc"), "CXX": str(LIBC / "tenant-c++"), "AR": "llvm-ar",
+        "CC": cc, "CXX": cxx, "AR": "llvm-ar",
         "RANLIB": "llvm-ranlib", "RUN": shlex.join(run), "TENANT_LIBRARY": str(place.library),
-        "SOURCES": str(place.out / "sources"), "PROGRAMS": str(HERE / "programs"),
+        "SOURCES": str(place.out / "sources"), "PROGRAMS": programs,
         "CONFIGURE": "./configure --host=aarch64-linux-gnu",
         "CMAKE": f"{CMAKE} -DCMAKE_SYSTEM_NAME=Linux -DCMAKE_SYSTEM_PROCESSOR=aarch64",
     }

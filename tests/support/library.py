@@ -3,6 +3,7 @@
 import functools
 import os
 import pathlib
+import re
 import shutil
 import sys
 
@@ -65,12 +66,20 @@ def shared_object(shared: pathlib.Path) -> pathlib.Path:
     return make_once(shared / "libtombolopan.so", link)
 
 
-def rust_program(name: str) -> str:
-    """rustc or cargo, which are not always where commands are looked for."""
+# The oldest Rust that the bindings are for: examples/embed/cargo/tombolopan-sys/Cargo.toml.
+OLDEST_RUST = 82
+
+
+def rust_program(name: str, least: int = OLDEST_RUST) -> str:
+    """rustc or cargo of Rust 1.`least` or later, which are not always where commands are looked
+    for."""
     at_home = pathlib.Path.home() / ".cargo" / "bin" / name
     found = shutil.which(name) or (str(at_home) if os.access(at_home, os.X_OK) else None)
     if found is None:
         give_up(f"missing: {name}")
+    version = re.match(rf"{name} 1\.(\d+)", succeed([str(found), "--version"]).output)
+    if version is None or int(version[1]) < least:
+        give_up(f"{found} is older than Rust 1.{least}")
     return str(found)
 
 

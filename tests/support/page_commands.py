@@ -9,7 +9,7 @@ from dataclasses import dataclass
 from tests.support.checkout import link_built, make_stub
 from tests.support.installed import variables
 from tests.support.pages import FORM, Part, folder_of
-from tests.support.running import Ran, run
+from tests.support.running import HANG, Ran, run
 
 # What is not run: what the command has in it, and why.
 NOT_RUN = {
@@ -77,7 +77,7 @@ class Copy:
     prefix: str
     path: str
 
-    def run(self, part: Part, seconds: float = 120) -> Result:
+    def run(self, part: Part, seconds: float = HANG) -> Result:
         """Runs the commands of a part in one shell, in the folder of its page."""
         commands = [changed(command, self.prefix) for command in part.commands()
                     if not why_not(command) and not is_form(command)]

@@ -85,7 +85,10 @@ def run_package(alone: pathlib.Path, folder: pathlib.Path, package: str, data: b
         if not any(REGISTRY.glob(f"{name}-*")):
             give_up(f"missing: the crate {name} (Debian: librust-{name.replace('_', '-')}-dev)")
     link_crates(folder)
-    extra = {**settings(folder), "TENANT_ALONE": str(alone)}
+    # cargo splits the command of a runner at blanks.
+    link = folder / "alone"
+    link.symlink_to(alone)
+    extra = {**settings(folder), "TENANT_ALONE": str(link)}
     copy = folder / "package"
     shutil.copytree(RUST, copy, ignore=shutil.ignore_patterns("out", "Cargo.lock"))
     words: list[Word] = [CARGO, "run", "--quiet", "--release"]
