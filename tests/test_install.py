@@ -130,8 +130,8 @@ def test_no_place_of_the_build(prefix: pathlib.Path) -> None:
 
 
 def lines_of(built: pathlib.Path) -> str:
-    """The lines of what is installed: the commit is that at which it was built, where tools/build.sh
-    has marked it, and else that of the checkout."""
+    """The lines of what is installed. The commit is that at which tools/build.sh has built and
+    marked it, and else that of the checkout."""
     held = re.search(rb"commit:    ([0-9a-f]{40})", built.read_bytes())
     commit = held[1].decode() if held else git("rev-parse", "HEAD").strip()
     return rf"commit:    {commit}\nchanges:   (none|some)\ntoolchain: [0-9a-f]{{40}}\n" \
