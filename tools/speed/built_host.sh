@@ -6,7 +6,7 @@ host=$crate/out/mte_host
 
 # Proves and builds the program where it is not there or of other sources.
 build_host() {
-    "$crate/../../tools/build.sh" --only mte_host
+    "$crate/../../tools/build.sh" --only "${host##*/}"
 }
 
 # Microseconds since 1970, whatever sign the locale puts before the fraction.
