@@ -1,7 +1,6 @@
 # The program that the timing scripts of this folder run, and their clock; they read it by `source`.
 # shellcheck shell=bash
 crate=$(cd "$(dirname "${BASH_SOURCE[0]}")/../../crates/mte_host" && pwd)
-# shellcheck disable=SC2034 # of those that read this file
 host=$crate/out/mte_host
 
 # Proves and builds the program where it is not there or of other sources.
