@@ -3,8 +3,8 @@
 ghost use Rattle.std.specs.Prelude.{◌≡◌};
 ghost use Rattle.elf_core.specs.Flags.{word_of_mode};
 
+use mte_svc::Status;
 use mte_tags::{FaultKind, MemFault, TagMode, with_tag};
-use mte_tenant::Status;
 
 /// How many bytes a `siginfo_t` has.
 pub const INFO_SIZE: usize = 128;

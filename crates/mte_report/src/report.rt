@@ -10,8 +10,8 @@ use heap_bounds::{RangeUse, access_of};
 use instruction_trace::{Instruction, Moment, Nzcv, TraceLine, Turn, tell_turns};
 use mte_backtrace::{FrameNames, Names};
 use mte_flat::Flat;
+use mte_svc::{Status, TenantParts};
 use mte_tags::{FaultKind, MemFault, Tagged};
-use mte_tenant::{Status, TenantParts};
 use run_book::{Book, Bytes, ChunkOwner, ChunkQuery};
 use run_cause::{
     Cause, Evidence, Finding, ForbiddenAccess, LastStore, Violation, abort_words, breakpoint_words,

@@ -4,7 +4,7 @@ use crate::explanation::Explanation;
 use crate::report::Report;
 use mte_backtrace::{FrameNames, StackFrame};
 use mte_flat::Flat;
-use mte_tenant::Status;
+use mte_svc::Status;
 use run_book::BookEntry;
 use std::alloc::{AllocError, Global};
 use std::fmt;

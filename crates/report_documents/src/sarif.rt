@@ -5,7 +5,7 @@ use crate::document::Document;
 use mte_backtrace::{CallStack, FrameNames, Quoted};
 use mte_flat::Flat;
 use mte_report::{Context, Explanation, Report};
-use mte_tenant::Status;
+use mte_svc::Status;
 use run_book::{BookEntry, EntryText};
 use run_cause::Cause;
 use std::alloc::Global;

@@ -17,10 +17,10 @@ use heap_functions::HeapFunctionWatch;
 use instruction_trace::{Moment, SVC};
 use mte_backtrace::Callers;
 use mte_svc::{
-    AnsweredCall, CALLOC, EXIT, FREE, MALLOC, MEMALIGN, READ, REALLOC, USABLE_SIZE, WRITE,
+    AnsweredCall, CALLOC, EXIT, FREE, MALLOC, MEMALIGN, READ, REALLOC, TenantParts, USABLE_SIZE,
+    WRITE,
 };
 use mte_tags::Tagged;
-use mte_tenant::TenantParts;
 use named_places::{NamedPlaces, PlaceMisuse};
 use pointer_provenance::{ChunkChange, Misuse, Shadow, TracedChunk};
 use scudo_heap::HeapCall;

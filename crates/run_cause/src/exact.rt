@@ -7,9 +7,8 @@ use a64_registers::Regs;
 use heap_bounds::{Bounds, Span, span_of};
 use instruction_trace::Moment;
 use mte_backtrace::Callers;
-use mte_svc::AnsweredCall;
+use mte_svc::{AnsweredCall, TenantParts};
 use mte_tags::Tagged;
-use mte_tenant::TenantParts;
 use std::alloc::Global;
 
 /// An access to bytes of the heap that no live chunk has, or that its pointer's own chunk has not.

@@ -9,8 +9,8 @@ use circular_buffer::HeapCircularBuffer;
 use heap_bounds::{access_of, span_of};
 use instruction_trace::Moment;
 use mte_backtrace::Callers;
+use mte_svc::{Status, TenantParts};
 use mte_tags::Tagged;
-use mte_tenant::{Status, TenantParts};
 
 /// How many bytes an address has.
 const ADDRESS_SIZE: u64 = 8;

@@ -6,8 +6,8 @@ use crate::draws::draws_between;
 use a64_decode::decode;
 use heap_bounds::{MemoryAccess, access_of};
 use instruction_trace::{Moment, SVC};
+use mte_svc::TenantParts;
 use mte_tags::{Attrs, Paged, Tagged};
-use mte_tenant::TenantParts;
 use scudo_heap::HeapCall;
 
 /// The heap calls, one of each kind, in the order of their services' numbers.
