@@ -1,43 +1,40 @@
 //! The core file of a tenant's end.
 
 use crate::files::read_course;
+use crate::request::Request;
 use elf_core::{CoreSubject, write_core};
 use mte_flat::Flat;
 use mte_tags::TagMode;
-use run_terms::{Failure, Options, Replay};
+use run_terms::{Failure, Replay};
 use std::fs::File;
 use std::io;
 use std::io::BufWriter;
 
-/// Writes the core file of a tenant's end, where one is named.
-pub fn dump_core<'a>(
-    rt: &HostRuntime,
-    options: &'a Options,
-    subject: &CoreSubject<'_>,
-    memory: &mut Flat,
-) -> Result<(), Failure<'a>> {
-    match &options.output.core {
-        Some(name) => dump(rt, name.as_str(), subject, memory),
-        None => Ok(()),
+impl<'a, 'x> Request<'a, 'x> {
+    /// Writes the core file of a tenant's end, where one is named.
+    pub fn dump_core(
+        &self,
+        subject: &CoreSubject<'_>,
+        memory: &mut Flat,
+    ) -> Result<(), Failure<'a>> {
+        match &self.options.output.core {
+            Some(name) => dump(self.rt, name.as_str(), subject, memory),
+            None => Ok(()),
+        }
     }
-}
 
-/// The tag mode of a tenant of a session, where a core file is named that has it.
-pub fn mode_in<'a>(
-    rt: &HostRuntime,
-    options: &'a Options,
-    replay: &'a Replay,
-    files: &[Vec<u8>],
-) -> Result<TagMode, Failure<'a>> {
-    if options.output.core.is_none() {
-        return Ok(TagMode::Sync);
+    /// The tag mode of a tenant of a session, where a core file is named that has it.
+    pub fn mode_in(&self, replay: &'a Replay) -> Result<TagMode, Failure<'a>> {
+        if self.options.output.core.is_none() {
+            return Ok(TagMode::Sync);
+        }
+        let course = read_course(self.rt, replay, self.files)?;
+        Ok(
+            course
+                .admitted
+                .map_or(TagMode::Sync, |admitted| admitted.terms.mode),
+        )
     }
-    let course = read_course(rt, replay, files)?;
-    Ok(
-        course
-            .admitted
-            .map_or(TagMode::Sync, |admitted| admitted.terms.mode),
-    )
 }
 
 /// Writes the core file with a name.

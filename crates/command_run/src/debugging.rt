@@ -2,7 +2,8 @@
 
 ghost use Rattle.std.specs.Prelude.{◌<◌};
 
-use crate::files::{Image, read_course, read_input};
+use crate::files::{read_course, read_input};
+use crate::request::Request;
 use crate::unadmitted::{end_unadmitted, refuse};
 use address_map::MAX_STEPS;
 use debuggee::{Cuts, Debuggee};
@@ -12,98 +13,52 @@ use mte_tenant::Admission;
 use obstacle::Obstacle;
 use run_terms::{Failure, Options, Replay};
 use std::alloc::{AllocError, Global};
-use tenant_run::{Admitted, admission_of};
+use tenant_run::admission_of;
 
-/// Answers GDB of an image alone, and returns the exit status.
-pub fn debug_alone<'a>(
-    rt: &HostRuntime,
-    options: &'a Options,
-    image: &Image<'_>,
-) -> Result<u8, Failure<'a>> {
-    let input = read_input(rt, options)?;
-    let listed = listed_slices(rt.alloc(), options)?;
-    debug_image(
-        rt,
-        options,
-        image.bytes,
-        image.name,
-        input.as_slice(),
-        listed.as_slice(),
-    )
-}
+impl<'a, 'x> Request<'a, 'x> {
+    /// Answers GDB of an image alone, and returns the exit status.
+    pub fn debug_alone(&self) -> Result<u8, Failure<'a>> {
+        let options = self.options;
+        let input = read_input(self.rt, options)?;
+        let listed = listed_slices(self.rt.alloc(), options)?;
+        let cuts = Cuts {
+            listed: listed.as_slice(),
+            others: others_of(options),
+            limit: options.length.steps,
+        };
+        let image = self.image(1);
+        let seed = options.run.terms.seed;
+        let subject = DebugSubject {
+            image: image.bytes,
+            name: image.name,
+            seed: Some(seed),
+        };
+        let admission = admission_of(options, image.bytes, input.as_slice(), seed);
+        debug(self.rt, &admission, &cuts, subject)
+    }
 
-/// Answers GDB of an image alone, with its input and the slices that are named.
-fn debug_image<'a, 'x>(
-    rt: &HostRuntime,
-    options: &Options,
-    image: &'x [u8],
-    name: &'x str,
-    input: &'x [u8],
-    listed: &'x [u32],
-) -> Result<u8, Failure<'a>> {
-    let seed = options.run.terms.seed;
-    let admission = admission_of(options, image, input, seed);
-    let cuts = Cuts {
-        listed,
-        others: others_of(options),
-        limit: options.length.steps,
-    };
-    let subject = DebugSubject {
-        image,
-        name,
-        seed: Some(seed),
-    };
-    debug(rt, &admission, &cuts, subject)
-}
-
-/// Answers GDB of a tenant of a session, and returns the exit status.
-pub fn debug_replay<'a>(
-    rt: &HostRuntime,
-    options: &'a Options,
-    replay: &'a Replay,
-    files: &[Vec<u8>],
-) -> Result<u8, Failure<'a>> {
-    let course = read_course(rt, replay, files)?;
-    match course.admitted {
-        Some(admitted) => {
-            let name = options.file_name(admitted.image);
-            debug_course(
-                rt,
-                &admitted,
-                replay.id,
-                name,
-                files,
-                course.slices.as_slice(),
-            )
+    /// Answers GDB of a tenant of a session, and returns the exit status.
+    pub fn debug_replay(&self, replay: &'a Replay) -> Result<u8, Failure<'a>> {
+        let course = read_course(self.rt, replay, self.files)?;
+        let Some(admitted) = course.admitted else {
+            return Ok(end_unadmitted(self.rt));
+        };
+        let admission = admitted.admission(replay.id, self.files);
+        if admission.terms.pages == 0 {
+            return Ok(end_unadmitted(self.rt));
         }
-        None => Ok(end_unadmitted(rt)),
+        let cuts = Cuts {
+            listed: course.slices.as_slice(),
+            others: 0,
+            limit: u64::MAX,
+        };
+        let subject = DebugSubject {
+            image: admission.image,
+            name: self.options.file_name(admitted.image),
+            seed: None,
+        };
+        debug(self.rt, &admission, &cuts, subject)
     }
-}
-
-/// Answers GDB of a tenant of a session, with what it was admitted with and its slices.
-fn debug_course<'a, 'x>(
-    rt: &HostRuntime,
-    admitted: &Admitted,
-    id: u16,
-    name: &'x str,
-    files: &'x [Vec<u8>],
-    listed: &'x [u32],
-) -> Result<u8, Failure<'a>> {
-    let admission = admitted.admission(id, files);
-    if admission.terms.pages == 0 {
-        return Ok(end_unadmitted(rt));
-    }
-    let cuts = Cuts {
-        listed,
-        others: 0,
-        limit: u64::MAX,
-    };
-    let subject = DebugSubject {
-        image: admission.image,
-        name,
-        seed: None,
-    };
-    debug(rt, &admission, &cuts, subject)
 }
 
 /// The slices that are named and have steps.

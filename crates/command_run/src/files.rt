@@ -2,29 +2,12 @@
 
 use check_kinds::Suppressions;
 use mte_program::StreamSource;
-use mte_session::{file_of, read_whole};
+use mte_session::read_whole;
 use obstacle::Obstacle;
 use run_terms::{Failure, FileFault, Options, Replay};
+use session_replay::{SessionCourse, events_of};
 use std::fs::File;
 use std::str;
-use tenant_run::{SessionCourse, events_of};
-
-/// An image.
-#[derive(Clone, Copy)]
-pub struct Image<'a> {
-    /// The name of its file.
-    pub name: &'a str,
-    /// Its bytes.
-    pub bytes: &'a [u8],
-}
-
-/// The image in the file with a number from 1.
-pub fn image_of<'a>(options: &'a Options, files: &'a [Vec<u8>], number: u32) -> Image<'a> {
-    Image {
-        name: options.file_name(number),
-        bytes: file_of(files, number),
-    }
-}
 
 /// All bytes of the files that are named.
 pub fn read_files<'a>(rt: &HostRuntime, options: &'a Options) -> Result<Vec<Vec<u8>>, Failure<'a>> {

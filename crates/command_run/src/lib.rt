@@ -7,6 +7,7 @@ mod debugging;
 mod files;
 mod lost;
 mod map;
+mod request;
 mod running;
 mod telling;
 mod unadmitted;

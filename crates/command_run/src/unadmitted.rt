@@ -5,9 +5,10 @@ use mte_session::Event;
 use mte_tenant::{AdmitError, Refusal, Terms, charge};
 use obstacle::Obstacle;
 use run_terms::{Failure, Replay, remedy_of};
+use session_replay::decide;
 use std::alloc::Global;
 use std::fmt;
-use tenant_run::{REFUSED, decide};
+use tenant_run::REFUSED;
 
 /// An admission that is refused.
 #[derive(Clone, Copy)]

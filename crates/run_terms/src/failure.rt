@@ -2,7 +2,8 @@
 
 use crate::wrong::WrongWord;
 use check_kinds::SuppressionFault;
-use mte_session::{ReadFault, ScriptError, ScriptFault, WriteFault};
+use mte_script::{ScriptError, ScriptFault};
+use mte_streams::{ReadFault, WriteFault};
 use obstacle::Obstacle;
 use std::alloc::{AllocError, AllocFailed};
 use std::{fmt, io};

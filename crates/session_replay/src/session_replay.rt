@@ -1,16 +1,13 @@
 //! A session of which one tenant is replayed.
 
-use crate::bench::Watcher;
-use crate::lone::wants_watch;
-use crate::observer::Observer;
 use crate::replay::{Replayed, replay_tenant};
-use crate::store_watcher::StoreWatcher;
 use mte_program::StreamSink;
 use mte_sched::Host;
 use mte_session::{Event, Sink, parse_script};
 use run_terms::{Failure, Options, Replay};
 use std::alloc::Global;
 use std::io::sink;
+use tenant_run::{Observer, StoreWatcher, Watcher, wants_watch};
 
 /// A session of which one tenant is replayed.
 #[derive(Clone, Copy)]

@@ -9,16 +9,16 @@ ghost use Rattle.mte_sched.specs.Contents.{after_call};
 ghost use Rattle.mte_sched.specs.Hosts.{content_of, ledger_in};
 ghost use Rattle.mte_session.specs.Files.{contents};
 ghost use Rattle.mte_session.specs.Sessions.{call_of, session_of};
-ghost use Rattle.tenant_run.specs.Replays.{IsReplay, number_in, with_no_steps, machine_after, HasPages};
-ghost use Rattle.tenant_run.specs.Replays.{IsStarted, IsPlayed};
+ghost use Rattle.session_replay.specs.Replays.{IsReplay, number_in, with_no_steps, machine_after, HasPages};
+ghost use Rattle.session_replay.specs.Replays.{IsStarted, IsPlayed};
 
-use crate::bench::{TenantBench, Watcher};
 use mte_sched::{Host, ledger_follows};
 use mte_session::{Event, Sink, admission_of, write_refusal};
 use mte_tenant::{Refusal, Refused};
 use obstacle::Obstacle;
 use run_terms::Failure;
 use std::alloc::Global;
+use tenant_run::{TenantBench, Watcher};
 
 /// A tenant that ran as in its session.
 #[derive(Drop)]
