@@ -1,40 +1,37 @@
 //! The core file of a tenant's end.
 
-use crate::files::read_course;
-use crate::request::Request;
 use elf_core::{CoreSubject, write_core};
 use mte_flat::Flat;
 use mte_tags::TagMode;
+use run_request::{Request, read_course};
 use run_terms::{Failure, Replay};
 use std::fs::File;
 use std::io;
 use std::io::BufWriter;
 
-impl<'a, 'x> Request<'a, 'x> {
-    /// Writes the core file of a tenant's end, where one is named.
-    pub fn dump_core(
-        &self,
-        subject: &CoreSubject<'_>,
-        memory: &mut Flat,
-    ) -> Result<(), Failure<'a>> {
-        match &self.options.output.core {
-            Some(name) => dump(self.rt, name.as_str(), subject, memory),
-            None => Ok(()),
-        }
+/// Writes the core file of a tenant's end, where one is named.
+pub fn dump_core<'a>(
+    request: &Request<'a, '_>,
+    subject: &CoreSubject<'_>,
+    memory: &mut Flat,
+) -> Result<(), Failure<'a>> {
+    match &request.options.output.core {
+        Some(name) => dump(request.rt, name.as_str(), subject, memory),
+        None => Ok(()),
     }
+}
 
-    /// The tag mode of a tenant of a session, where a core file is named that has it.
-    pub fn mode_in(&self, replay: &'a Replay) -> Result<TagMode, Failure<'a>> {
-        if self.options.output.core.is_none() {
-            return Ok(TagMode::Sync);
-        }
-        let course = read_course(self.rt, replay, self.files)?;
-        Ok(
-            course
-                .admitted
-                .map_or(TagMode::Sync, |admitted| admitted.terms.mode),
-        )
+/// The tag mode of a tenant of a session, where a core file is named that has it.
+pub fn mode_in<'a>(request: &Request<'a, '_>, replay: &'a Replay) -> Result<TagMode, Failure<'a>> {
+    if request.options.output.core.is_none() {
+        return Ok(TagMode::Sync);
     }
+    let course = read_course(request.rt, replay, request.files)?;
+    Ok(
+        course
+            .admitted
+            .map_or(TagMode::Sync, |admitted| admitted.terms.mode),
+    )
 }
 
 /// Writes the core file with a name.

@@ -1,9 +1,10 @@
 //! What is said of a tenant at its end.
 
+use crate::core_dump::dump_core;
 use crate::lost::lost_chunks;
 use crate::map::draw_map;
-use crate::request::{Request, Run};
 use address_map::GRANULE_SIZE;
+use check_kinds::Suppressions;
 use elf_core::CoreSubject;
 use heap_bounds::{Allocation, made_by};
 use heap_page::HeapPage;
@@ -15,6 +16,7 @@ use mte_tags::Paged;
 use mte_tenant::Status;
 use pointer_provenance::LostChunk;
 use report_documents::Document;
+use run_request::{Request, Run};
 use run_terms::{Exactness, Failure, FileFault, Options};
 use shadow_memory::Full;
 use std::alloc::{AllocError, Global};
@@ -23,81 +25,79 @@ use std::io;
 use std::io::{BufWriter, Write};
 use tenant_run::{LastLine, Observer, TenantBench, TenantEnding};
 
-impl<'a, 'x> Request<'a, 'x> {
-    /// Writes what happened to a tenant, and returns the exit status.
-    pub fn tell_end(
-        &self,
-        run: &Run<'_>,
-        bench: TenantBench,
-        observer: &mut Observer<'_>,
-    ) -> Result<u8, Failure<'a>> {
-        self.end_watch(observer)?;
-        let TenantBench {
-            parts,
-            mut memory,
-            ..
-        } = bench;
-        self.tell_parts(run, &parts, &mut memory, observer)
-    }
+/// Writes what happened to a tenant, and returns the exit status.
+pub fn tell_end<'a>(
+    request: &Request<'a, '_>,
+    run: &Run<'_>,
+    bench: TenantBench,
+    observer: &mut Observer<'_>,
+) -> Result<u8, Failure<'a>> {
+    end_watch(request, observer)?;
+    let TenantBench {
+        parts,
+        mut memory,
+        ..
+    } = bench;
+    tell_parts(request, run, &parts, &mut memory, observer)
+}
 
-    /// Ends the lines of a trace, and says whether output was cut. A line or a chunk that is
-    /// missing is a failure.
-    fn end_watch(&self, observer: &mut Observer<'_>) -> Result<(), Failure<'a>> {
-        if !observer.finish() {
-            return Err(unwritten_lines(self.options));
-        }
-        if !observer.is_complete() {
-            return Err(Failure::Memory);
-        }
-        if let Some(full) = observer.full() {
-            return Err(failure_of(full));
-        }
-        if observer.is_cut {
-            let _ = eprintln!(self.rt; "mte_run: output was cut: there was no more room (--out)");
-        }
-        Ok(())
+/// Ends the lines of a trace, and says whether output was cut. A line or a chunk that is missing is
+/// a failure.
+fn end_watch<'a>(
+    request: &Request<'a, '_>,
+    observer: &mut Observer<'_>,
+) -> Result<(), Failure<'a>> {
+    if !observer.finish() {
+        return Err(unwritten_lines(request.options));
     }
+    if !observer.is_complete() {
+        return Err(Failure::Memory);
+    }
+    if let Some(full) = observer.full() {
+        return Err(failure_of(full));
+    }
+    if observer.is_cut {
+        let _ = eprintln!(request.rt; "mte_run: output was cut: there was no more room (--out)");
+    }
+    Ok(())
+}
 
-    /// Writes what happened by a tenant's parts and its memory. It borrows them, so that none of
-    /// its ends has to drop them.
-    fn tell_parts(
-        &self,
-        run: &Run<'_>,
-        parts: &TenantParts,
-        memory: &mut Flat,
-        observer: &Observer<'_>,
-    ) -> Result<u8, Failure<'a>> {
-        let (alloc, options) = (self.rt.alloc(), self.options);
-        let subject = CoreSubject {
-            parts,
-            mode: run.mode,
-            name: run.image.name,
-        };
-        self.dump_core(&subject, memory)?;
-        let reserved = reserved_pages(alloc, options, memory)?;
-        let lost = lost_chunks(alloc, parts, observer, memory)?;
-        let is_named = !lost.is_empty() || is_told(parts, observer, options);
-        let names = Names::of(alloc, if is_named { run.image.bytes } else { &[] })?;
-        let ended = Ended {
-            request: self,
-            report: &Report {
-                parts,
-                book: &observer.book,
-                last: Some(observer.last()),
-                last_count: options.output.last_lines,
-                turns: observer.turns(),
-                limit: options.limit(),
-                names: &names,
-                image: run.image.name,
-                seed: run.seed,
-                finding: observer.finding(),
-                store: observer.store.as_ref(),
-                statistics: observer.table(reserved),
-                is_cut: observer.is_cut,
-            },
-        };
-        ended.tell(lost.as_slice(), memory)
-    }
+/// Writes what happened by a tenant's parts and its memory. It borrows them, so that none of its
+/// ends has to drop them.
+fn tell_parts<'a>(
+    request: &Request<'a, '_>,
+    run: &Run<'_>,
+    parts: &TenantParts,
+    memory: &mut Flat,
+    observer: &Observer<'_>,
+) -> Result<u8, Failure<'a>> {
+    let (alloc, options) = (request.rt.alloc(), request.options);
+    let subject = CoreSubject {
+        parts,
+        mode: run.mode,
+        name: run.image.name,
+    };
+    dump_core(request, &subject, memory)?;
+    let reserved = reserved_pages(alloc, options, memory)?;
+    let lost = lost_chunks(alloc, parts, observer, memory)?;
+    let is_named = !lost.is_empty() || is_told(parts, observer, options);
+    let names = Names::of(alloc, if is_named { run.image.bytes } else { &[] })?;
+    let report = Report {
+        parts,
+        book: &observer.book,
+        last: Some(observer.last()),
+        last_count: options.output.last_lines,
+        turns: observer.turns(),
+        limit: options.limit(),
+        names: &names,
+        image: run.image.name,
+        seed: run.seed,
+        finding: observer.finding(),
+        store: observer.store.as_ref(),
+        statistics: observer.table(reserved),
+        is_cut: observer.is_cut,
+    };
+    tell(request, &report, lost.as_slice(), memory)
 }
 
 /// The failure to note more of the tenant's pointers.
@@ -117,157 +117,50 @@ fn unwritten_lines(options: &Options) -> Failure<'_> {
     }
 }
 
-/// A tenant that has ended, and what is requested of it.
-#[derive(Clone, Copy)]
-struct Ended<'a, 'x> {
-    request: &'x Request<'a, 'x>,
-    /// What happened.
-    report: &'x Report<'x>,
+/// Writes which chunks are lost, and what the options request, and returns the exit status.
+fn tell<'a>(
+    request: &Request<'a, '_>,
+    report: &Report<'_>,
+    lost: &[LostChunk],
+    memory: &mut Flat,
+) -> Result<u8, Failure<'a>> {
+    let (rt, options) = (request.rt, request.options);
+    let has_lost = tell_lost(rt, report, lost, request.suppressions)?;
+    tell_report(rt, report, memory)?;
+    tell_leaks(rt, report, options)?;
+    tell_statistics(rt, report)?;
+    let ending = ending_of(report, options);
+    let status = status_of(report, options, ending, has_lost);
+    write_files(rt, report, options, status, memory)?;
+    tell_unseen(rt, report, options);
+    tell_last_line(rt, report, ending, status);
+    Ok(status)
 }
 
-impl<'a, 'x> Ended<'a, 'x> {
-    /// Writes which chunks are lost, and what the options request, and returns the exit status.
-    fn tell(&self, lost: &[LostChunk], memory: &mut Flat) -> Result<u8, Failure<'a>> {
-        let has_lost = self.tell_lost(lost)?;
-        self.tell_report(memory)?;
-        self.tell_leaks()?;
-        self.tell_statistics()?;
-        let ending = self.ending();
-        let status = self.status(ending, has_lost);
-        self.write_files(status, memory)?;
-        self.tell_unseen();
-        self.tell_last_line(ending, status);
-        Ok(status)
+/// How the tenant ended.
+fn ending_of(report: &Report<'_>, options: &Options) -> TenantEnding {
+    if report.finding.is_some() {
+        return TenantEnding::Exact;
     }
-
-    /// How the tenant ended.
-    fn ending(&self) -> TenantEnding {
-        let report = self.report;
-        if report.finding.is_some() {
-            return TenantEnding::Exact;
-        }
-        let is_whole = self.request.options.output.is_whole;
-        match TenantEnding::of(&report.parts.history, report.limit) {
-            TenantEnding::Exit if report.is_cut && is_whole => TenantEnding::Cut,
-            ending => ending,
-        }
-    }
-
-    /// The exit status: the one that an option names for what was found, or for lost chunks, else
-    /// that of how the tenant ended.
-    fn status(&self, ending: TenantEnding, has_lost: bool) -> u8 {
-        let output = &self.request.options.output;
-        let own = ending.status(&self.report.parts.history);
-        match self.report.finding {
-            Some(finding) if !finding.wrong.violation.is_of_bounds() => {
-                output.found_status.unwrap_or(own)
-            }
-            None if has_lost && ending == TenantEnding::Exit => output.lost_status.unwrap_or(own),
-            _ => own,
-        }
-    }
-
-    /// Writes the chunks that nothing reaches, on standard error, but for those that are
-    /// suppressed. Whether there are any.
-    fn tell_lost(&self, lost: &[LostChunk]) -> io::Result<bool> {
-        let rt = self.request.rt;
-        let told = self.report.told_lost(rt.alloc(), lost, self.request.suppressions)?;
-        if told.is_empty() {
-            return Ok(false);
-        }
-        write_lost(rt, self.report, told.as_slice())?;
-        Ok(true)
-    }
-
-    /// Writes what happened, on standard error, unless the tenant exited.
-    fn tell_report(&self, memory: &mut Flat) -> io::Result<()> {
-        let (rt, report) = (self.request.rt, self.report);
-        if report.finding.is_none() && is_exit(report) {
-            return Ok(());
-        }
-        let mut out = BufWriter::new(rt.alloc(), rt.stderr())?;
-        report.write(rt.alloc(), &mut out, memory)
-    }
-
-    /// Writes the live chunks, on standard error, where they are requested.
-    fn tell_leaks(&self) -> io::Result<()> {
-        let Request {
-            rt,
-            options,
-            ..
-        } = self.request;
-        if !options.output.leaks {
-            return Ok(());
-        }
-        let mut out = BufWriter::new(rt.alloc(), rt.stderr())?;
-        self.report.write_leaks(rt.alloc(), &mut out)
-    }
-
-    /// Writes the numbers of the run, on standard error, where they are requested.
-    fn tell_statistics(&self) -> io::Result<()> {
-        let rt = self.request.rt;
-        let mut out = BufWriter::new(rt.alloc(), rt.stderr())?;
-        self.report.write_statistics(&mut out)
-    }
-
-    /// Writes the files that the options name.
-    fn write_files(&self, exit_status: u8, memory: &mut Flat) -> Result<(), Failure<'a>> {
-        let Request {
-            rt,
-            options,
-            ..
-        } = self.request;
-        let document = Document {
-            alloc: rt.alloc(),
-            report: self.report,
-            exit_status,
-        };
-        let named = [
-            (&options.output.json, DocumentForm::Json),
-            (&options.output.sarif, DocumentForm::Sarif),
-            (&options.output.page, DocumentForm::Page),
-        ];
-        for (name, form) in named.iter() {
-            if let Some(name) = name {
-                let name = name.as_str();
-                write_document(rt, &document, *form, name, memory).map_err(
-                    |error| Failure::of_write(&error, name),
-                )?;
-            }
-        }
-        draw_map(rt, self.report, options, memory)
-    }
-
-    /// Writes what no tag finds, on standard error, of a tenant that exited and had chunks whose
-    /// last granule has bytes past their size.
-    fn tell_unseen(&self) {
-        let output = &self.request.options.output;
-        let is_unseen = output.exact == Exactness::Tags && !output.check.provenance;
-        let calls = &self.report.parts.history.calls;
-        if is_unseen && is_exit(self.report) && may_have_spare_bytes(calls) {
-            let _ = eprintln!(self.request.rt;
-                "mte_run: no tag differed; a tag is that of 16 bytes, so up to 15 bytes past a \
-                 chunk's size are compared by --exact alone"
-            );
-        }
-    }
-
-    /// Writes the last line, where there is one for how it ended and for the exit status.
-    fn tell_last_line(&self, ending: TenantEnding, status: u8) {
-        let line = LastLine {
-            ending,
-            log: &self.report.parts.history,
-            status,
-        };
-        if line.is_told() {
-            let _ = eprintln!(self.request.rt; "mte_run: {line}");
-        }
+    match TenantEnding::of(&report.parts.history, report.limit) {
+        TenantEnding::Exit if report.is_cut && options.output.is_whole => TenantEnding::Cut,
+        ending => ending,
     }
 }
 
-/// Whether the tenant exited.
-fn is_exit(report: &Report<'_>) -> bool {
-    matches!(report.parts.history.status, Status::Exited(_))
+/// The exit status: the one that an option names for what was found, or for lost chunks, else that
+/// of how the tenant ended.
+fn status_of(report: &Report<'_>, options: &Options, ending: TenantEnding, has_lost: bool) -> u8 {
+    let own = ending.status(&report.parts.history);
+    match report.finding {
+        Some(finding) if !finding.wrong.violation.is_of_bounds() => {
+            options.output.found_status.unwrap_or(own)
+        }
+        None if has_lost && ending == TenantEnding::Exit => {
+            options.output.lost_status.unwrap_or(own)
+        }
+        _ => own,
+    }
 }
 
 /// Whether anything is written in which names are: of a tenant that exited only what is requested.
@@ -282,11 +175,81 @@ fn is_told(parts: &TenantParts, observer: &Observer<'_>, options: &Options) -> b
         || output.page.is_some()
 }
 
+/// Writes the chunks that nothing reaches, on standard error, but for those that are suppressed.
+/// Whether there are any.
+fn tell_lost(
+    rt: &HostRuntime,
+    report: &Report<'_>,
+    lost: &[LostChunk],
+    suppressions: &Suppressions,
+) -> io::Result<bool> {
+    let told = report.told_lost(rt.alloc(), lost, suppressions)?;
+    if told.is_empty() {
+        return Ok(false);
+    }
+    write_lost(rt, report, told.as_slice())?;
+    Ok(true)
+}
+
 /// Writes chunks that nothing reaches, on standard error.
 fn write_lost(rt: &HostRuntime, report: &Report<'_>, lost: &[LostChunk]) -> io::Result<()> {
     let mut out = BufWriter::new(rt.alloc(), rt.stderr())?;
     write!(out, "mte_run: ")?;
     report.write_lost(rt.alloc(), &mut out, lost)
+}
+
+/// Writes what happened, on standard error, unless the tenant exited.
+fn tell_report(rt: &HostRuntime, report: &Report<'_>, memory: &mut Flat) -> io::Result<()> {
+    let log = &report.parts.history;
+    if report.finding.is_none() && matches!(log.status, Status::Exited(_)) {
+        return Ok(());
+    }
+    let mut out = BufWriter::new(rt.alloc(), rt.stderr())?;
+    report.write(rt.alloc(), &mut out, memory)
+}
+
+/// Writes the live chunks, on standard error, where that is requested.
+fn tell_leaks(rt: &HostRuntime, report: &Report<'_>, options: &Options) -> io::Result<()> {
+    if !options.output.leaks {
+        return Ok(());
+    }
+    let mut out = BufWriter::new(rt.alloc(), rt.stderr())?;
+    report.write_leaks(rt.alloc(), &mut out)
+}
+
+/// Writes the numbers of the run, on standard error, where they are requested.
+fn tell_statistics(rt: &HostRuntime, report: &Report<'_>) -> io::Result<()> {
+    let mut out = BufWriter::new(rt.alloc(), rt.stderr())?;
+    report.write_statistics(&mut out)
+}
+
+/// Writes the files that the options name.
+fn write_files<'a>(
+    rt: &HostRuntime,
+    report: &Report<'_>,
+    options: &'a Options,
+    exit_status: u8,
+    memory: &mut Flat,
+) -> Result<(), Failure<'a>> {
+    let document = Document {
+        alloc: rt.alloc(),
+        report,
+        exit_status,
+    };
+    let named = [
+        (&options.output.json, DocumentForm::Json),
+        (&options.output.sarif, DocumentForm::Sarif),
+        (&options.output.page, DocumentForm::Page),
+    ];
+    for (name, form) in named.iter() {
+        if let Some(name) = name {
+            let name = name.as_str();
+            write_document(rt, &document, *form, name, memory).map_err(|error| Failure::of_write(
+                &error, name,
+            ))?;
+        }
+    }
+    draw_map(rt, report, options, memory)
 }
 
 /// The reservation in pages, those that are mapped and those that are left, where it is written.
@@ -326,11 +289,7 @@ fn write_document(
 }
 
 /// Writes a page for browsers, with what is written for programs in it.
-fn write_page<W: Write>(
-    document: &Document<'_>,
-    out: &mut W,
-    memory: &mut Flat,
-) -> io::Result<()> {
+fn write_page<W: Write>(document: &Document<'_>, out: &mut W, memory: &mut Flat) -> io::Result<()> {
     let mut run = Vec::new(document.alloc);
     document.write_json(&mut run, memory)?;
     let page = HeapPage {
@@ -339,6 +298,33 @@ fn write_page<W: Write>(
         run: run.as_slice(),
     };
     page.write(out, memory)
+}
+
+/// Writes what no tag finds, on standard error, of a tenant that exited and had chunks whose last
+/// granule has bytes past their size.
+fn tell_unseen(rt: &HostRuntime, report: &Report<'_>, options: &Options) {
+    let log = &report.parts.history;
+    let is_exit = matches!(log.status, Status::Exited(_));
+    let is_unseen = options.output.exact == Exactness::Tags && !options.output.check.provenance;
+    if is_exit && is_unseen && may_have_spare_bytes(&log.calls) {
+        let _ = eprintln!(rt;
+            "mte_run: no tag differed; a tag is that of 16 bytes, so up to 15 bytes past a chunk's \
+             size are compared by --exact alone"
+        );
+    }
+}
+
+/// Writes the last line, where there is one for how it ended and for the exit status.
+fn tell_last_line(rt: &HostRuntime, report: &Report<'_>, ending: TenantEnding, status: u8) {
+    let log = &report.parts.history;
+    let line = LastLine {
+        ending,
+        log,
+        status,
+    };
+    if line.is_told() {
+        let _ = eprintln!(rt; "mte_run: {line}");
+    }
 }
 
 /// Whether a chunk may have had bytes of its last granule past its size: one of the calls that are

@@ -72,11 +72,7 @@ impl<'x> LoneTenant<'x> {
     }
 
     /// The tenant at its first instruction.
-    fn bench(
-        &self,
-        alloc: Global,
-        options: &Options,
-    ) -> Result<TenantBench, Obstacle<AdmitError>> {
+    fn bench(&self, alloc: Global, options: &Options) -> Result<TenantBench, Obstacle<AdmitError>> {
         let admission = admission_of(options, self.image, self.input, self.seed);
         TenantBench::new(alloc, &admission)
     }

@@ -1,11 +1,12 @@
 //! The files that are read.
 
+use crate::session_course::SessionCourse;
+use crate::session_replay::events_of;
 use check_kinds::Suppressions;
 use mte_program::StreamSource;
 use mte_session::read_whole;
 use obstacle::Obstacle;
 use run_terms::{Failure, FileFault, Options, Replay};
-use session_replay::{SessionCourse, events_of};
 use std::fs::File;
 use std::str;
 

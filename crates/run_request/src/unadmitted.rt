@@ -1,11 +1,11 @@
 //! Why an image is refused, and why a session never admits a tenant.
 
+use crate::replay::decide;
 use mte_sched::Host;
 use mte_session::Event;
 use mte_tenant::{AdmitError, Refusal, Terms, charge};
 use obstacle::Obstacle;
 use run_terms::{Failure, Replay, remedy_of};
-use session_replay::decide;
 use std::alloc::Global;
 use std::fmt;
 use tenant_run::REFUSED;

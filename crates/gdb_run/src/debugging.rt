@@ -2,63 +2,67 @@
 
 ghost use Rattle.std.specs.Prelude.{◌<◌};
 
-use crate::files::{read_course, read_input};
-use crate::request::Request;
-use crate::unadmitted::{end_unadmitted, refuse};
 use address_map::MAX_STEPS;
 use debuggee::{Cuts, Debuggee};
 use gdb_front::{Front, serve};
 use gdb_monitor::DebugSubject;
 use mte_tenant::Admission;
 use obstacle::Obstacle;
+use run_request::{Request, end_unadmitted, read_course, read_input, refuse};
 use run_terms::{Failure, Options, Replay};
 use std::alloc::{AllocError, Global};
 use tenant_run::admission_of;
 
-impl<'a, 'x> Request<'a, 'x> {
-    /// Answers GDB of an image alone, and returns the exit status.
-    pub fn debug_alone(&self) -> Result<u8, Failure<'a>> {
-        let options = self.options;
-        let input = read_input(self.rt, options)?;
-        let listed = listed_slices(self.rt.alloc(), options)?;
-        let cuts = Cuts {
-            listed: listed.as_slice(),
-            others: others_of(options),
-            limit: options.length.steps,
-        };
-        let image = self.image(1);
-        let seed = options.run.terms.seed;
-        let subject = DebugSubject {
-            image: image.bytes,
-            name: image.name,
-            seed: Some(seed),
-        };
-        let admission = admission_of(options, image.bytes, input.as_slice(), seed);
-        debug(self.rt, &admission, &cuts, subject)
+/// Answers GDB of the tenant that is requested, and returns the exit status.
+pub fn debug_program<'a>(request: &Request<'a, '_>) -> Result<u8, Failure<'a>> {
+    match &request.options.replay {
+        Some(replay) => debug_replay(request, replay),
+        None => debug_alone(request),
     }
+}
 
-    /// Answers GDB of a tenant of a session, and returns the exit status.
-    pub fn debug_replay(&self, replay: &'a Replay) -> Result<u8, Failure<'a>> {
-        let course = read_course(self.rt, replay, self.files)?;
-        let Some(admitted) = course.admitted else {
-            return Ok(end_unadmitted(self.rt));
-        };
-        let admission = admitted.admission(replay.id, self.files);
-        if admission.terms.pages == 0 {
-            return Ok(end_unadmitted(self.rt));
-        }
-        let cuts = Cuts {
-            listed: course.slices.as_slice(),
-            others: 0,
-            limit: u64::MAX,
-        };
-        let subject = DebugSubject {
-            image: admission.image,
-            name: self.options.file_name(admitted.image),
-            seed: None,
-        };
-        debug(self.rt, &admission, &cuts, subject)
+/// Answers GDB of an image alone, and returns the exit status.
+fn debug_alone<'a>(request: &Request<'a, '_>) -> Result<u8, Failure<'a>> {
+    let options = request.options;
+    let input = read_input(request.rt, options)?;
+    let listed = listed_slices(request.rt.alloc(), options)?;
+    let cuts = Cuts {
+        listed: listed.as_slice(),
+        others: others_of(options),
+        limit: options.length.steps,
+    };
+    let image = request.image(1);
+    let seed = options.run.terms.seed;
+    let subject = DebugSubject {
+        image: image.bytes,
+        name: image.name,
+        seed: Some(seed),
+    };
+    let admission = admission_of(options, image.bytes, input.as_slice(), seed);
+    debug(request.rt, &admission, &cuts, subject)
+}
+
+/// Answers GDB of a tenant of a session, and returns the exit status.
+fn debug_replay<'a>(request: &Request<'a, '_>, replay: &'a Replay) -> Result<u8, Failure<'a>> {
+    let course = read_course(request.rt, replay, request.files)?;
+    let Some(admitted) = course.admitted else {
+        return Ok(end_unadmitted(request.rt));
+    };
+    let admission = admitted.admission(replay.id, request.files);
+    if admission.terms.pages == 0 {
+        return Ok(end_unadmitted(request.rt));
     }
+    let cuts = Cuts {
+        listed: course.slices.as_slice(),
+        others: 0,
+        limit: u64::MAX,
+    };
+    let subject = DebugSubject {
+        image: admission.image,
+        name: request.options.file_name(admitted.image),
+        seed: None,
+    };
+    debug(request.rt, &admission, &cuts, subject)
 }
 
 /// The slices that are named and have steps.
