@@ -3,9 +3,10 @@
 ghost use Rattle.std.specs.Prelude.{◌≡◌};
 
 use crate::draws::draws_between;
+use crate::instruction::SVC;
+use crate::moment::Moment;
 use a64_decode::decode;
 use heap_bounds::{MemoryAccess, access_of};
-use instruction_trace::{Moment, SVC};
 use mte_svc::TenantParts;
 use mte_tags::{Attrs, Paged, Tagged};
 use scudo_heap::HeapCall;
