@@ -1,7 +1,7 @@
 //! The core file of a tenant's end.
 
 use crate::files::read_course;
-use elf_core::{CoreSubject, write_core};
+use debuggee::{CoreSubject, write_core};
 use mte_flat::Flat;
 use mte_tags::TagMode;
 use run_terms::{Failure, Options, Replay};

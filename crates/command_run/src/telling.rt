@@ -6,7 +6,7 @@ use crate::lost::lost_chunks;
 use crate::map::draw_map;
 use address_map::GRANULE_SIZE;
 use check_kinds::Suppressions;
-use elf_core::CoreSubject;
+use debuggee::CoreSubject;
 use heap_bounds::{Allocation, made_by};
 use heap_page::HeapPage;
 use mte_backtrace::Names;

@@ -10,10 +10,10 @@ ghost use Rattle.mte_tenant.specs.Admissions.{start_in};
 ghost use Rattle.debuggee.specs.Courses.{IsAt};
 
 use crate::cuts::Cuts;
+use crate::memory_map::MappedRegion;
 use crate::watched::{Hit, Watched, Watchpoint};
 use a64_run::OpCache;
 use a64_step::{Decoder, Regs};
-use elf_core::MappedRegion;
 use instruction_trace::Moment;
 use mte_flat::Flat;
 use mte_tags::TagMode;

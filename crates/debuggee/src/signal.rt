@@ -1,7 +1,7 @@
 //! The signal that Linux would send for a tenant's end.
 
 ghost use Rattle.std.specs.Prelude.{◌≡◌};
-ghost use Rattle.elf_core.specs.Flags.{word_of_mode};
+ghost use Rattle.debuggee.specs.Flags.{word_of_mode};
 
 use mte_svc::Status;
 use mte_tags::{FaultKind, MemFault, TagMode, with_tag};

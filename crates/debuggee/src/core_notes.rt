@@ -1,7 +1,7 @@
 //! The notes of a core file (Linux, `elfcore.h`; ELF64, "Note Section").
 
 ghost use Rattle.std.specs.Prelude.{◌≡◌};
-ghost use Rattle.elf_core.specs.Flags.{word_of_flags};
+ghost use Rattle.debuggee.specs.Flags.{word_of_flags};
 
 use crate::signal::{Signal, tag_control};
 use a64_registers::Regs;

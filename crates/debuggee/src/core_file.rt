@@ -2,7 +2,7 @@
 //! "Memory Tagging Extension (MTE) in AArch64 Linux", "Core dump support").
 
 use crate::memory_map::{MappedRegion, regions};
-use crate::notes::{Noted, write_double_words, write_words};
+use crate::core_notes::{Noted, write_double_words, write_words};
 use crate::signal::Signal;
 use address_map::{GRANULE_SIZE, PAGE_SIZE};
 use mte_flat::Flat;
