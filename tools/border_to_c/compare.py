@@ -12,7 +12,7 @@ from .tables import SOURCE, Tables, read
 CRATE = "crates/tombolopan_c/src"
 # All sources that declare what crosses the border.
 FOLDERS = (
-    CRATE, "crates/call_reports/src", "crates/fuzz_handle/src", "crates/machine_acts/src",
+    CRATE, "crates/call_reports/src", "crates/tenant_snapshot/src", "crates/machine_acts/src",
     "crates/traced_run/src",
 )
 Read = Callable[[str], str]

@@ -14,10 +14,9 @@ use crate::fuzz_answer::{FuzzAnswer, FuzzFinding};
 use crate::fuzz_input::LentFuzzInput;
 use crate::lent_terms::LentTerms;
 use call_reports::{BAD_ARGUMENT, NO_MACHINE, NO_REFUSAL, OK, OUT_OF_MEMORY};
-use fuzz_handle::FuzzHandle;
 use heap_bounds::Bounds;
 use std::alloc::{AllocError, Global};
-use tenant_snapshot::{EdgeMap, RunWatch, SnapshotTenant};
+use tenant_snapshot::{EdgeMap, FuzzHandle, RunWatch, SnapshotTenant};
 
 /// Admits a tenant alone, runs the slices of `terms`, and keeps the machine as it is then; a
 /// machine that the handle held is freed first. OK; REFUSED and OUT_OF_MEMORY leave a handle that

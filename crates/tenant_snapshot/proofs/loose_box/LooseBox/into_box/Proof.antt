@@ -31,13 +31,13 @@ use Rattle.std.proofs.cell.Inside.{Good}
 use Rattle.std.proofs.BoxSteps.Form as box
 use Rattle.std.proofs.BoxSteps.Steps.{box_out, box_in}
 use Rattle.std.proofs.raw_atomic.Walks.{proved_at, leaves}
-use Rattle.fuzz_handle.proofs.LooseBoxes.{both, LooseBox, loose_good, loose_out}
+use Rattle.tenant_snapshot.proofs.LooseBoxes.{both, LooseBox, loose_good, loose_out}
 use Rattle.std.specs.contracts.boxed.Box.from_raw as callee
 use Rattle.std.proofs.boxed.Box.from_raw.Met.{met}
-use Rattle.fuzz_handle.specs.contracts.loose_box.LooseBox.into_box.{ended, clauses}
-use Rattle.fuzz_handle.specs.contracts.loose_box.LooseBox.into_box.Key.{name as #self}
-use Rattle.fuzz_handle.proofs.loose_box.LooseBox.into_box.Statement.{statement}
-use Rattle.fuzz_handle.proofs.loose_box.LooseBox.into_box.Code as code
+use Rattle.tenant_snapshot.specs.contracts.loose_box.LooseBox.into_box.{ended, clauses}
+use Rattle.tenant_snapshot.specs.contracts.loose_box.LooseBox.into_box.Key.{name as #self}
+use Rattle.tenant_snapshot.proofs.loose_box.LooseBox.into_box.Statement.{statement}
+use Rattle.tenant_snapshot.proofs.loose_box.LooseBox.into_box.Code as code
 
 pub into_box_spec : {M : Type 1} → statement M
 into_box_spec 𝓤 𝓛 𝓜 𝓡 wired T A L LA g d dx dd allocator glue glued =

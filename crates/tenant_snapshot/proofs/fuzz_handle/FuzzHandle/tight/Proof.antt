@@ -21,15 +21,15 @@ use Rattle.std.specs.contracts.alloc.Global as heap
 use Rattle.std.proofs.alloc.Global.TheLaws as heap_laws
 use Rattle.std.specs.contracts.impls.GlobalAllocator.TheImpl.{ghosts}
 use Rattle.std.proofs.raw_atomic.Walks.{proved_at, leaves}
-use Rattle.fuzz_handle.specs.Held.{held_at}
-use Rattle.fuzz_handle.proofs.Handles.{word, handle_in}
-use Rattle.fuzz_handle.proofs.LooseBoxes.{both, LooseBox, loose_good, loose_out}
+use Rattle.tenant_snapshot.specs.Held.{held_at}
+use Rattle.tenant_snapshot.proofs.Handles.{word, handle_in}
+use Rattle.tenant_snapshot.proofs.LooseBoxes.{both, LooseBox, loose_good, loose_out}
 use Rattle.tenant_snapshot.specs.contracts.tenant.SnapshotTenant as machine
-use Rattle.fuzz_handle.specs.contracts.handle.FuzzHandle as handle
-use Rattle.fuzz_handle.specs.contracts.handle.FuzzHandle.tight.{ended, clauses}
-use Rattle.fuzz_handle.specs.contracts.handle.FuzzHandle.tight.Key.{name as #self}
-use Rattle.fuzz_handle.proofs.handle.FuzzHandle.tight.Statement.{statement}
-use Rattle.fuzz_handle.proofs.handle.FuzzHandle.tight.Code as code
+use Rattle.tenant_snapshot.specs.contracts.fuzz_handle.FuzzHandle as handle
+use Rattle.tenant_snapshot.specs.contracts.fuzz_handle.FuzzHandle.tight.{ended, clauses}
+use Rattle.tenant_snapshot.specs.contracts.fuzz_handle.FuzzHandle.tight.Key.{name as #self}
+use Rattle.tenant_snapshot.proofs.fuzz_handle.FuzzHandle.tight.Statement.{statement}
+use Rattle.tenant_snapshot.proofs.fuzz_handle.FuzzHandle.tight.Code as code
 
 abbrev Lr : RattleType
 Lr = LooseBox machine.the_row heap.the_row heap_laws.the_row_laws ghosts

@@ -32,13 +32,13 @@ use Rattle.std.specs.Box.Ownership.{box_owns}
 use Rattle.std.proofs.BoxSteps.Form as box
 use Rattle.std.proofs.BoxSteps.Steps.{box_out, box_in}
 use Rattle.std.proofs.raw_atomic.Walks.{proved_at, leaves}
-use Rattle.fuzz_handle.proofs.LooseBoxes.{both, loose_good, loose_in}
+use Rattle.tenant_snapshot.proofs.LooseBoxes.{both, loose_good, loose_in}
 use Rattle.std.specs.contracts.boxed.Box.into_raw_with_allocator as callee
 use Rattle.std.proofs.boxed.Box.into_raw_with_allocator.Met.{met}
-use Rattle.fuzz_handle.specs.contracts.loose_box.LooseBox.of.{ended, clauses}
-use Rattle.fuzz_handle.specs.contracts.loose_box.LooseBox.of.Key.{name as #self}
-use Rattle.fuzz_handle.proofs.loose_box.LooseBox.of.Statement.{statement}
-use Rattle.fuzz_handle.proofs.loose_box.LooseBox.of.Code as code
+use Rattle.tenant_snapshot.specs.contracts.loose_box.LooseBox.of.{ended, clauses}
+use Rattle.tenant_snapshot.specs.contracts.loose_box.LooseBox.of.Key.{name as #self}
+use Rattle.tenant_snapshot.proofs.loose_box.LooseBox.of.Statement.{statement}
+use Rattle.tenant_snapshot.proofs.loose_box.LooseBox.of.Code as code
 
 pub of_spec : {M : Type 1} → statement M
 of_spec 𝓤 𝓛 𝓜 𝓡 wired T A L LA g d dx dd allocator glue glued =

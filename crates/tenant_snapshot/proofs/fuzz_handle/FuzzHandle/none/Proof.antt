@@ -14,12 +14,12 @@ use denote.Steps.{nothing}
 use denote.Triple.Walked.{walk_of}
 use Rattle.std.specs.Prelude.{None}
 use Rattle.std.proofs.raw_atomic.Walks.{proved_at, leaves}
-use Rattle.fuzz_handle.proofs.Handles.{word, handle_in}
-use Rattle.fuzz_handle.specs.contracts.handle.FuzzHandle.{the_row}
-use Rattle.fuzz_handle.specs.contracts.handle.FuzzHandle.none.{ended, clauses}
-use Rattle.fuzz_handle.specs.contracts.handle.FuzzHandle.none.Key.{name as #self}
-use Rattle.fuzz_handle.proofs.handle.FuzzHandle.none.Statement.{statement}
-use Rattle.fuzz_handle.proofs.handle.FuzzHandle.none.Code as code
+use Rattle.tenant_snapshot.proofs.Handles.{word, handle_in}
+use Rattle.tenant_snapshot.specs.contracts.fuzz_handle.FuzzHandle.{the_row}
+use Rattle.tenant_snapshot.specs.contracts.fuzz_handle.FuzzHandle.none.{ended, clauses}
+use Rattle.tenant_snapshot.specs.contracts.fuzz_handle.FuzzHandle.none.Key.{name as #self}
+use Rattle.tenant_snapshot.proofs.fuzz_handle.FuzzHandle.none.Statement.{statement}
+use Rattle.tenant_snapshot.proofs.fuzz_handle.FuzzHandle.none.Code as code
 
 pub none_spec : {M : Type 1} → statement M
 none_spec 𝓤 𝓛 𝓜 𝓡 wired =

@@ -28,14 +28,14 @@ use Rattle.std.proofs.option.Made.{Some-of, none_of}
 use Rattle.std.proofs.ResultValues.{and_tt}
 use Rattle.std.proofs.cell.Inside.{Good, one}
 use Rattle.std.proofs.raw_atomic.Walks.{proved_at, leaves}
-use Rattle.fuzz_handle.proofs.Handles.{word, handle_out, either_held}
-use Rattle.fuzz_handle.proofs.LooseBoxes.{both, LooseBox, loose_good, loose_in}
+use Rattle.tenant_snapshot.proofs.Handles.{word, handle_out, either_held}
+use Rattle.tenant_snapshot.proofs.LooseBoxes.{both, LooseBox, loose_good, loose_in}
 use Rattle.tenant_snapshot.specs.contracts.tenant.SnapshotTenant as machine
-use Rattle.fuzz_handle.specs.contracts.handle.FuzzHandle as handle
-use Rattle.fuzz_handle.specs.contracts.handle.FuzzHandle.loose.{ended, clauses}
-use Rattle.fuzz_handle.specs.contracts.handle.FuzzHandle.loose.Key.{name as #self}
-use Rattle.fuzz_handle.proofs.handle.FuzzHandle.loose.Statement.{statement}
-use Rattle.fuzz_handle.proofs.handle.FuzzHandle.loose.Code as code
+use Rattle.tenant_snapshot.specs.contracts.fuzz_handle.FuzzHandle as handle
+use Rattle.tenant_snapshot.specs.contracts.fuzz_handle.FuzzHandle.loose.{ended, clauses}
+use Rattle.tenant_snapshot.specs.contracts.fuzz_handle.FuzzHandle.loose.Key.{name as #self}
+use Rattle.tenant_snapshot.proofs.fuzz_handle.FuzzHandle.loose.Statement.{statement}
+use Rattle.tenant_snapshot.proofs.fuzz_handle.FuzzHandle.loose.Code as code
 
 abbrev Lr : RattleType
 Lr = LooseBox machine.the_row heap.the_row heap_laws.the_row_laws ghosts

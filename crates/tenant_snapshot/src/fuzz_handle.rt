@@ -2,14 +2,14 @@
 
 ghost use Rattle.std.specs.Prelude.{◌≡◌, Option, Some, None, option_map};
 ghost use Rattle.tenant_snapshot.specs.declared.tenant.SnapshotTenant.{SnapshotTenant as Machine};
-ghost use Rattle.fuzz_handle.specs.Held.{held_at, coded_held};
+ghost use Rattle.tenant_snapshot.specs.Held.{held_at, coded_held};
 
 use crate::loose_box::LooseBox;
+use crate::tenant::SnapshotTenant;
 use std::alloc::Global;
 use std::marker::Model;
 use std::mem::replace;
 use std::ptr::null_mut;
-use tenant_snapshot::SnapshotTenant;
 
 /// A boxed machine, or none: what C keeps between calls.
 #[repr(C)]

@@ -14,13 +14,13 @@ use denote.RawPtr.{Ptr, RawPtr, Testable, block_ptr, null_ptr, ptr_val, in_a_blo
 use denote.Steps.{nothing}
 use denote.Struct.Struct.{within}
 use denote.Struct.Owning.{shape}
-use Rattle.fuzz_handle.specs.contracts.handle.FuzzHandle as handle
+use Rattle.tenant_snapshot.specs.contracts.fuzz_handle.FuzzHandle as handle
 use Rattle.std.specs.Prelude.{Option, None, Some}
 use Rattle.std.specs.Box.Ownership.{box_owns}
 use Rattle.std.specs.contracts.impls.GlobalAllocator.TheImpl.{ghosts}
 use Rattle.std.proofs.GlobalToken.{dealloc_token-Testable}
 use Rattle.tenant_snapshot.specs.contracts.tenant.SnapshotTenant as machine
-use Rattle.fuzz_handle.specs.Held.{heap, held_at}
+use Rattle.tenant_snapshot.specs.Held.{heap, held_at}
 
 abbrev pub word : Ptr → Val
 word p = vstruct (of_list (ptr_val p ∷ []))
