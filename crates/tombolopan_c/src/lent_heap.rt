@@ -6,7 +6,7 @@ ghost use Rattle.tombolopan_c.specs.HeapCalls.{op_of, abort_code, with_heap_answ
 ghost use Rattle.tombolopan_c.specs.HeapCalls.{with_bad_argument};
 
 use address_map::MAX_PAGES;
-use call_reports::{
+use c_reports::{
     ABORT, ALREADY_FREE, BAD_ARGUMENT, CALLOC, FAULT, FREE, FaultReport, HEADER_CORRUPT,
     INVALID_STATE, LOAD, LOAD_TAG, MALLOC, MEMALIGN, MISALIGNED, NOT_A_BLOCK, OK, REALLOC, STORE,
     UNMAPPED, USABLE_SIZE,
