@@ -10,11 +10,11 @@ use Rattle.scudo_heap.specs.Placing.{World, world_of}
 use Rattle.scudo_heap.specs.declared.abort.HeapAbort.{HeapAbort}
 use Rattle.scudo_heap.specs.declared.abort.HeapAbort.TheVariants as abort
 use Rattle.scudo_heap.specs.declared.call.HeapCall.TheVariants as heap
-use Rattle.heap_calls.specs.Answers.{after_operation}
-use Rattle.heap_calls.specs.declared.op.HeapOp.{HeapOp}
-use Rattle.heap_calls.specs.declared.op.HeapOp.TheVariants as op
-use Rattle.heap_calls.specs.declared.op.HeapAnswer.{HeapAnswer}
-use Rattle.heap_calls.specs.declared.op.HeapAnswer.TheVariants as answer
+use Rattle.tombolopan.specs.HeapAnswers.{after_operation}
+use Rattle.tombolopan.specs.declared.heap_op.HeapOp.{HeapOp}
+use Rattle.tombolopan.specs.declared.heap_op.HeapOp.TheVariants as op
+use Rattle.tombolopan.specs.declared.heap_op.HeapAnswer.{HeapAnswer}
+use Rattle.tombolopan.specs.declared.heap_op.HeapAnswer.TheVariants as answer
 use Rattle.c_reports.specs.Faults.{no_fault, report_of}
 use Rattle.tombolopan_c.specs.LentPages.{mode_for}
 use Rattle.c_reports.specs.declared.codes.TheConstants.{OK, FAULT, ABORT, BAD_ARGUMENT}

@@ -6,8 +6,8 @@ ghost use Rattle.c_reports.specs.declared.codes.TheConstants.{OK, BAD_ARGUMENT, 
 
 use crate::lent_heap::{HeapSetup, LentHeapCall};
 use c_reports::{BAD_ARGUMENT, OK, OUT_OF_MEMORY};
-use heap_calls::HeapBench;
 use std::alloc::Global;
+use tombolopan::HeapBench;
 
 /// Makes a call, where its operation is one, and returns it with its answer.
 pub(crate) fn make(bench: &mut HeapBench, call: &LentHeapCall) -> LentHeapCall

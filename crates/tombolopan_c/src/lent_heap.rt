@@ -11,9 +11,9 @@ use c_reports::{
     INVALID_STATE, LOAD, LOAD_TAG, MALLOC, MEMALIGN, MISALIGNED, NOT_A_BLOCK, OK, REALLOC, STORE,
     UNMAPPED, USABLE_SIZE,
 };
-use heap_calls::{HeapAnswer, HeapOp};
 use mte_tags::{Rgsr, TagMode};
 use scudo_heap::{HeapAbort, HeapCall};
+use tombolopan::{HeapAnswer, HeapOp};
 
 /// What a heap and its memory begin with.
 #[repr(C)]

@@ -12,8 +12,8 @@ use crate::lent_bytes::copy_to;
 use crate::lent_heap::HeapSetup;
 use crate::lent_step::{HeapStep, find_bad};
 use c_reports::{BAD_ARGUMENT, NO_ROOM, OK, OUT_OF_MEMORY, PageEntry, page_map};
-use heap_calls::HeapBench;
 use std::alloc::Global;
+use tombolopan::HeapBench;
 
 /// Makes the call of a step of a list, and returns the step with its answer.
 #[inline(always)]

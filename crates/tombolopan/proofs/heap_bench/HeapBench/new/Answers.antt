@@ -1,6 +1,6 @@
 use Rattle.std.proofs.Common.{arith}
 use Rattle.scudo_heap.proofs.FirstLemmas.{served-new}
-use Rattle.heap_calls.proofs.bench.HeapBench.new.Goals as goal
+use Rattle.tombolopan.proofs.heap_bench.HeapBench.new.Goals as goal
 
 pub invariant_of-result : goal.invariant_of-result
 invariant_of-result c =

@@ -4,10 +4,10 @@ ghost use Rattle.std.specs.Prelude.{◌≡◌, ◌<◌, ◌≤◌, IfOk};
 ghost use Rattle.mte_tags.specs.Memory.{no_pages};
 ghost use Rattle.scudo_heap.specs.Heaps.{empty_heap};
 ghost use Rattle.scudo_heap.specs.Placing.{world_of};
-ghost use Rattle.heap_calls.specs.Answers.{after_operation};
+ghost use Rattle.tombolopan.specs.HeapAnswers.{after_operation};
 
-use crate::calls::answer;
-use crate::op::{HeapAnswer, HeapOp};
+use crate::heap_answer::answer;
+use crate::heap_op::{HeapAnswer, HeapOp};
 use address_map::MAX_PAGES;
 use mte_flat::Flat;
 use mte_tags::{Rgsr, TagMode};
@@ -27,7 +27,7 @@ impl Model for HeapBench {
     ghost use Rattle.std.specs.Prelude.{◌<◌};
     ghost use Rattle.scudo_heap.specs.Placing.{World, world_of};
     ghost use Rattle.scudo_heap.specs.Served.{HeapOwnsItsPages};
-    ghost use Rattle.heap_calls.specs.Worlds.{coded_world};
+    ghost use Rattle.tombolopan.specs.HeapWorlds.{coded_world};
 
     ghost Value = { World };
 

@@ -3,13 +3,13 @@
 ghost use Rattle.std.specs.Prelude.{◌≡◌};
 ghost use Rattle.scudo_heap.specs.Heaps.{HeapState};
 ghost use Rattle.scudo_heap.specs.Served.{HeapOwnsItsPages};
-ghost use Rattle.heap_calls.specs.Answers.{load_of, store_of, load_tag_of};
+ghost use Rattle.tombolopan.specs.HeapAnswers.{load_of, store_of, load_tag_of};
 
-use crate::op::HeapAnswer;
+use crate::heap_op::HeapAnswer;
 use mte_tags::Tagged;
 
 /// The eight bytes at an address as a number.
-#[tactic(auto, unfolding(crate::specs::Answers::load_of))]
+#[tactic(auto, unfolding(crate::specs::HeapAnswers::load_of))]
 pub(crate) fn load<M: Tagged>(memory: &mut M, addr: u64) -> HeapAnswer
     ensures answer { result ≡ (load_of (M.memory memory.old) addr).answer }
     ensures memory { M.memory memory.new ≡ (load_of (M.memory memory.old) addr).memory }
@@ -25,7 +25,7 @@ pub(crate) fn load<M: Tagged>(memory: &mut M, addr: u64) -> HeapAnswer
 }
 
 /// Replaces the eight bytes at an address by those of a number.
-#[tactic(auto, unfolding(crate::specs::Answers::store_of))]
+#[tactic(auto, unfolding(crate::specs::HeapAnswers::store_of))]
 pub(crate) fn store<M: Tagged>(memory: &mut M, addr: u64, value: u64) -> HeapAnswer
     ensures answer { result ≡ (store_of (M.memory memory.old) addr value).answer }
     ensures memory { M.memory memory.new ≡ (store_of (M.memory memory.old) addr value).memory }
@@ -40,7 +40,7 @@ pub(crate) fn store<M: Tagged>(memory: &mut M, addr: u64, value: u64) -> HeapAns
 }
 
 /// The allocation tag of the granule that holds an address.
-#[tactic(auto, unfolding(crate::specs::Answers::load_tag_of))]
+#[tactic(auto, unfolding(crate::specs::HeapAnswers::load_tag_of))]
 pub(crate) fn load_tag<M: Tagged>(memory: &mut M, addr: u64) -> HeapAnswer
     ensures answer { result ≡ load_tag_of (M.memory memory.old) addr }
     ensures memory { M.memory memory.new ≡ M.memory memory.old }

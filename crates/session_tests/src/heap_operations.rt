@@ -1,9 +1,9 @@
 //! A table of operations on a new heap and what each answers.
 
-use heap_calls::{HeapAnswer, HeapBench, HeapOp};
 use mte_tags::{FaultKind, MemFault, Rgsr, TagMode};
 use scudo_heap::{HeapAbort, HeapCall};
 use std::alloc::Global;
+use tombolopan::{HeapAnswer, HeapBench, HeapOp};
 
 /// The address of the first chunk of class 2, whose blocks have 64 bytes.
 const CHUNK: u64 = 0x0100_0000_1200_0010;

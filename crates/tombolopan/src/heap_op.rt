@@ -1,7 +1,7 @@
 //! The operations and their answers.
 
 ghost use Rattle.std.specs.Prelude.{◌≡◌};
-ghost use Rattle.heap_calls.specs.Answers.{of_call};
+ghost use Rattle.tombolopan.specs.HeapAnswers.{of_call};
 
 use mte_tags::MemFault;
 use scudo_heap::{HeapAbort, HeapCall};

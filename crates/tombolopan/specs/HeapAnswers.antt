@@ -9,10 +9,10 @@ use Rattle.mte_tags.specs.declared.fault.MemFault.{MemFault}
 use Rattle.scudo_heap.specs.declared.abort.HeapAbort.{HeapAbort}
 use Rattle.scudo_heap.specs.Placing.{World}
 use Rattle.scudo_heap.specs.Calls.{CallResult, after_call}
-use Rattle.heap_calls.specs.declared.op.HeapOp.{HeapOp}
-use Rattle.heap_calls.specs.declared.op.HeapOp.TheVariants.{Call, Load, Store, LoadTag}
-use Rattle.heap_calls.specs.declared.op.HeapAnswer.{HeapAnswer}
-use Rattle.heap_calls.specs.declared.op.HeapAnswer.TheVariants.{Value, Abort, Fault}
+use Rattle.tombolopan.specs.declared.heap_op.HeapOp.{HeapOp}
+use Rattle.tombolopan.specs.declared.heap_op.HeapOp.TheVariants.{Call, Load, Store, LoadTag}
+use Rattle.tombolopan.specs.declared.heap_op.HeapAnswer.{HeapAnswer}
+use Rattle.tombolopan.specs.declared.heap_op.HeapAnswer.TheVariants.{Value, Abort, Fault}
 
 -- What an operation leaves: the world, and its answer.
 pub record Answered : Type 0 where

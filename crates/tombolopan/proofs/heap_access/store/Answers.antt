@@ -1,7 +1,7 @@
 use Rattle.std.proofs.Common.{sym, subst}
 use Rattle.scudo_heap.specs.Served.{HeapOwnsItsPages}
 use Rattle.scudo_heap.proofs.FirstLemmas.{served-write}
-use Rattle.heap_calls.proofs.access.store.Goals as goal
+use Rattle.tombolopan.proofs.heap_access.store.Goals as goal
 
 pub returns-in-Ok-clause-served : goal.returns-in-Ok-clause-served
 returns-in-Ok-clause-served g c =

@@ -3,15 +3,15 @@
 ghost use Rattle.std.specs.Prelude.{◌≡◌, ◌<◌};
 ghost use Rattle.scudo_heap.specs.Placing.{world_of};
 ghost use Rattle.scudo_heap.specs.Served.{HeapOwnsItsPages};
-ghost use Rattle.heap_calls.specs.Answers.{after_operation};
+ghost use Rattle.tombolopan.specs.HeapAnswers.{after_operation};
 
-use crate::access::{load, load_tag, store};
-use crate::op::{HeapAnswer, HeapOp};
+use crate::heap_access::{load, load_tag, store};
+use crate::heap_op::{HeapAnswer, HeapOp};
 use mte_tags::{Paged, Rgsr};
 use scudo_heap::Heap;
 
 /// Makes a call of a heap or an access to its memory, and returns its answer.
-#[tactic(auto, unfolding(crate::specs::Answers::after_operation))]
+#[tactic(auto, unfolding(crate::specs::HeapAnswers::after_operation))]
 pub fn answer<M: Paged>(heap: &mut Heap, rgsr: &mut Rgsr, memory: &mut M, op: &HeapOp) -> HeapAnswer
     requires served { HeapOwnsItsPages (M.Tagged.memory memory.old) heap.old }
     requires tag { rgsr.old.tag < 16 }
