@@ -1,14 +1,13 @@
 //! The text of an instruction word in a buffer of the caller, with a zero byte behind it.
-#![tactic(auto)]
 
 ghost use Rattle.std.specs.Prelude.{◌≡◌, ◌<◌, ◌≤◌, ◌+◌, ◌++◌, ◌∷◌, [], ◌⊎◌, length, drop, nat_le};
 ghost use Rattle.std.specs.Prelude.{IsTrue, IsFalse, OnErr, OnOk, IfErr, IfOk, None, Some, Err};
 ghost use Rattle.a64_decode.specs.Decoded.{instr_of_word};
-ghost use Rattle.word_text.specs.Texts.{HasText};
+ghost use Rattle.a64_text.specs.Texts.{HasText};
 
+use crate::instruction::TextAt;
 use a64_decode::decode;
 use a64_instr::Instr;
-use a64_text::TextAt;
 use arrayvec::ArrayString;
 use std::fmt::Write;
 
