@@ -23,11 +23,11 @@ use Rattle.scudo_heap.specs.Large.{mapping_for}
 use Rattle.scudo_heap.specs.Allocation.{AllocationResult, allocation_of, no_chunk, place_in, is_empty, with_free_block, after_take, after_class_allocation, map_chunk_cases, after_large_allocation, nonzero_size, need_of, allocate_cases, after_allocate}
 use Rattle.scudo_heap.proofs.LargeLemmas.{after_map_chunk}
 use Rattle.scudo_heap.proofs.ServedLemmas.{MayGrow, next-free, regions-of}
-use Rattle.tag_discipline.specs.LiveChunks.{IsCarved, IsPlace}
-use Rattle.tag_discipline.specs.CarefulRuns.{State}
-use Rattle.tag_discipline.specs.SoundHeaps.{Sound}
-use Rattle.tag_discipline.proofs.Serving.{blocks-of}
-use Rattle.tag_discipline.proofs.Allocations.{IsSoundIn, branch, both_true, ready_sound, place-in, IsClassFor, class-for, asked_some}
+use Rattle.heap_laws.specs.LiveChunks.{IsCarved, IsPlace}
+use Rattle.heap_laws.specs.CarefulRuns.{State}
+use Rattle.heap_laws.specs.SoundHeaps.{Sound}
+use Rattle.heap_laws.proofs.Serving.{blocks-of}
+use Rattle.heap_laws.proofs.SoundAllocations.{IsSoundIn, branch, both_true, ready_sound, place-in, IsClassFor, class-for, asked_some}
 
 -- a world whose class has a free block if it could get one: mapped pages are as they were
 pub record IsReadyIn (s : State) (v : World) : Type 0 where
