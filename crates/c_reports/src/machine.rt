@@ -2,7 +2,7 @@
 
 ghost use Rattle.std.specs.Prelude.{◌≡◌, ◌<◌, Some, None, false, IfOk, IfErr, OnOk, IsErrOf};
 ghost use Rattle.std.specs.Prelude.{ℕ, [], length, slice_index_or};
-ghost use Rattle.obstacle.specs.Obstacles.{IfRefused};
+ghost use Rattle.common.specs.Obstacles.{IfRefused};
 ghost use Rattle.mte_svc.specs.Ready.{IsReady};
 ghost use Rattle.mte_tenant.specs.Admissions.{start_in};
 ghost use Rattle.mte_tenant.specs.Ledger.{is_bad, admission_refusal, charge_of};
@@ -13,9 +13,9 @@ use crate::act_kinds::{ACT_GET, ACT_LOAD, ACT_LOAD_TAG, ACT_SET, ACT_SLICE, ACT_
 use crate::memory::{load, load_tag, store};
 use crate::registers::{get, set};
 use a64_run::OpCache;
+use common::Obstacle;
 use mte_flat::Flat;
 use mte_tenant::{Admission, AdmitError, TenantParts, admit_alone, is_bad_reservation, slice};
-use obstacle::Obstacle;
 use std::alloc::Global;
 
 /// A tenant's machine, as the definition has it: it is made by `admit_alone` and changed by acts

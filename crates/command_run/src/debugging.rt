@@ -4,12 +4,11 @@ ghost use Rattle.std.specs.Prelude.{◌<◌};
 
 use crate::files::{Image, read_course, read_input};
 use crate::unadmitted::{end_unadmitted, refuse};
-use address_map::MAX_STEPS;
+use common::{MAX_STEPS, Obstacle};
 use debuggee::{Cuts, Debuggee};
 use gdb_front::{Front, serve};
 use gdb_monitor::DebugSubject;
 use mte_tenant::Admission;
-use obstacle::Obstacle;
 use run_terms::{Failure, Options, Replay};
 use std::alloc::{AllocError, Global};
 use tenant_run::{Admitted, admission_of};

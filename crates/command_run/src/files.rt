@@ -1,9 +1,9 @@
 //! The files that are read.
 
 use check_kinds::Suppressions;
+use common::Obstacle;
 use mte_program::StreamSource;
 use mte_session::{file_of, read_whole};
-use obstacle::Obstacle;
 use run_terms::{Failure, FileFault, Options, Replay};
 use std::fs::File;
 use std::str;

@@ -6,11 +6,11 @@ use crate::files::{Image, image_of, read_file, read_files, read_input, read_supp
 use crate::telling::{Run, tell_end};
 use crate::unadmitted::{refuse, refuse_unadmitted};
 use check_kinds::Suppressions;
+use common::Obstacle;
 use mte_program::StreamSink;
 use mte_session::{Event, file_of, write_all, write_report};
 use mte_tags::TagMode;
 use mte_tenant::AdmitError;
-use obstacle::Obstacle;
 use run_terms::{Failure, Options, Replay};
 use tenant_run::{
     LoneTenant, Observer, Replayed, SessionReplay, TenantBench, events_of, observer_of,

@@ -1,10 +1,10 @@
 //! The file (ELF64, "ELF Header", "Program Header"; the ABI for memory tags in core files: Linux,
 //! "Memory Tagging Extension (MTE) in AArch64 Linux", "Core dump support").
 
-use crate::memory_map::{MappedRegion, regions};
 use crate::core_notes::{Noted, write_double_words, write_words};
+use crate::memory_map::{MappedRegion, regions};
 use crate::signal::Signal;
-use address_map::{GRANULE_SIZE, PAGE_SIZE};
+use common::{GRANULE_SIZE, PAGE_SIZE};
 use mte_flat::Flat;
 use mte_svc::TenantParts;
 use mte_tags::{Attrs, TagMode, Tagged};

@@ -1,6 +1,6 @@
 //! The regions of a memory.
 
-use address_map::PAGE_SIZE;
+use common::PAGE_SIZE;
 use mte_flat::Flat;
 use mte_tags::Attrs;
 use std::alloc::{AllocError, Global};

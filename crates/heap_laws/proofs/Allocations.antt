@@ -5,7 +5,7 @@ use Rattle.std.proofs.Math.Nat.{mul-mod_left}
 use Rattle.mte_tags.specs.Memory.{Memory, byte_at, byte_cases, with_new_pages, attrs_at, attrs_cases, page_at, pages_left, IsFree}
 use Rattle.mte_tags.specs.declared.attrs.Attrs.{Attrs}
 use Rattle.mte_tags.proofs.PageLaws.{page_at-with_new_pages_out}
-use Rattle.address_map.specs.declared.limits.TheConstants.{PAGE_SIZE}
+use Rattle.common.specs.declared.limits.TheConstants.{PAGE_SIZE}
 use Rattle.scudo_header.specs.Classes.{size_of, class_for}
 use Rattle.scudo_header.specs.declared.headers.Origin.{Origin}
 use Rattle.scudo_primary.specs.Pools.{is_member}

@@ -10,7 +10,7 @@ use Rattle.mte_tags.proofs.PageLaws.{attrs_at-with-bytes-at}
 use Rattle.mte_tags.proofs.ByteLaws.{tag_at-with-bytes-at}
 use Rattle.scudo_header.specs.Classes.{size_of}
 use Rattle.scudo_header.specs.Regions.{region_of}
-use Rattle.address_map.specs.declared.ranges.TheConstants.{SECONDARY_END}
+use Rattle.common.specs.declared.ranges.TheConstants.{SECONDARY_END}
 use Rattle.scudo_heap.specs.Stacks.{StackState}
 use Rattle.heap_laws.specs.LiveChunks.{IsCarved, IsPlace, IsTagged, IsOutside}
 use Rattle.scudo_heap.specs.declared.chunk.Place.{Place}

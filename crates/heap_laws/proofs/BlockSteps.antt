@@ -32,7 +32,7 @@ use Rattle.scudo_heap.proofs.SoundLemmas.{stack-own, stack-other}
 use Rattle.heap_laws.proofs.BlockSounds.{present, given_back_call, given_back_sound, resized_call, resized_sound, resized_chunk}
 use Rattle.heap_laws.proofs.Stales.{stale-call, stale-after-give-back}
 use Rattle.heap_laws.proofs.SoundAllocations.{IsSoundIn, IsKept}
-use Rattle.address_map.specs.declared.ranges.TheConstants.{SECONDARY_START, SECONDARY_END}
+use Rattle.common.specs.declared.ranges.TheConstants.{SECONDARY_START, SECONDARY_END}
 
 -- ---- memories that differ in no tag and no attributes below the chunks with pages of their own, and there get no tag but 0
 

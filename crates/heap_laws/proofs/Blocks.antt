@@ -4,7 +4,7 @@ use Rattle.std.proofs.lemmas.Bool.{cases_eq, cases_lt}
 use Rattle.std.proofs.Math.Nat.{mul-le-mul_left}
 use Rattle.scudo_header.specs.Classes.{size_of}
 use Rattle.scudo_header.specs.Regions.{region_of}
-use Rattle.address_map.specs.declared.limits.TheConstants.{PAGE_SIZE, MAX_PAGES}
+use Rattle.common.specs.declared.limits.TheConstants.{PAGE_SIZE, MAX_PAGES}
 use Rattle.scudo_primary.proofs.BlockLemmas.{size-IsSize, block-whole, block-IsCell}
 use Rattle.scudo_heap.specs.Stacks.{StackState, pages_of}
 use Rattle.heap_laws.specs.LiveChunks.{IsCarved}

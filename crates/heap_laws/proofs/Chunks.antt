@@ -5,7 +5,7 @@ use Rattle.std.specs.Cmp.{nat_cmp_total}
 use Rattle.std.specs.FinMap.{get-remove}
 use Rattle.std.specs.List.{list_any}
 use Rattle.a64_bits.specs.Addresses.{plain}
-use Rattle.address_map.specs.declared.limits.TheConstants.{PAGE_SIZE}
+use Rattle.common.specs.declared.limits.TheConstants.{PAGE_SIZE}
 use Rattle.mte_tags.specs.Memory.{attrs_at}
 use Rattle.mte_tags.proofs.Pages.{tied_other}
 use Rattle.scudo_header.specs.declared.headers.Origin.{Origin}

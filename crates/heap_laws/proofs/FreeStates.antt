@@ -5,7 +5,7 @@ use Rattle.mte_tags.specs.Accesses.{with_bytes_at}
 use Rattle.mte_tags.proofs.StateLaws.{state-without_pages, state-with-bytes-at}
 use Rattle.mte_tags.proofs.PageLaws.{ArePages-attrs, attrs_at-with-bytes-at, pages_left-with-bytes-at}
 use Rattle.scudo_secondary.specs.Mappings.{mapping_of}
-use Rattle.address_map.specs.declared.limits.TheConstants.{PAGE_SIZE}
+use Rattle.common.specs.declared.limits.TheConstants.{PAGE_SIZE}
 use Rattle.scudo_heap.specs.declared.chunk.Found.{Found}
 use Rattle.scudo_heap.specs.declared.chunk.Found.TheVariants.{InBlock, InPages}
 use Rattle.scudo_heap.specs.Heaps.{with_less}

@@ -6,8 +6,8 @@ use Rattle.std.specs.Ordering.{nat_cmp, eq_by_cmp}
 use Rattle.std.specs.Cmp.{nat_cmp_total}
 use Rattle.std.specs.FinMap.{get-insert, get-remove}
 use Rattle.mte_tags.proofs.Pages.{tied_same, tied_other}
-use Rattle.address_map.specs.declared.limits.TheConstants.{PAGE_SIZE}
-use Rattle.address_map.specs.declared.ranges.TheConstants.{SECONDARY_START}
+use Rattle.common.specs.declared.limits.TheConstants.{PAGE_SIZE}
+use Rattle.common.specs.declared.ranges.TheConstants.{SECONDARY_START}
 use Rattle.scudo_secondary.specs.Mappings.{AreMappings, AreFrom, mapping_of, end_of, with_mapping}
 use Rattle.scudo_secondary.specs.declared.mappings.Mapping.{Mapping}
 use Rattle.heap_laws.specs.LivePages.{IsLargeHeaderOf, PageChunk, LivePages, large_at, AreLarge, with_large, without_large}

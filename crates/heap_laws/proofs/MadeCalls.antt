@@ -7,7 +7,7 @@ use Rattle.scudo_header.specs.declared.headers.Origin.{Origin}
 use Rattle.scudo_header.specs.declared.headers.Origin.TheVariants.{Malloc, Memalign}
 use Rattle.scudo_secondary.specs.Mappings.{place_of}
 use Rattle.scudo_secondary.specs.declared.mappings.Mapping.{Mapping}
-use Rattle.address_map.specs.declared.limits.TheConstants.{PAGE_SIZE}
+use Rattle.common.specs.declared.limits.TheConstants.{PAGE_SIZE}
 use Rattle.scudo_header.specs.declared.config.TheConstants.{MAX_REQUEST}
 use Rattle.scudo_heap.specs.declared.chunk.Chunk.{Chunk}
 use Rattle.scudo_heap.specs.declared.chunk.Chunk.TheVariants.{Small, Large}

@@ -7,7 +7,7 @@ use Rattle.scudo_header.specs.declared.headers.Origin.{Origin}
 use Rattle.scudo_header.specs.declared.headers.Header.{Header}
 use Rattle.scudo_secondary.specs.Mappings.{AreMappings, place_of, mapping_of}
 use Rattle.scudo_secondary.specs.declared.mappings.Mapping.{Mapping}
-use Rattle.address_map.specs.declared.limits.TheConstants.{PAGE_SIZE}
+use Rattle.common.specs.declared.limits.TheConstants.{PAGE_SIZE}
 use Rattle.scudo_heap.specs.Heaps.{with_more}
 use Rattle.scudo_heap.specs.Placing.{World, heap_attrs}
 use Rattle.scudo_heap.specs.Chunks.{with_header}

@@ -5,7 +5,7 @@ use Rattle.std.proofs.Math.Nat.{min-le_right}
 use Rattle.std.specs.Prelude.{min}
 use Rattle.std.specs.Int.{to_le_bytes, w64}
 use Rattle.a64_bits.specs.Addresses.{plain}
-use Rattle.address_map.specs.declared.limits.TheConstants.{PAGE_SIZE}
+use Rattle.common.specs.declared.limits.TheConstants.{PAGE_SIZE}
 use Rattle.mte_tags.specs.Memory.{Memory, byte_at, byte_cases, tag_at, with_granules, with_new_pages}
 use Rattle.mte_tags.specs.Accesses.{read_bytes}
 use Rattle.mte_tags.specs.RandomTags.{after_draw}

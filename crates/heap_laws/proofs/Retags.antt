@@ -7,7 +7,7 @@ use Rattle.mte_tags.proofs.Whole.{whole-with_granules}
 use Rattle.mte_tags.proofs.StateLaws.{limit-with_granules}
 use Rattle.mte_tags.proofs.PageLaws.{attrs_at-with_granules}
 use Rattle.mte_tags.proofs.TagLaws.{tag_at-with_granules_in, tag_at-with_granules_out}
-use Rattle.address_map.specs.declared.ranges.TheConstants.{SECONDARY_START}
+use Rattle.common.specs.declared.ranges.TheConstants.{SECONDARY_START}
 
 -- The granules from lo to hi are in pages of the heap.
 pub record IsOpen (m : Memory) (lo hi : ℕ) : Type 0 where

@@ -3,8 +3,8 @@ use Rattle.std.proofs.Common.{◌≡◌, ℕ, ◌+◌, ◌-◌, ◌/◌, ◌<◌
 use Rattle.std.proofs.lemmas.Bool.{cases_lt, cond-true, cond-false}
 use Rattle.mte_tags.specs.Memory.{Memory, attrs_at}
 use Rattle.scudo_header.specs.Regions.{region_of}
-use Rattle.address_map.specs.declared.limits.TheConstants.{PAGE_SIZE}
-use Rattle.address_map.specs.declared.ranges.TheConstants.{REGIONS_START, REGION_SIZE, SECONDARY_START}
+use Rattle.common.specs.declared.limits.TheConstants.{PAGE_SIZE}
+use Rattle.common.specs.declared.ranges.TheConstants.{REGIONS_START, REGION_SIZE, SECONDARY_START}
 use Rattle.scudo_primary.specs.Blocks.{IsClass}
 use Rattle.scudo_secondary.specs.Mappings.{AreMappings}
 use Rattle.scudo_heap.specs.Stacks.{pages_of}

@@ -1,6 +1,6 @@
 -- A tenant whose admission is accepted starts Sound.
 use Rattle.std.proofs.Common.{◌≡◌, ℕ, ◌+◌, ◌/◌, ◌^◌, ◌≤◌, None, List, ap, ◌∙◌, arith}
-use Rattle.address_map.specs.declared.ranges.TheConstants.{STACK_PAGES}
+use Rattle.common.specs.declared.ranges.TheConstants.{STACK_PAGES}
 use Rattle.mte_tags.specs.Memory.{Memory, page_at, pages_left, no_pages}
 use Rattle.mte_tags.specs.Whole.{IsWhole}
 use Rattle.mte_tags.specs.declared.state.TagMode.{TagMode}

@@ -5,8 +5,8 @@ use Rattle.std.specs.List.{IsDistinct}
 use Rattle.mte_tags.specs.Memory.{Memory, attrs_at}
 use Rattle.mte_tags.specs.Whole.{IsWhole}
 use Rattle.scudo_header.specs.Regions.{region_of}
-use Rattle.address_map.specs.declared.limits.TheConstants.{PAGE_SIZE, MAX_PAGES}
-use Rattle.address_map.specs.declared.ranges.TheConstants.{SECONDARY_START}
+use Rattle.common.specs.declared.limits.TheConstants.{PAGE_SIZE, MAX_PAGES}
+use Rattle.common.specs.declared.ranges.TheConstants.{SECONDARY_START}
 use Rattle.scudo_primary.specs.Blocks.{IsBlock}
 use Rattle.scudo_primary.specs.Pools.{is_member}
 use Rattle.scudo_primary.specs.Blocks.{IsClass}

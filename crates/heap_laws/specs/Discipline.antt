@@ -4,14 +4,14 @@ use Rattle.std.specs.Prelude.{Some, None, IsSome, false}
 use Rattle.std.specs.List.{list_any}
 use Rattle.mte_tags.specs.Accesses.{byte_fault}
 use Rattle.mte_tags.specs.declared.access.Access.{Access}
-use Rattle.address_map.specs.declared.ranges.TheConstants.{SECONDARY_START, SECONDARY_END}
+use Rattle.common.specs.declared.ranges.TheConstants.{SECONDARY_START, SECONDARY_END}
 use Rattle.a64_bits.specs.Addresses.{plain}
 use Rattle.mte_tags.specs.Memory.{Memory, attrs_at, tag_at}
 use Rattle.mte_tags.specs.Accesses.{read_fault, write_fault}
 use Rattle.mte_tags.specs.declared.generator.Rgsr.{Rgsr}
 use Rattle.mte_tags.specs.declared.state.TagMode.TheVariants.{Sync}
 use Rattle.mte_tags.specs.Whole.{IsWhole}
-use Rattle.address_map.specs.declared.limits.TheConstants.{MAX_PAGES}
+use Rattle.common.specs.declared.limits.TheConstants.{MAX_PAGES}
 use Rattle.scudo_secondary.specs.Mappings as secondary
 use Rattle.scudo_heap.specs.declared.call.HeapCall.{HeapCall}
 use Rattle.scudo_heap.specs.declared.call.HeapCall.TheVariants.{Realloc, Free}

@@ -13,7 +13,7 @@ use Rattle.mte_tags.specs.Memory.{Memory, tag_at}
 use Rattle.mte_tags.specs.TagChoice.{is_allowed}
 use Rattle.scudo_header.specs.Classes.{size_of}
 use Rattle.scudo_header.specs.Regions.{region_of}
-use Rattle.address_map.specs.declared.ranges.TheConstants.{SECONDARY_END}
+use Rattle.common.specs.declared.ranges.TheConstants.{SECONDARY_END}
 use Rattle.scudo_header.specs.declared.headers.Header.{Header}
 use Rattle.scudo_header.specs.declared.headers.Origin.{Origin}
 use Rattle.scudo_header.specs.declared.headers.State.TheVariants.{Allocated}

@@ -3,7 +3,7 @@
 use Rattle.std.specs.Prelude.{◌≡◌, ◌≤◌}
 use Rattle.mte_tags.specs.declared.state.TagMode.TheVariants.{Sync}
 use Rattle.mte_tags.specs.Whole.{IsWhole}
-use Rattle.address_map.specs.declared.limits.TheConstants.{MAX_PAGES}
+use Rattle.common.specs.declared.limits.TheConstants.{MAX_PAGES}
 use Rattle.scudo_heap.specs.Sound.{IsSoundWorld}
 use Rattle.heap_laws.specs.LiveChunks.{ArePlaced, AreTagged}
 use Rattle.heap_laws.specs.LivePages.{AreLarge}

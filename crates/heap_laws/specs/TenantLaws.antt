@@ -5,7 +5,7 @@ use Rattle.std.specs.Prelude.{Some, None, IsSome, List, All, false}
 use Rattle.std.specs.List.{list_any}
 use Rattle.mte_tags.specs.Accesses.{byte_fault}
 use Rattle.mte_tags.specs.declared.access.Access.{Access}
-use Rattle.address_map.specs.declared.ranges.TheConstants.{SECONDARY_START, SECONDARY_END}
+use Rattle.common.specs.declared.ranges.TheConstants.{SECONDARY_START, SECONDARY_END}
 use Rattle.mte_tags.specs.declared.state.TagMode.TheVariants.{Sync}
 use Rattle.scudo_heap.specs.Chunks.{end_of}
 use Rattle.scudo_heap.specs.Served.{is_inside}

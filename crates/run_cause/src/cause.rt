@@ -4,7 +4,7 @@ use crate::evidence::{Evidence, NEAR};
 use crate::exact::ForbiddenAccess;
 use crate::violation::Violation;
 use a64_bits::plain;
-use address_map::{IMAGE_START, PAGE_SIZE, STACK_END, STACK_START};
+use common::{IMAGE_START, PAGE_SIZE, STACK_END, STACK_START};
 use heap_bounds::{Block, Trespass};
 use heap_functions::HeapFunction;
 use mte_svc::{FREE, Record, Status};

@@ -2,11 +2,10 @@
 
 use crate::wrong::WrongWord;
 use check_kinds::SuppressionFault;
+use common::{Obstacle, Printable};
 use mte_session::{ReadFault, ScriptError, ScriptFault, WriteFault};
-use obstacle::Obstacle;
 use std::alloc::{AllocError, AllocFailed};
 use std::{fmt, io};
-use terminal_text::Printable;
 
 /// Why a file cannot be read or written.
 #[derive(Clone, Copy)]

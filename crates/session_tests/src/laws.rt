@@ -1,6 +1,6 @@
 //! The laws, which have no code: a call brings what they say to its caller.
 
-use address_map::{limits_in_digits, ranges_in_digits};
+use common::{limits_in_digits, ranges_in_digits};
 use heap_laws::{
     careful_runs_are_sound, careful_tenants_are_sound, chunks_are_apart, chunks_are_guarded,
     chunks_are_tagged, chunks_may_be_used, chunks_of_tenants_are_guarded,

@@ -2,7 +2,7 @@
 
 ghost use Rattle.std.specs.Prelude.{◌≡◌, ℕ, List, [], if◌then◌else◌, OnOk, OnErr, IfOk, IfErr};
 ghost use Rattle.std.specs.Prelude.{Some, None};
-ghost use Rattle.obstacle.specs.Obstacles.{IfRefused};
+ghost use Rattle.common.specs.Obstacles.{IfRefused};
 ghost use Rattle.mte_tenant.specs.Machines.{machine_of};
 ghost use Rattle.mte_tenant.specs.Ledger.{call_refusal};
 ghost use Rattle.mte_sched.specs.Contents.{after_call};
@@ -13,10 +13,10 @@ ghost use Rattle.tenant_run.specs.Replays.{IsReplay, number_in, with_no_steps, m
 ghost use Rattle.tenant_run.specs.Replays.{IsStarted, IsPlayed};
 
 use crate::bench::{TenantBench, Watcher};
+use common::Obstacle;
 use mte_sched::{Host, ledger_follows};
 use mte_session::{Event, Sink, admission_of, write_refusal};
 use mte_tenant::{Refusal, Refused};
-use obstacle::Obstacle;
 use run_terms::Failure;
 use std::alloc::Global;
 

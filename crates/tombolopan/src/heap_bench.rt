@@ -8,7 +8,7 @@ ghost use Rattle.tombolopan.specs.HeapAnswers.{after_operation};
 
 use crate::heap_answer::answer;
 use crate::heap_op::{HeapAnswer, HeapOp};
-use address_map::MAX_PAGES;
+use common::MAX_PAGES;
 use mte_flat::Flat;
 use mte_tags::{Rgsr, TagMode};
 use scudo_heap::Heap;

@@ -29,6 +29,7 @@ pub use a64_run::{OpCache, run_cached, run_on_cache};
 pub use a64_step::{Outcome, Regs, Stop, run, step};
 pub use a64_text::{Text, TextAt};
 pub use alone::{Lone, run_alone};
+pub use common::Obstacle;
 pub use heap_answer::answer;
 pub use heap_bench::HeapBench;
 pub use heap_bounds::{Bounds, Span, Trespass};
@@ -49,7 +50,6 @@ pub use mte_tenant::{
     Admission, AdmitError, NotLive, Record, Refusal, Status, TenantParts, Terms, Watch,
     admit_alone, settle, slice, slice_watched,
 };
-pub use obstacle::Obstacle;
 pub use scudo_heap::{Heap, HeapAbort, HeapCall, condition_of_calls};
 pub use session_report::report;
 pub use tenant_snapshot::{

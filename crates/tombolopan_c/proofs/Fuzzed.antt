@@ -1,6 +1,6 @@
 -- What is kept of a setup, and what becomes of a run, by cases of the handle.
 use Rattle.std.proofs.Common.{◌≡◌, ℕ, [], sym, subst, false, Option, None, Some}
-use Rattle.obstacle.specs.declared.Obstacle.TheVariants.{OutOfMemory}
+use Rattle.common.specs.declared.obstacle.Obstacle.TheVariants.{OutOfMemory}
 use Rattle.mte_tenant.specs.Ledger.{admission_refusal, charge_of, facts_of, is_bad}
 use Rattle.mte_tenant.proofs.Refusals.{each_passed}
 use Rattle.tenant_snapshot.specs.Maps.{is_map_length}

@@ -1,7 +1,7 @@
 -- A heap's calls as an array: what each means, and what is entered of its answer.
 use Rattle.std.specs.Prelude.{ℕ, zero, suc, ◌%◌, ◌==◌, ◌&&◌, Bool, not, nat_lt, nat_le}
 use Rattle.std.specs.Prelude.{List, slice_index_or, Option, Some, None, if◌then◌else◌}
-use Rattle.address_map.specs.declared.limits.TheConstants.{MAX_PAGES}
+use Rattle.common.specs.declared.limits.TheConstants.{MAX_PAGES}
 use Rattle.mte_tags.specs.Memory.{no_pages}
 use Rattle.mte_tags.specs.declared.generator.Rgsr.{Rgsr}
 use Rattle.mte_tags.specs.declared.state.TagMode.{TagMode}

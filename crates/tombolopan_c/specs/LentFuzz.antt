@@ -1,9 +1,9 @@
 -- A machine that is kept between calls: its setup, and its runs.
 use Rattle.std.specs.Prelude.{◌≡◌, ◌⊎◌, ℕ, Bool, true, false, not, Option, Some, None}
 use Rattle.std.specs.Prelude.{if◌then◌else◌}
-use Rattle.obstacle.specs.Obstacles.{IfRefused}
-use Rattle.obstacle.specs.declared.Obstacle.{Obstacle}
-use Rattle.obstacle.specs.declared.Obstacle.TheVariants as obstacle
+use Rattle.common.specs.Obstacles.{IfRefused}
+use Rattle.common.specs.declared.obstacle.Obstacle.{Obstacle}
+use Rattle.common.specs.declared.obstacle.Obstacle.TheVariants as obstacle
 use Rattle.mte_tenant.specs.declared.admission.AdmitError.{AdmitError}
 use Rattle.mte_tenant.specs.Ledger.{is_bad}
 use Rattle.mte_tenant.specs.Machines.{Machine, machine_of, start_of}

@@ -2,9 +2,9 @@
 -- it.
 use Rattle.std.specs.Prelude.{◌≡◌, ℕ, ◌<◌, List, length, slice_index_or, Some, None}
 use Rattle.std.specs.Prelude.{Result, Ok, Err, false}
-use Rattle.obstacle.specs.Obstacles.{IfRefused}
-use Rattle.obstacle.specs.declared.Obstacle.{Obstacle}
-use Rattle.obstacle.specs.declared.Obstacle.TheVariants as obstacle
+use Rattle.common.specs.Obstacles.{IfRefused}
+use Rattle.common.specs.declared.obstacle.Obstacle.{Obstacle}
+use Rattle.common.specs.declared.obstacle.Obstacle.TheVariants as obstacle
 use Rattle.a64_registers.specs.declared.registers.Regs.{Regs}
 use Rattle.mte_tenant.specs.declared.admission.AdmitError.{AdmitError}
 use Rattle.mte_tenant.specs.Ledger.{is_bad}

@@ -2,7 +2,7 @@
 -- end.
 use Rattle.std.specs.Prelude.{◌≡◌, ℕ, ◌==◌, ◌&&◌, Bool, not, nat_le, List, length, Ok, Err}
 use Rattle.std.specs.Prelude.{Result, if◌then◌else◌}
-use Rattle.address_map.specs.declared.limits.TheConstants.{MAX_FRAMES}
+use Rattle.common.specs.declared.limits.TheConstants.{MAX_FRAMES}
 use Rattle.mte_script.specs.declared.error.ScriptFault.{ScriptFault}
 use Rattle.mte_script.specs.declared.error.ScriptFault.TheVariants as fault
 use Rattle.mte_session.specs.declared.session.SessionError.{SessionError}

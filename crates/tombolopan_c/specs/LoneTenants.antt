@@ -1,9 +1,9 @@
 -- A tenant alone, of terms that the caller lends: its slices, and what is told of it.
 use Rattle.std.specs.Prelude.{◌≡◌, ℕ, ◌==◌, ◌&&◌, not, nat_le, List, map, length}
 use Rattle.std.specs.Prelude.{Some, None, Result, Ok, Err, false, if◌then◌else◌}
-use Rattle.obstacle.specs.Obstacles.{IfRefused}
-use Rattle.obstacle.specs.declared.Obstacle.{Obstacle}
-use Rattle.obstacle.specs.declared.Obstacle.TheVariants as obstacle
+use Rattle.common.specs.Obstacles.{IfRefused}
+use Rattle.common.specs.declared.obstacle.Obstacle.{Obstacle}
+use Rattle.common.specs.declared.obstacle.Obstacle.TheVariants as obstacle
 use Rattle.mte_elf.specs.declared.error.ElfError.{ElfError}
 use Rattle.mte_elf.specs.declared.error.ElfError.TheVariants as image
 use Rattle.scudo_heap.specs.Calls.{arguments_of}

@@ -10,9 +10,9 @@ use c_reports::{
     NOT_AARCH64, NOT_ELF64, NOT_EXEC, OUT_OF_MEMORY, OVERLAP, REFUSED, RESERVATION_TOO_SMALL,
     SEGMENT_RANGE, SHORT, TOO_MANY_LIVE,
 };
+use common::Obstacle;
 use mte_elf::ElfError;
 use mte_tenant::{AdmitError, Record};
-use obstacle::Obstacle;
 
 /// How a tenant alone ended.
 #[repr(C)]

@@ -16,7 +16,7 @@ use crate::lent_bytes::copy_to;
 use crate::lent_regs::LentRegs;
 use crate::lent_terms::LentTerms;
 use c_reports::{ActedMachine, MachineAct, NO_ROOM, OK, OUT_OF_MEMORY, PageEntry, REFUSED, page_map};
-use obstacle::Obstacle;
+use common::Obstacle;
 use std::alloc::Global;
 
 /// How a tenant's machine ended.

@@ -6,8 +6,8 @@ ghost use Rattle.c_reports.specs.declared.codes.TheConstants.{BAD_ARGUMENT};
 
 use crate::lent_bytes::{LentBytes, copy_files, copy_to};
 use crate::session_end::SessionEnd;
-use address_map::MAX_FRAMES;
 use c_reports::{BAD_ARGUMENT, OUT_OF_MEMORY};
+use common::MAX_FRAMES;
 use mte_session::SessionError;
 use std::alloc::Global;
 

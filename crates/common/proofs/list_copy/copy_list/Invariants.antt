@@ -1,5 +1,5 @@
 use Rattle.std.proofs.Common.{◌≡◌, take, vec_len, vec_capacity}
-use Rattle.list_copy.proofs.copy_list.Given as goal
+use Rattle.common.proofs.list_copy.copy_list.Given as goal
 
 -- Those so far are copied, with memory for the others.
 abbrev pub invariant-loop-item : goal.invariant-loop-item

@@ -1,7 +1,6 @@
 //! What a program says of how it was built. The lines behind the version are of a fixed size:
 //! tools/mark.py writes a build's own over them once the program is there, since no source can
 //! have its commit in it.
-#![tactic(auto)]
 
 ghost use Rattle.std.specs.Prelude.{◌≡◌, length, drop};
 

@@ -1,9 +1,8 @@
 //! What keeps a call from its result: memory that ran out, or a refusal.
-#![tactic(auto)]
 
 ghost use Rattle.std.specs.Prelude.{◌≡◌};
-ghost use Rattle.obstacle.specs.Obstacles.{obstacle_text};
-ghost use Rattle.obstacle.specs.declared.Obstacle.TheVariants.{OutOfMemory};
+ghost use Rattle.common.specs.Obstacles.{obstacle_text};
+ghost use Rattle.common.specs.declared.obstacle.Obstacle.TheVariants.{OutOfMemory};
 
 use std::alloc::{AllocError, AllocFailed};
 use std::error::Error;

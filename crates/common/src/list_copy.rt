@@ -1,5 +1,4 @@
 //! A copy of a list that keeps its room.
-#![tactic(auto)]
 
 ghost use Rattle.std.specs.Prelude.{◌≡◌, IfOk, vec_len, vec_capacity};
 

@@ -1,7 +1,7 @@
 -- What is said of an obstacle.
 use Rattle.std.specs.Prelude.{ℕ, List, Option, Some, codes, ⊤}
-use Rattle.obstacle.specs.declared.Obstacle.{Obstacle}
-use Rattle.obstacle.specs.declared.Obstacle.TheVariants.{OutOfMemory, Refused}
+use Rattle.common.specs.declared.obstacle.Obstacle.{Obstacle}
+use Rattle.common.specs.declared.obstacle.Obstacle.TheVariants.{OutOfMemory, Refused}
 
 -- If it is a refusal, P holds of the refusal. Memory may run out in place of any answer.
 abbrev pub IfRefused : {R : Type 0} → Obstacle R → (R → Type 0) → Type 0
