@@ -1,6 +1,6 @@
 //! The core file of a tenant's end.
 
-use elf_core::{CoreSubject, write_core};
+use debuggee::{CoreSubject, write_core};
 use mte_flat::Flat;
 use mte_tags::TagMode;
 use run_request::{Request, read_course};

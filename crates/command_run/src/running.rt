@@ -2,10 +2,10 @@
 
 use crate::core_dump::mode_in;
 use crate::telling::tell_end;
+use common::Obstacle;
 use mte_program::StreamSink;
 use mte_session::{Event, file_of, write_all, write_report};
 use mte_tags::TagMode;
-use obstacle::Obstacle;
 use run_request::{
     Replayed, Request, Run, SessionReplay, events_of, read_file, read_input, refuse,
     refuse_unadmitted,

@@ -3,9 +3,9 @@
 use crate::core_dump::dump_core;
 use crate::lost::lost_chunks;
 use crate::map::draw_map;
-use address_map::GRANULE_SIZE;
 use check_kinds::Suppressions;
-use elf_core::CoreSubject;
+use common::GRANULE_SIZE;
+use debuggee::CoreSubject;
 use heap_bounds::{Allocation, made_by};
 use heap_page::HeapPage;
 use mte_backtrace::Names;

@@ -2,12 +2,11 @@
 
 ghost use Rattle.std.specs.Prelude.{◌<◌};
 
-use address_map::MAX_STEPS;
+use common::{MAX_STEPS, Obstacle};
 use debuggee::{Cuts, Debuggee};
 use gdb_front::{Front, serve};
 use gdb_monitor::DebugSubject;
 use mte_tenant::Admission;
-use obstacle::Obstacle;
 use run_request::{Request, end_unadmitted, read_course, read_input, refuse};
 use run_terms::{Failure, Options, Replay};
 use std::alloc::{AllocError, Global};

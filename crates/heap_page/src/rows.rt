@@ -1,7 +1,7 @@
 //! The rows of a page: 512 bytes each, with the tags of their granules at the end.
 
 use a64_bits::plain;
-use address_map::GRANULE_SIZE;
+use common::GRANULE_SIZE;
 use mte_flat::Flat;
 use mte_report::Report;
 use run_book::BookEntry;

@@ -7,7 +7,7 @@ use a64_registers::Regs;
 use circular_buffer::HeapCircularBuffer;
 use elf_symbols::SymbolOffset;
 use heap_bounds::{RangeUse, access_of};
-use instruction_trace::{Instruction, Moment, Nzcv, TraceLine, Turn, tell_turns};
+use instruction_trace::{Instruction, Moment, Nzcv, StatisticsTable, TraceLine, Turn, tell_turns};
 use mte_backtrace::{FrameNames, Names};
 use mte_flat::Flat;
 use mte_svc::{Status, TenantParts};
@@ -17,7 +17,6 @@ use run_cause::{
     Cause, Evidence, Finding, ForbiddenAccess, LastStore, Violation, abort_words, breakpoint_words,
     family_of, fault_words, is_undefined,
 };
-use run_statistics::StatisticsTable;
 use scudo_heap::HeapAbort;
 use std::alloc::Global;
 use std::io::Write;

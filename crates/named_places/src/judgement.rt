@@ -5,7 +5,7 @@ use crate::place::{NamedPlace, PlaceKind, PlaceText};
 use crate::places::NamedPlaces;
 use crate::table::PlaceTable;
 use a64_bits::plain;
-use address_map::{IMAGE_END, IMAGE_START, STACK_END, STACK_START};
+use common::{IMAGE_END, IMAGE_START, STACK_END, STACK_START};
 use debug_variables::{Neighbor, VariableName};
 use shadow_memory::{AccessedBytes, OriginKind, PointerOrigin, Step};
 

@@ -4,7 +4,7 @@ use crate::shadow::Shadow;
 use a64_bits::plain;
 use a64_instr::Instr;
 use a64_registers::Regs;
-use address_map::GRANULE_SIZE;
+use common::GRANULE_SIZE;
 use shadow_memory::{AccessedBytes, Provenance, RegisterAccess, Step};
 use std::alloc::AllocError;
 

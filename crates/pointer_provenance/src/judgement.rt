@@ -4,7 +4,7 @@ use crate::chunk_table::TracedChunk;
 use crate::shadow::{Shadow, is_in_heap};
 use a64_bits::plain;
 use a64_instr::Instr;
-use address_map::PAGE_SIZE;
+use common::PAGE_SIZE;
 use heap_functions::HeapFunction;
 use shadow_memory::{AccessedBytes, OriginKind, PointerOrigin, RegisterAccess, Sign};
 use std::alloc::AllocError;

@@ -10,7 +10,6 @@ use a64_bits::plain;
 use a64_decode::decode;
 use a64_instr::Instr;
 use a64_registers::Regs;
-use arithmetic_faults::ArithmeticFault;
 use check_kinds::CheckKinds;
 use heap_bounds::{MemoryAccess, Span, access_of, freed_by, made_by};
 use heap_functions::HeapFunctionWatch;
@@ -26,7 +25,7 @@ use pointer_provenance::{ChunkChange, Misuse, Shadow, TracedChunk};
 use scudo_heap::HeapCall;
 use shadow_memory::{AccessedBytes, Full, RegisterAccess, Step};
 use std::alloc::{AllocError, Global};
-use undefined_bits::{ServiceArguments, UndefinedBits, UndefinedUse};
+use undefined_bits::{ArithmeticFault, ServiceArguments, UndefinedBits, UndefinedUse};
 
 /// Watches a tenant up to the first thing that it may not do, of the kinds that are checked.
 #[derive(Drop)]

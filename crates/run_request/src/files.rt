@@ -3,9 +3,9 @@
 use crate::session_course::SessionCourse;
 use crate::session_replay::events_of;
 use check_kinds::Suppressions;
+use common::Obstacle;
 use mte_program::StreamSource;
 use mte_session::read_whole;
-use obstacle::Obstacle;
 use run_terms::{Failure, FileFault, Options, Replay};
 use std::fs::File;
 use std::str;

@@ -2,7 +2,7 @@
 
 ghost use Rattle.std.specs.Prelude.{◌≡◌, ℕ, List, [], if◌then◌else◌, OnOk, OnErr, IfOk, IfErr};
 ghost use Rattle.std.specs.Prelude.{Some, None};
-ghost use Rattle.obstacle.specs.Obstacles.{IfRefused};
+ghost use Rattle.common.specs.Obstacles.{IfRefused};
 ghost use Rattle.mte_tenant.specs.Machines.{machine_of};
 ghost use Rattle.mte_tenant.specs.Ledger.{call_refusal};
 ghost use Rattle.mte_sched.specs.Contents.{after_call};
@@ -12,10 +12,10 @@ ghost use Rattle.mte_session.specs.Sessions.{call_of, session_of};
 ghost use Rattle.run_request.specs.Replays.{IsReplay, number_in, with_no_steps, machine_after, HasPages};
 ghost use Rattle.run_request.specs.Replays.{IsStarted, IsPlayed};
 
+use common::Obstacle;
 use mte_sched::{Host, ledger_follows};
 use mte_session::{Event, Sink, admission_of, write_refusal};
 use mte_tenant::{Refusal, Refused};
-use obstacle::Obstacle;
 use run_terms::Failure;
 use std::alloc::Global;
 use tenant_run::{TenantBench, Watcher};

@@ -1,10 +1,10 @@
 //! What a session does to one of its tenants.
 
 use crate::replay::decide;
+use common::Obstacle;
 use mte_sched::Host;
 use mte_session::{Event, admission_of};
 use mte_tenant::{Admission, Terms};
-use obstacle::Obstacle;
 use run_terms::Replay;
 use std::alloc::{AllocError, Global};
 

@@ -10,8 +10,8 @@ use crate::slices::run_slices;
 use crate::store_watcher::StoreWatcher;
 use crate::survey::Survey;
 use check_kinds::Suppressions;
+use common::Obstacle;
 use mte_tenant::{Admission, AdmitError, Terms};
-use obstacle::Obstacle;
 use run_terms::{Failure, Options};
 use std::alloc::Global;
 

@@ -3,7 +3,7 @@
 use crate::state::{UndefinedBits, number_in};
 use a64_bits::{plain, sign_extend};
 use a64_instr::Instr;
-use address_map::GRANULE_SIZE;
+use common::GRANULE_SIZE;
 use shadow_memory::{AccessedBytes, RegisterAccess, Step};
 use std::alloc::AllocError;
 use undefined_values::UndefinedValue;
