@@ -7,7 +7,6 @@ mod loaded;
 mod moment;
 mod service;
 mod stored;
-mod stores;
 mod turns;
 mod written;
 
