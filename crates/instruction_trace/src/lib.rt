@@ -10,7 +10,6 @@ mod service;
 mod statistics;
 mod statistics_table;
 mod stored;
-mod stores;
 mod turns;
 mod written;
 

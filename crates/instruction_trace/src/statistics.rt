@@ -5,8 +5,8 @@ ghost use Rattle.std.specs.Prelude.{◌≡◌};
 use crate::draws::draws_between;
 use crate::instruction::SVC;
 use crate::moment::Moment;
+use a64_access::AccessForm;
 use a64_decode::decode;
-use heap_bounds::{MemoryAccess, access_of};
 use mte_svc::TenantParts;
 use mte_tags::{Attrs, Paged, Tagged};
 use scudo_heap::HeapCall;
@@ -102,15 +102,15 @@ impl Statistics {
         ensures memory { M.Tagged.memory memory.new ≡ M.Tagged.memory memory.old }
         ensures kept { M.Tagged.kept memory.old memory.new }
     {
-        let Some(access) = access_at(moment) else {
+        let Some(form) = form_at(moment) else {
             return;
         };
-        if access.is_write {
+        if form.is_write() {
             self.stores = self.stores.saturating_add(1);
         } else {
             self.loads = self.loads.saturating_add(1);
         }
-        if access.is_checked && memory.has_attrs(access.addr, Attrs::TAGGED) {
+        if form.is_checked() && memory.has_attrs(form.addr(&moment.regs), Attrs::TAGGED) {
             self.compared = self.compared.saturating_add(1);
         }
     }
@@ -142,7 +142,7 @@ fn index_of(call: &HeapCall) -> usize {
     }
 }
 
-/// The bytes that the instruction of a moment loads or stores, if it does.
-fn access_at(moment: &Moment) -> Option<MemoryAccess> {
-    access_of(&decode(moment.word?)?, &moment.regs)
+/// How the instruction of a moment loads or stores registers, if it does.
+fn form_at(moment: &Moment) -> Option<AccessForm> {
+    AccessForm::of(&decode(moment.word?)?).filter(|form| form.is_of_registers())
 }

@@ -1,27 +1,37 @@
-"""Writes what each row stores, and the register that it writes, which `mte_run` tells."""
+"""Writes how each row accesses memory, and the register that it writes, by which `mte_run` explains
+a run."""
 
 import re
 
 from a64 import layout
 from a64.table import Row, Rows
 
-PATH = "crates/instruction_trace/src/stores.rt"
+PATH = "crates/a64_access/src/rows.rt"
 WRITTEN = "crates/instruction_trace/src/written.rt"
+
+# The field that is 0 of a store, by the function that gives the form of an access; none where each
+# is a store.
+STORES = {"single": "opc", "pair": "l", "tagged_pair": "", "store_tags": ""}
 
 HEAD = """\
 // Written by tools/isa.py from isa/a64.rows. Do not edit.
-//! What an instruction stores, by its row.
+//! How each row accesses memory.
 
-use crate::stored::{
-    Stored, granules_on, one, register_offset, scaled_offset, signed_offset, tags, two,
-};
-use a64_instr::Instr;
-use a64_registers::Regs;
+{functions}use a64_instr::Instr;
 
-/// What the instruction stores, by the registers before it. `None` where it stores nothing.
-#[rattlefmt::skip]
-pub(crate) fn stored(instr: &Instr, regs: &Regs) -> Option<Stored> {
-    match *instr {
+impl AccessForm {{
+    /// How an instruction accesses memory; `None` where it does not.
+    #[rattlefmt::skip]
+    pub fn of(instr: &Instr) -> Option<AccessForm> {{
+        Some(match *instr {{
+"""
+
+SEPARATOR = "\n            | "
+
+ACCESSES_TAIL = """\
+        })
+    }
+}
 """
 
 WRITTEN_HEAD = """\
@@ -43,33 +53,24 @@ TAIL = """\
 """
 
 
-def store_arm(row: Row) -> str:
-    """The arm of a row that stores something: its constants, and the call."""
-    constants, call = split_stores(row)
-    shown = []
-    for f in row.fields:
-        if f.name in constants:
-            shown.append(f"{f.name}: {constants[f.name]}")
-        elif f.name in words_of(call):
-            shown.append(f.name)
+def access_arm(row: Row) -> str:
+    """The arm of a row that accesses memory."""
+    call = access_call(row)
+    named = set(re.findall(r"\w+", call))
+    shown = [f.name for f in row.fields if f.name in named]
     if len(shown) < len(row.fields):
         shown.append("..")
-    return f"        Instr::{row.name} {{ {', '.join(shown)} }} =>\n            Some({call}),\n"
+    # An addressing mode has a capital letter.
+    call = re.sub(r"\b(?=[A-Z])", "AddressingMode::", call)
+    return f"            Instr::{row.name} {{ {', '.join(shown)} }} =>\n                {call},\n"
 
 
-def words_of(call: str) -> set[str]:
-    return set("".join(c if c.isalnum() or c == "_" else " " for c in call).split())
-
-
-def split_stores(row: Row) -> tuple[dict[str, str], str]:
-    """The constant fields of `stores`, and its call; both are empty for `nothing`."""
-    said = row.said.get("stores", "nothing")
-    if said == "nothing":
-        return {}, ""
-    constants, call = split_constants(row, "stores", said)
-    if not re.fullmatch(r"\w+\(.*\)", call):
-        raise row.error(f"`{call}` is neither `nothing` nor a call", "stores")
-    return constants, call
+def access_call(row: Row) -> str:
+    """The call of `accesses`; empty of a row that accesses no memory."""
+    call = row.said.get("accesses", "")
+    if call and not re.fullmatch(r"\w+\(.*\)", call):
+        raise row.error(f"`{call}` is no call", "accesses")
+    return call
 
 
 def split_constants(row: Row, key: str, said: str) -> tuple[dict[str, str], str]:
@@ -113,10 +114,17 @@ def registers(rows: Rows) -> str:
     return text + layout.alternatives([layout.any_row(row) for row in others], "None") + TAIL
 
 
+def accesses(rows: Rows) -> str:
+    """The file that tells how an instruction accesses memory."""
+    ours = [row for row in rows.values() if access_call(row)]
+    called = {name for row in ours
+              for name in re.findall(r"(?<![\w:])([a-z]\w+)\(", access_call(row))}
+    functions = layout.functions_used({"crate::form": {"AccessForm", "AddressingMode", *called}})
+    # None is left to `_`.
+    others = [layout.any_row(row) for row in rows.values() if not access_call(row)]
+    return (HEAD.format(functions=functions) + "".join(map(access_arm, ours))
+            + f"            {SEPARATOR.join(others)} => return None,\n" + ACCESSES_TAIL)
+
+
 def written(rows: Rows) -> dict[str, str]:
-    split = {row.name: split_stores(row) for row in rows.values()}
-    arms = [store_arm(row) for row in rows.values() if split[row.name][1]]
-    # The rows that store nothing, and the loads of those that may: none is left to `_`.
-    others = [row for row in rows.values() if split[row.name][0] or not split[row.name][1]]
-    arms.append("        " + "\n        | ".join(map(layout.any_row, others)) + " => None,\n")
-    return {PATH: HEAD + "".join(arms) + TAIL, WRITTEN: registers(rows)}
+    return {PATH: accesses(rows), WRITTEN: registers(rows)}
