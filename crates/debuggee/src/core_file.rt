@@ -1,5 +1,5 @@
-//! The file (ELF64, "ELF Header", "Program Header"; the ABI for memory tags in core files: Linux,
-//! "Memory Tagging Extension (MTE) in AArch64 Linux", "Core dump support").
+//! The core file (ELF64, "ELF Header", "Program Header"; the ABI for memory tags in core files:
+//! Linux, "Memory Tagging Extension (MTE) in AArch64 Linux", "Core dump support").
 
 use crate::core_notes::{Noted, write_double_words, write_words};
 use crate::memory_map::{MappedRegion, regions};

@@ -1,4 +1,4 @@
-//! The answer of an operation.
+//! The answer of an operation on a heap.
 
 ghost use Rattle.std.specs.Prelude.{◌≡◌, ◌<◌};
 ghost use Rattle.scudo_heap.specs.Placing.{world_of};

@@ -1,4 +1,4 @@
-//! The operations and their answers.
+//! The operations on a heap and its memory, and their answers.
 
 ghost use Rattle.std.specs.Prelude.{◌≡◌};
 ghost use Rattle.tombolopan.specs.HeapAnswers.{of_call};
