@@ -10,7 +10,7 @@ of `names`, and its target the addressing mode.
 import random
 import re
 from collections.abc import Iterator
-from typing import Any, Optional
+from typing import Optional
 
 from a64.access_form import (
     BEFORE, Access, Fields, Regs, Term, evaluate_call, memory_after, moved_base, registers_loaded,
