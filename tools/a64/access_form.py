@@ -144,6 +144,13 @@ def is_checked(access: Access) -> bool:
     return access.mode[0] != "Offset" or access.base != 31
 
 
+def moved_base(access: Optional[Access]) -> set[int]:
+    """The numbered register that is written back, if one is."""
+    if access is None or access.mode[0] not in ("PreIndexed", "PostIndexed"):
+        return set()
+    return {access.base} - {31}
+
+
 def registers_of(access: Access) -> list[int]:
     """The registers that are loaded or stored, in the order of their bytes."""
     return [access.first, *([] if access.second is None else [access.second])]

@@ -10,10 +10,10 @@ of `names`, and its target the addressing mode.
 import random
 import re
 from collections.abc import Iterator
-from typing import Any, Optional
+from typing import Optional
 
 from a64.access_form import (
-    BEFORE, Access, Fields, Regs, Term, evaluate_call, memory_after, registers_loaded,
+    BEFORE, Access, Fields, Regs, Term, evaluate_call, memory_after, moved_base, registers_loaded,
 )
 from a64.accesses import access_call, split_writes
 from a64.compare import STEPS, equations
@@ -78,10 +78,13 @@ def compare_accesses(access: Optional[Access], regs: Regs, left: Regs) -> Option
     said, found = memory_after(access, regs), left["memory"]
     if said != found:
         return f"it says {describe_memory(said)}, and step_of_instr {describe_memory(found)}"
-    written = left["regs"]["x"].written
-    for n, value in registers_loaded(access, regs).items():
+    written, loaded = left["regs"]["x"].written, registers_loaded(access, regs)
+    for n, value in loaded.items():
         if written.get(n) != value:
             return f"it says that x{n} becomes {value:#x}, and step_of_instr {written.get(n)}"
+    base = access.base if access and access.base not in loaded else 31
+    if (base in written) != (base in moved_base(access)):
+        return f"step_of_instr {'moves' if base in written else 'does not move'} the base"
     return None
 
 
@@ -99,17 +102,14 @@ def describe_memory(memory: Term) -> str:
     return f"{tags}{what} at {address:#x}{checked}"
 
 
-def compare_writes(row: Row, fields: Fields, written: dict[int, Any],
-                   loaded: set[int]) -> Optional[str]:
+def compare_writes(row: Row, fields: Fields, written: set[int]) -> Optional[str]:
     """How the registers that the row says that it writes aren't those that the definition does."""
     constants, register = split_writes(row)
     number = int(register) if register.isdigit() else fields.get(register, 31)
     said = {number} - {31} if are_given(constants, fields) else set()
-    has_base = "memory" in row.split("step") and "rn" in fields
-    found = set(written) - loaded - ({fields["rn"]} - said if has_base else set())
-    if said == found:
+    if said == written:
         return None
-    return f"it says {register_names(said)}, and step_of_instr writes {register_names(found)}"
+    return f"it says {register_names(said)}, and step_of_instr writes {register_names(written)}"
 
 
 def register_names(registers: set[int]) -> str:
@@ -117,7 +117,7 @@ def register_names(registers: set[int]) -> str:
 
 
 def row_differences(row: Row, step: Function) -> Iterator[TableError]:
-    """The first difference of each kind."""
+    """The first difference of each kind; of a row with a wrong access that alone."""
     found: dict[str, TableError] = {}
     for fields, regs in samples(row):
         instr = (row.name, *(fields[f.name] for f in row.fields))
@@ -128,6 +128,8 @@ def row_differences(row: Row, step: Function) -> Iterator[TableError]:
         for key, text in sample_differences(row, fields, regs, left):
             if text and key not in found:
                 found[key] = row.error(f"{text}, where {values or 'it is'}", key)
+    if "accesses" in found:
+        found.pop("writes", None)
     yield from found.values()
 
 
@@ -135,17 +137,17 @@ def sample_differences(row: Row, fields: Fields, regs: Regs,
                        left: Regs) -> Iterator[tuple[str, Optional[str]]]:
     """What is wrong with each line, for such fields and registers."""
     call = access_call(row)
-    access = None
     try:
         access = evaluate_call(call, fields) if call else None
         yield "accesses", compare_accesses(access, regs, left)
     except (DefinitionError, SyntaxError, *MISTYPED) as error:
         yield "accesses", f"`{call}`: {error}"
         return
-    # `writes` names the register that is given a tag.
+    # A load of a tag gives it to the register that `writes` names.
     is_load = access is not None and access.kind == "Load"
     loaded = set(registers_loaded(access, regs)) if is_load else set()
-    yield "writes", compare_writes(row, fields, left["regs"]["x"].written, loaded)
+    written = set(left["regs"]["x"].written) - loaded - moved_base(access)
+    yield "writes", compare_writes(row, fields, written)
 
 
 # ---- names

@@ -166,7 +166,7 @@ impl AccessForm {
 /// A load or a store of one register of 2 to the power of `size` bytes.
 pub(crate) fn single(size: u8, opc: u8, rn: u8, rt: u8, mode: AddressingMode) -> AccessForm {
     AccessForm {
-        kind: load_unless_0(opc),
+        kind: kind_by(opc),
         mode,
         base: rn,
         bytes: byte_count(size) as u8,
@@ -196,7 +196,7 @@ pub(crate) fn literal(opc: u8, imm19: i32, rt: u8) -> AccessForm {
 /// A load or a store of two registers.
 pub(crate) fn pair(opc: u8, l: u8, rn: u8, rt: u8, rt2: u8, mode: AddressingMode) -> AccessForm {
     AccessForm {
-        kind: load_unless_0(l),
+        kind: kind_by(l),
         mode,
         base: rn,
         bytes: pair_unit(opc),
@@ -249,8 +249,8 @@ pub(crate) fn store_tags(opc: u8, rn: u8, rt: u8, mode: AddressingMode) -> Acces
     }
 }
 
-/// What a field says that is 0 of a store.
-fn load_unless_0(field: u8) -> AccessKind {
+/// The kind by a field that is 0 of a store.
+fn kind_by(field: u8) -> AccessKind {
     if field == 0 {
         AccessKind::Store
     } else {
