@@ -45,8 +45,8 @@ def test_the_page_of_the_crates() -> None:
 
 
 def test_each_crate_has_a_status() -> None:
-    """The table of docs/ARCHITECTURE.md has each crate, with what is proved of it."""
-    page = (ROOT / "docs" / "ARCHITECTURE.md").read_text(encoding="utf-8")
+    """The table of docs/project/ARCHITECTURE.md has each crate, with what is proved of it."""
+    page = (ROOT / "docs" / "project" / "ARCHITECTURE.md").read_text(encoding="utf-8")
     rows = re.findall(r"^\| (`\w+`(?:, `\w+`)*) \| (proved|in part|safe|types|law|tests) \|", page,
                       re.M)
     named = [name for names, _ in rows for name in re.findall(r"`(\w+)`", names)]
