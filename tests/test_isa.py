@@ -67,8 +67,8 @@ def test_a_word_is_explained(word: str, told: str) -> None:
 
 
 def test_the_page_counts_the_forms() -> None:
-    """docs/project/ADDING_AN_INSTRUCTION.md has how many forms each table has and may have, and how many
-    arms the first match has."""
+    """docs/project/ADDING_AN_INSTRUCTION.md has how many forms each table has and may have, and how
+    many arms the first match has."""
     page = (ROOT / "docs" / "project" / "ADDING_AN_INSTRUCTION.md").read_text(encoding="utf-8")
     found = table.read_forms(table.read_rows())
     rooms = {of.enum: dispatch.MOST_VARIANTS for of in table.RARE_TABLES.values()}

@@ -18,13 +18,15 @@ MARK = """\
 HEAD = """\
 # What to believe
 
-For an auditor: for each theorem of the README what must be read to know what it says. \
-`tools/believe.py THEOREM` prints the definitions in the order in which they are read, with line \
-numbers, with what each file has that may be skipped, with what the theorem rests on beside its \
-proof, and with what it does not say. It does so for any other call with a contract too, as \
-`tools/believe.py mte_tenant::slice`. `tools/believe.py --all` prints all theorems as one page; the \
-Debian package of the pages has it as `THEOREMS.md`. Nothing that is not listed has to be read: no \
-body, nothing in `proofs/`, `must-fail/` and `specs/Inner`.
+For an auditor: for each theorem of the README what must be read to know what it says. Nothing \
+that is not listed has to be read: no body, nothing in `proofs/`, `must-fail/` and `specs/Inner`.
+
+- `tools/believe.py THEOREM` prints the definitions in the order in which they are read, with line \
+numbers, and what each file has that may be skipped. It also says what the theorem rests on beside \
+its proof, and what it does not say.
+- `tools/believe.py CALL` does so for any other call with a contract, as `mte_tenant::slice`.
+- `tools/believe.py --all` prints all theorems as one page. Debian's package of the pages has it \
+as `THEOREMS.md`.
 
 A definition is **reached** by a theorem if a clause names it, or a definition, a type or a \
 constant that is reached does. Files are in the order in which they are read, each before those \
