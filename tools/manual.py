@@ -239,7 +239,7 @@ def of_header(text: str) -> str:
         "include/tombolopan.h": "all declarations", "lib/libtombolopan.a": "the library",
         "lib/libtombolopan.so.2": "the library as a shared object",
         "share/tombolopan/tombolopan, share/tombolopan/tombolopan.rs": "for Python and Rust",
-        "share/doc/tombolopan/docs/EMBEDDING.md": "more on all of them"}))
+        "share/doc/tombolopan/docs/C.md": "more on all of them"}))
     page += section_of("SEE ALSO", escaped("mte_host(1), mte_run(1)"))
     return page
 
