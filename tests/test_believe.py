@@ -2,6 +2,7 @@
 grows is seen, and closures are what was read by hand. Nothing that was built is needed."""
 
 import pathlib
+import re
 import shutil
 import sys
 
@@ -236,8 +237,22 @@ def test_a_printed_closure() -> None:
     for text in ("ensures free { FreedBlocksAreFree }", "crates/mte_tags/specs/Memory.antt: ",
                  "  skip ", "types and constants of the code:", "words of the kit:"):
         assert text in told
+    assert "it rests on the proof of `tag_discipline`" in told
+    assert "what it does not say: It holds of a careful run" in told
     assert believe("chunks_are_guarded", "pages").status == 1
     assert "0 public functions" in believe("no_such_law").errors
+
+
+def test_all_theorems() -> None:
+    """The text of all theorems has a part for each row of the page, and what they rest on."""
+    told = believe("--all").output
+    page = (ROOT / "docs" / "BELIEVE.md").read_text(encoding="utf-8")
+    names = re.findall(r"^\| (`\w+`) \|", page, re.M)
+    assert len(names) >= 15
+    for name in names:
+        assert f"## {name}\n" in told
+    assert told.count("**What it does not say.**") == len(names)
+    assert "The last line of `rt verdict`" in told and "Do not edit" not in told
 
 
 def copy_read_files(target: pathlib.Path) -> pathlib.Path:

@@ -148,7 +148,7 @@ def test_arguments_that_are_exchanged(name: str) -> None:
     (RUST, r"(?<=^pub const )(TB_\w+: u32 = )(\d+)"),
     (PYTHON, r"^([A-Z_0-9]+ = )(\d+)$"),
     ("crates/mte_tags/src/attrs.rt", r"(const (?:READ|WRITE|EXEC|TAGGED): Attrs = Attrs\()(\d+)"),
-    ("docs/EMBEDDING.md", r"(`TB_\w+` )(\d+)"),
+    ("docs/C.md", r"(`TB_\w+` )(\d+)"),
 ])
 def test_numbers_that_are_changed(path: str, number: str) -> None:
     """Each number one more, in each file that has it."""

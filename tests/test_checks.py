@@ -374,8 +374,8 @@ def test_suppressions(alone: pathlib.Path, tmp_path: pathlib.Path) -> None:
 
 
 def test_the_page(alone: pathlib.Path) -> None:
-    """The table of docs/CHECKING.md is what the script finds that writes it, but for what other
-    tools report by chance of a machine."""
+    """The table of docs/project/CHECKED.md is what the script finds that writes it, but for what
+    other tools report by chance of a machine."""
     assert alone.is_file()
     succeed([sys.executable, ROOT / "tools" / "checking.py", "--check"], seconds=900)
 

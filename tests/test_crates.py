@@ -1,7 +1,11 @@
 """The list of crates: its sections are those of the pages, and each edge is there for something."""
 
+import pathlib
 import re
 import sys
+
+import crates
+import pytest
 
 from tests.support.checkout import tracked_files
 from tests.support.places import ROOT
@@ -21,7 +25,7 @@ def sections() -> dict[str, list[str]]:
 
 
 def test_order() -> None:
-    """Each crate is listed once, behind those that it stands on, and has a folder."""
+    """Each crate is listed once, after those that it depends on, and has a folder."""
     seen: list[str] = []
     listed = {name for names in sections().values() for name in names}
     for line in LIST.splitlines():
@@ -34,27 +38,60 @@ def test_order() -> None:
     assert folders - {"README.md"} == listed
 
 
-def test_the_page_of_the_crates() -> None:
-    """crates/README.md has the same layers, with the same crates in the same order."""
-    page = (ROOT / "crates" / "README.md").read_text(encoding="utf-8")
-    rows = re.findall(r"^\| ([^|]+) \| (`[^|]+`) \|$", page, re.M)
-    layers = {title: re.findall(r"`(\w+)`", names) for title, names in rows}
-    assert list(layers.values()) == list(sections().values())
-    for title, section in zip(layers, sections()):
-        assert section.startswith(title), (title, section)
+def test_the_map() -> None:
+    """Map and table are what crates.txt and the first sentences of the crates give; each crate has
+    a status, and no edge leads to a higher one."""
+    ran = run([sys.executable, ROOT / "tools" / "crates.py", "--check"])
+    assert ran == Ran(0, b"", b"")
 
 
-def test_each_crate_has_a_status() -> None:
-    """The table of docs/ARCHITECTURE.md has each crate, with what is proved of it."""
-    page = (ROOT / "docs" / "ARCHITECTURE.md").read_text(encoding="utf-8")
-    rows = re.findall(r"^\| (`\w+`(?:, `\w+`)*) \| (proved|in part|safe|types|law|tests) \|", page,
-                      re.M)
-    named = [name for names, _ in rows for name in re.findall(r"`(\w+)`", names)]
-    assert sorted(named) == sorted(name for names in sections().values() for name in names)
+SMALL = """\
+# The crates.
+
+# Ground (exact): numbers.
+low:
+
+# Reports (explaining): words.
+words: low
+
+# Programs (program): command lines.
+main: low words
+"""
+
+
+@pytest.mark.parametrize(("old", "new", "wanted"), [
+    ("", "", []),
+    ("low:\n", "low: words\n", ["crates.txt: low, which is exact, depends on words"]),
+    ("words: low\n", "words: low main\n",
+     ["crates.txt: words, which is explaining, depends on main"]),
+    ("(explaining)", "(exact)", []),
+    (" (program)", "", ["crates.txt: the section of main has no status"]),
+    ("(program)", "(prog)", ["crates.txt: the section of main has no status"]),
+    ("words: low\n", "", ["crates.txt: words is there or in crates/, and not in both"]),
+])
+def test_statuses(tmp_path: pathlib.Path, old: str, new: str, wanted: list[str]) -> None:
+    """An edge to a crate of a higher status is found, and so is a crate without a line or a
+    section without a status that is one."""
+    for name in ("low", "words", "main"):
+        (tmp_path / "crates" / name / "src").mkdir(parents=True)
+        (tmp_path / "crates" / name / "src" / "lib.rt").write_text("//! A crate.\n")
+    layers = crates.read_layers(SMALL.replace(old, new))
+    assert list(crates.complaints(tmp_path, layers)) == wanted
+
+
+def test_first_sentences(tmp_path: pathlib.Path) -> None:
+    """The first sentence of a crate's comment, of a long one what comes before its colon."""
+    source = tmp_path / "src" / "lib.rt"
+    source.parent.mkdir()
+    for text, wanted in (("//! Short: a\n//! crate. More.\n", "Short: a crate"),
+                         (f"//! Long: {'word ' * 20}end.\n", "Long"), ("//! A name,\n//!\n", ""),
+                         ("//! All in one:\n//!\n//! - this\n", "All in one"), ("mod a;\n", "")):
+        source.write_text(text)
+        assert crates.sentence_of(tmp_path) == wanted
 
 
 def test_ported_crates() -> None:
-    """docs/PROVED.md has each library of the kit that a crate stands on, but those of std."""
+    """docs/PROVED.md has each library of the kit that a crate depends on, but those of std."""
     listed = {name for names in sections().values() for name in names}
     below = {it for line in LIST.splitlines() if not line.startswith("#")
              for it in line.partition(":")[2].split()}

@@ -38,6 +38,7 @@ FILES = {
     "python3-tombolopan": (r"usr/lib/python3/dist-packages/tombolopan/(\w+\.py|py\.typed)",),
     "tombolopan-doc": ("usr/share/doc/tombolopan/README.md",
                        "usr/share/doc/tombolopan/docs/HOST.md",
+                       "usr/share/doc/tombolopan/THEOREMS.md",
                        "usr/share/doc/tombolopan/tombolopan.spdx.json"),
 }
 
@@ -81,7 +82,7 @@ def test_files(packages: dict[str, pathlib.Path], built: pathlib.Path) -> None:
     assert len(every) == len(set(every))
     prefix = built.parent / "prefix"
     wanted = sorted(it.name for it in prefix.rglob("*") if it.is_file() or it.is_symlink())
-    more = {"copyright", "changelog.gz", "tombolopan.spdx.json"}
+    more = {"copyright", "changelog.gz", "tombolopan.spdx.json", "THEOREMS.md"}
     there = [pathlib.PurePath(it).name.removesuffix(".gz") for it in every
              if pathlib.PurePath(it).name not in more and "/lintian/" not in it]
     # The folder of the C library, and the first image, have a link where a checkout has them.

@@ -22,7 +22,6 @@ from tests.support.running import Ran, run
 from tests.support.tools import need
 
 VARIANTS = [*COMPILERS, "rust", "python"]
-PAGE = "docs/EMBEDDING.md"
 GROUPS: dict[str, Callable[[], Iterator[Line]]] = {
     "memory": lambda: itertools.chain(memory.pages(), memory.accesses(), memory.tags()),
     "asynchronous": memory.asynchronous,
@@ -129,7 +128,7 @@ def test_the_program_that_embeds(shared: pathlib.Path, variant: str) -> None:
 
 def test_the_first_program_in_c(shared: pathlib.Path) -> None:
     """The page's program, as C and as C++."""
-    code = shown("In C and C++", "first.c")
+    code = shown("docs/C.md", "first.c")
     assert "tb_run(" in code
     for variant in ("gcc-c11", "clang-c++17"):
         ran = started(in_c(shared, variant, EMBED / "first.c"))
@@ -138,23 +137,23 @@ def test_the_first_program_in_c(shared: pathlib.Path) -> None:
 
 def test_the_first_program_in_rust(shared: pathlib.Path) -> None:
     """The page's program in Rust."""
-    assert "memory.run(" in shown("In Rust", "first.rs")
+    assert "memory.run(" in shown("docs/RUST.md", "first.rs")
     assert started(program(shared, "rust", "first")).output == "breakpoint 1, x0 is 42\n"
 
 
 def test_the_first_program_in_python(shared: pathlib.Path) -> None:
     """The page's program in Python."""
-    assert "run(memory" in shown("In Python", "first.py")
+    assert "run(memory" in shown("docs/PYTHON.md", "first.py")
     assert started(program(shared, "python", "first")).output == "breakpoint 1, x0 is 42\n"
 
 
-def shown(title: str, name: str) -> str:
-    """The program that the page shows under a title, which the file of the name is."""
-    text = (ROOT / PAGE).read_text(encoding="utf-8")
-    begin = rf"\*\*{re.escape(title)}\*\* \(`examples/embed/{name}`"
+def shown(page: str, name: str) -> str:
+    """The program that a page shows, which the file of the name is."""
+    text = (ROOT / page).read_text(encoding="utf-8")
+    begin = rf"\*\* \(`examples/embed/{name}`"
     found = re.search(begin + r".*?\n\n```\w+\n(.*?)```", text, re.S)
-    assert found, f"{PAGE} shows no {name}"
-    assert found[1] == (EMBED / name).read_text(encoding="utf-8"), f"{PAGE} and {name} differ"
+    assert found, f"{page} shows no {name}"
+    assert found[1] == (EMBED / name).read_text(encoding="utf-8"), f"{page} and {name} differ"
     return found[1]
 
 

@@ -77,7 +77,7 @@ def test_refused_events_take_no_memory(preloaded: Preloaded, line: str) -> None:
 def test_stopped_tenants_keep_their_records(host: pathlib.Path, tmp_path: pathlib.Path,
                                             tenants: int, pages: int, room: int, most: int) -> None:
     """Tenants that were admitted, run and stopped one after the other take few megabytes, since
-    each keeps its record alone (docs/MEMORY.md)."""
+    each keeps its record alone (docs/project/MEMORY.md)."""
     folder = with_hi(tmp_path)
     lines = [line for number in range(1, tenants + 1) for line in (
         admission(number, pages=pages, room=room), f"slice {number} 1000", f"stop {number}")]

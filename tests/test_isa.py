@@ -35,7 +35,7 @@ def test_written_files_say_so() -> None:
 
 def test_words_are_explained() -> None:
     """The example of each row on the page is a word of that row, with its fields."""
-    page = (ROOT / "docs" / "INSTRUCTIONS.md").read_text(encoding="utf-8")
+    page = (ROOT / "docs" / "project" / "INSTRUCTIONS.md").read_text(encoding="utf-8")
     examples = re.findall(r"^### (\w+)\n.*?^Example: `(\w+)`", page, re.M | re.S)
     assert len(examples) >= 41
     for row, word in examples[::4]:
@@ -67,9 +67,9 @@ def test_a_word_is_explained(word: str, told: str) -> None:
 
 
 def test_the_page_counts_the_forms() -> None:
-    """docs/ADDING_AN_INSTRUCTION.md has how many forms each table has and may have, and how many
-    arms the first match has."""
-    page = (ROOT / "docs" / "ADDING_AN_INSTRUCTION.md").read_text(encoding="utf-8")
+    """docs/project/ADDING_AN_INSTRUCTION.md has how many forms each table has and may have, and how
+    many arms the first match has."""
+    page = (ROOT / "docs" / "project" / "ADDING_AN_INSTRUCTION.md").read_text(encoding="utf-8")
     found = table.read_forms(table.read_rows())
     rooms = {of.enum: dispatch.MOST_VARIANTS for of in table.RARE_TABLES.values()}
     rooms[table.FIRST_TABLE.enum] = dispatch.MOST_FORMS
@@ -92,7 +92,7 @@ def test_the_page_counts_the_forms() -> None:
 
 def test_rows_that_overlap() -> None:
     """The rows that overlap are those of the page."""
-    page = (ROOT / "docs" / "INSTRUCTIONS.md").read_text(encoding="utf-8")
+    page = (ROOT / "docs" / "project" / "INSTRUCTIONS.md").read_text(encoding="utf-8")
     listed = isa("--overlaps").output
     assert listed.count("\n") >= 7 and page.endswith(listed)
 

@@ -18,8 +18,8 @@ import compilers  # noqa: E402
 import packages  # noqa: E402
 import suites  # noqa: E402
 
-PAGE = (ROOT / "docs" / "PACKAGES.md").read_text(encoding="utf-8")
-CHECKED = (ROOT / "docs" / "CHECKING.md").read_text(encoding="utf-8")
+PAGE = (ROOT / "docs" / "project" / "PACKAGES.md").read_text(encoding="utf-8")
+CHECKED = (ROOT / "docs" / "project" / "CHECKED.md").read_text(encoding="utf-8")
 # Suites of their own by makefiles and by ctest, that take seconds.
 SUITES = ("libyaml", "zlib")
 # A library with its tests, a language, a tool with files, one that writes files, and C++.

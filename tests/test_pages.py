@@ -268,7 +268,7 @@ def prepare(copy: Copy, part: Part, built: Built) -> None:
     if "tenant-c" in part.text:
         library = tenant_cxx_library() if "tenant-c++" in part.text else tenant_library()
         (copy.folder / "examples" / "libc" / "out").symlink_to(library)
-    if "tombolopan" in part.text or "examples/many/run.sh" in part.text:
+    if re.search(r"tombolopan|library\.sh|examples/many/run\.sh", part.text):
         link_built(copy.folder, static_library(built.shared))
         for name in ("first.c", "first.rs", "first.py", "tombolopan.rs"):
             shutil.copy(EXAMPLES / "embed" / name, at)

@@ -1,5 +1,5 @@
 """Weaknesses that are known: a sample of the small programs of tools/weaknesses.py, and libraries'
-of examples/cves; and what docs/CHECKING.md says of them."""
+of examples/cves; and what docs/project/CHECKED.md says of them."""
 
 import pathlib
 import re
@@ -12,7 +12,7 @@ from tests.support.places import EXAMPLES, ROOT
 from tests.support.running import Word, run
 from tests.support.tools import give_up, need
 
-PAGE = (ROOT / "docs" / "CHECKING.md").read_text(encoding="utf-8")
+PAGE = (ROOT / "docs" / "project" / "CHECKED.md").read_text(encoding="utf-8")
 LIBRARIES = ("CVE-2023-53154", "CVE-2023-33460", "CVE-2014-2525")
 
 

@@ -4,9 +4,11 @@
     believe.py THEOREM [CLAUSE]    print them in the order in which they are read, with the files,
                                    types, constants and words of the kit, and what to skip; THEOREM
                                    is a public function with a contract, as `tenants_are_isolated`,
-                                   `Host::slice`, `mte_tenant::slice`
+                                   `Host::slice`, `mte_tenant::slice`; of a theorem of the README
+                                   also what it rests on and what it does not say
     believe.py --given NAME THEOREM    the same with a definition as given (CRATE.MODULE.NAME)
-    believe.py                     write docs/BELIEVE.md
+    believe.py --all               print all theorems of the README as one page of Markdown
+    believe.py                     write docs/BELIEVE.md, which has their numbers
     believe.py --check             exit with 1 where it is not what the definitions give, or where a
                                    closure is larger than its bound in closures/theorems.toml
     believe.py --record LOG        take the verdicts of a log of `rt ci` into closures/verdicts.toml
@@ -75,8 +77,15 @@ def tell(repository: Repository, options: argparse.Namespace) -> list[str]:
     if options.clause and options.clause not in {it.name for it in function.clauses}:
         return [f"{options.theorem} has no clause {options.clause}"]
     given = theorems.names_at(repository, tuple(options.given))
+    listed = next((it for it in theorems.read_page().theorems
+                   if theorems.function_named(repository, it.name) == function), None)
+    if listed:
+        print(f"{listed.says}\n")
     for line in printed.explained(repository, function, options.clause, given):
         print(line)
+    if listed:
+        print(f"\nit rests on {pages.rests_on(options.root, function.crate)}"
+              f"\n\nwhat it does not say: {listed.limits}")
     return []
 
 
@@ -86,6 +95,7 @@ def command_line() -> argparse.Namespace:
         description=__doc__, formatter_class=argparse.RawDescriptionHelpFormatter)
     parser.add_argument("theorem", nargs="?", help="a public function with a contract")
     parser.add_argument("clause", nargs="?", default="", help="one of its clauses")
+    parser.add_argument("--all", action="store_true", help="print all theorems")
     parser.add_argument("--check", action="store_true", help="compare, and write nothing")
     parser.add_argument("--given", action="append", default=[], metavar="NAME",
                         help="a definition that is not followed")
@@ -104,6 +114,9 @@ def main() -> int:
         repository = Repository.read(options.root)
         if options.theorem:
             found = tell(repository, options)
+        elif options.all:
+            print(pages.written_text(options.root, repository, theorems.read_page()), end="")
+            found = []
         else:
             found = (check if options.check else write)(options.root, repository)
     except (ReadError, OSError) as error:

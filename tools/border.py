@@ -2,7 +2,7 @@
 """The border to C: its numbers are written once, and its structs and calls compared.
 
     border.py --check    exit with 1 where the header, tombolopan.rs, the package of Python or
-                         docs/EMBEDDING.md says something else than the crate tombolopan_c, or the
+                         docs/C.md says something else than the crate tombolopan_c, or the
                          header does not compile as C99, C11 and C++17
     border.py --write    write what tools/border_to_c/codes.toml has into these files
     border.py --root DIR --check    the same in another copy of the repository

@@ -1,5 +1,5 @@
 #!/usr/bin/env python3
-"""The table of docs/CHECKING.md: which of the planted bugs of tests/sources who finds.
+"""The table of docs/project/CHECKED.md: which of the planted bugs of tests/sources who finds.
 
     checking.py [--write | --check]
 
@@ -24,7 +24,7 @@ from collections.abc import Iterator
 from typing import NamedTuple
 
 ROOT = pathlib.Path(__file__).resolve().parent.parent
-PAGE = ROOT / "docs" / "CHECKING.md"
+PAGE = ROOT / "docs" / "project" / "CHECKED.md"
 SOURCES = ROOT / "tests" / "sources"
 SAMPLES = ROOT / "examples" / "c"
 # The folder that TOMBOLOPAN_BUILT names has programs that were built elsewhere.

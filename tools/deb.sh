@@ -6,7 +6,8 @@
 #     libtombolopan2      the shared library
 #     libtombolopan-dev   header, static library, file for pkg-config, manual pages of the calls
 #     python3-tombolopan  the module for Python
-#     tombolopan-doc      pages, and the list of what is inside (tombolopan.spdx.json)
+#     tombolopan-doc      pages, all theorems (THEOREMS.md, by tools/believe.py --all), and the list
+#                         of what is inside (tombolopan.spdx.json)
 #
 # OUT is the folder to write them into; their paths are printed. FOLDER is that of tools/install.sh.
 # The version is that of the file VERSION, and until its tag (CONTRIBUTING.md) lower than it, with
@@ -32,4 +33,5 @@ shift
 work=$(mktemp -d)
 trap 'rm -rf "$work"' EXIT
 DESTDIR=$work "$here/install.sh" /usr "$@" >/dev/null
+"$here/believe.py" --all >"$work/usr/share/doc/tombolopan/THEOREMS.md"
 "$here/pack.py" "$work/usr" "$out"

@@ -215,6 +215,7 @@ put_texts() {
     done
     put share/doc/tombolopan "$top/README.md" "$top/CHANGELOG.md"
     put share/doc/tombolopan/docs "$top"/docs/*.md
+    put share/doc/tombolopan/docs/project "$top"/docs/project/*.md
     put share/doc/tombolopan/docs/pictures "$top"/docs/pictures/*
 }
 

@@ -100,7 +100,7 @@ MANUALS = {
     "disassemble": Manual(
         page="", parts={}, statuses="0, or 1 where an argument or a word is none.\n",
         examples={"disassemble 400000 <<< '9adf13e1 14000002'": "prints two instructions"},
-        files={"share/doc/tombolopan/docs/INSTRUCTIONS.md": "the instructions"},
+        files={"share/doc/tombolopan/docs/project/INSTRUCTIONS.md": "the instructions"},
         also="mte_host(1), mte_run(1)",
         help="Prints what instruction words mean\n\nReads words of 8 hexadecimal digits, with "
              "white space between them, from standard input, and writes a line for each: its "
@@ -239,7 +239,7 @@ def of_header(text: str) -> str:
         "include/tombolopan.h": "all declarations", "lib/libtombolopan.a": "the library",
         "lib/libtombolopan.so.2": "the library as a shared object",
         "share/tombolopan/tombolopan, share/tombolopan/tombolopan.rs": "for Python and Rust",
-        "share/doc/tombolopan/docs/EMBEDDING.md": "more on all of them"}))
+        "share/doc/tombolopan/docs/C.md": "more on all of them"}))
     page += section_of("SEE ALSO", escaped("mte_host(1), mte_run(1)"))
     return page
 

@@ -7,8 +7,8 @@ For each entry of cves.toml the source of a package is fetched from Debian, its 
 where it has one, and built by ../libc/tenant-cc with a small program that reaches the weakness.
 PROGRAM (crates/mte_run/out/mte_run) has to tell the cause, with the place in its stack; and of the
 source with the correction, where there is one, nothing. FOLDER keeps sources and what is built (a
-temporary folder). A table is printed; --write puts it into docs/CHECKING.md, and --check compares
-it with the page's. Status 1: something else was told. Status 3: a source was not fetched. Needed
+temporary folder). A table is printed; --write puts it into docs/project/CHECKED.md, and --check
+compares it with the page's. Status 1: something else was told. Status 3: a source was not fetched. Needed
 (Debian): clang, lld, apt, and the network; and the C library of ../libc/build.py.
 """
 import argparse
@@ -27,7 +27,7 @@ sys.path[:0] = [str(HERE.parent), str(HERE.parent / "real")]
 import debian_source  # noqa: E402
 import program_list  # noqa: E402
 
-PAGE = ROOT / "docs" / "CHECKING.md"
+PAGE = ROOT / "docs" / "project" / "CHECKED.md"
 TENANT_CC = HERE.parent / "libc" / "tenant-cc"
 HEAD = "| Weakness | Package | What is wrong | Source | Told as | By the stack in |"
 NOTHING = "nothing"

@@ -8,7 +8,7 @@ is admitted with that input and run alone. How they end has to be the same: stat
 steps, bytes written, heap calls. The tenant witness.c reads its registers, its memory, its tags and
 its heap and ends by what it has found. Inputs are of 0 to 89 bytes, or those of a folder, each with
 some bytes changed, left out or doubled. Exit status 1: a run differs, and its input is told. The
-package of Python is found as docs/EMBEDDING.md says.
+package of Python is found as docs/PYTHON.md says.
 """
 import argparse
 import pathlib

@@ -3,7 +3,7 @@
 
     checked.py torture [--every N]     500 of gcc's torture tests, as compilers.py takes them
     checked.py packages                the packages of packages.toml
-    checked.py --write                 writes what came of all into docs/CHECKING.md
+    checked.py --write                 writes what came of all into docs/project/CHECKED.md
 
 Each program is built as a tenant by clang and by gcc, at -O0 and at -O2, with -g. It runs plain,
 with --check, and with --check=all,places. Its output and its exit status have to be the same each
@@ -37,7 +37,7 @@ sys.path[:0] = [str(HERE), str(HERE.parent)]
 import compilers  # noqa: E402
 import packages  # noqa: E402
 
-PAGE = HERE.parents[1] / "docs" / "CHECKING.md"
+PAGE = HERE.parents[1] / "docs" / "project" / "CHECKED.md"
 BEGIN, END = "<!-- Written by examples/packages/checked.py: -->\n", "<!-- to here. -->\n"
 BUILDS = {f"{name}{level}": (name, level)
           for name in compilers.COMPILERS for level in ("-O0", "-O2")}

@@ -11,8 +11,8 @@ output, which has standard error too, and its exit status are compared. A source
 is another one after the build is named, and the package doesn't count then.
 
 A line says what came of each; FOLDER (out, beside this script) keeps sources, copies and results.
-`--write` writes what came of all into docs/PACKAGES.md. The exit status is 1 where a package does
-something else than packages.toml says. In its lines are CC, CXX, CFLAGS, AR, RANLIB, CONFIGURE
+`--write` writes what came of all into docs/project/PACKAGES.md. The exit status is 1 where a
+package does something else than packages.toml says. In its lines are CC, CXX, CFLAGS, AR, RANLIB, CONFIGURE
 (./configure, with --host for tenants), CMAKE, SOURCES (the folder of all sources), PROGRAMS (that
 of the programs beside this script) and RUN, by which programs run.
 Needed: what build.py --c++ makes, mte_run, and Debian's clang, llvm, lld, g++, make, cmake; for
@@ -38,7 +38,7 @@ LIBC = HERE.parent / "libc"
 sys.path.insert(0, str(HERE.parent))
 import debian_source  # noqa: E402
 
-PAGE = HERE.parents[1] / "docs" / "PACKAGES.md"
+PAGE = HERE.parents[1] / "docs" / "project" / "PACKAGES.md"
 BEGIN, END = "<!-- Written by examples/packages/packages.py: -->\n", "<!-- to here. -->\n"
 BUILD_SECONDS, RUN_SECONDS = 1500, 900
 SAME = "the same"

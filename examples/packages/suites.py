@@ -11,8 +11,8 @@ in both copies. In its lines are the words of packages.py and EMULATOR, RUN as a
 it by RUN in the place of each program that was built. `passed` and `failed` are patterns of the
 lines of a test: each match counts, or the number in its group does; `total` in place of `passed`
 counts those that fail too. `large_blocks` is the area of tenant-cc's --large-blocks. A line says
-what came of each; `--write` writes the table of docs/PACKAGES.md. The exit status is 1 where the
-counts differ and suites.toml doesn't say why, or are the same and it does.
+what came of each; `--write` writes the table of docs/project/PACKAGES.md. The exit status is 1
+where the counts differ and suites.toml doesn't say why, or are the same and it does.
 """
 import argparse
 import concurrent.futures

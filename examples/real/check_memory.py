@@ -6,8 +6,8 @@
 zlib's minigzip, Expat's outline and Lua are built from Debian's sources as programs.py builds them,
 and run once plain, once with --check and once with --check=all,places. Told is the peak of resident
 memory (VmHWM), the tenant's pages among it, and how many times the plain run's that is. --write
-puts the table into docs/CHECKING.md. FOLDER keeps sources and what is built (a temporary folder).
-PROGRAM is crates/mte_run/out/mte_run. Needed: what programs.py needs.
+puts the table into docs/project/CHECKED.md. FOLDER keeps sources and what is built (a temporary
+folder). PROGRAM is crates/mte_run/out/mte_run. Needed: what programs.py needs.
 """
 import argparse
 import pathlib
@@ -23,7 +23,7 @@ sys.path.insert(0, str(HERE.parent))
 import debian_source  # noqa: E402
 import program_list  # noqa: E402
 
-PAGE = ROOT / "docs" / "CHECKING.md"
+PAGE = ROOT / "docs" / "project" / "CHECKED.md"
 TENANT_CC = HERE.parent / "libc" / "tenant-cc"
 NAMES = ("zlib", "expat", "lua")
 WAYS = {"plain": [], "`--check`": ["--check"], "`--check=all,places`": ["--check=all,places"]}

@@ -14,7 +14,7 @@ from tests.support.places import ROOT
 LINK = re.compile(r"\]\(([^)\s]+)\)")
 HEADING = re.compile(r"^#+ (.*)$", re.M)
 # A heading that a page names: of another page, or of its own.
-OTHER_HEADING = re.compile(r'(docs/\w+\.md),? \(?"([^"]+)"')
+OTHER_HEADING = re.compile(r'(docs/(?:project/)?\w+\.md),? \(?"([^"]+)"')
 OWN_HEADING = re.compile(r'\("([^"]+)", (?:below|above)\)')
 PATH = re.compile(r"(?<![\w$./<{:-])(?:\.{0,2}/)?[\w.*-]+(?:/[\w.*-]+)+/?|`([\w*-]+\.\w+)`")
 SUFFIXES = (".antt", ".c", ".edit", ".forms", ".h", ".md", ".py", ".rows", ".rs", ".rt", ".s",
@@ -120,7 +120,7 @@ def named_paths(page: str) -> Iterator[str]:
         path = found[0].strip("`").rstrip(".")
         if READERS.search(path) or re.search(r"(^|/)out(/|$)", path):
             continue
-        is_readers = path.startswith("./") and "/" not in page.removeprefix("docs/")
+        is_readers = path.startswith("./") and (page.startswith("docs/") or "/" not in page)
         if "/" in path and not path.startswith("/") and not is_readers and means_file(page, path):
             yield path
 

@@ -1,4 +1,4 @@
-"""Writes docs/INSTRUCTIONS.md, and says what a word is."""
+"""Writes docs/project/INSTRUCTIONS.md, and says what a word is."""
 
 from collections.abc import Mapping
 from typing import Optional
@@ -7,7 +7,7 @@ from a64 import table
 from a64.accesses import STORES, access_call
 from a64.table import FieldTest, Form, Row, Rows
 
-PATH = "docs/INSTRUCTIONS.md"
+PATH = "docs/project/INSTRUCTIONS.md"
 
 HEAD = """\
 <!-- Written by tools/isa.py from isa/a64.rows and isa/a64.forms. Do not edit. -->

@@ -152,7 +152,7 @@ HEADER = "include/tombolopan.h"
 RUST_FILE = "examples/embed/tombolopan.rs"
 PYTHON_FILE = "examples/embed/tombolopan/abi.py"
 PYTHON_ENUMS = "examples/embed/tombolopan/enums.py"
-PAGE_FILE = "docs/EMBEDDING.md"
+PAGE_FILE = "docs/C.md"
 PARTS = [
     Part(HEADER, C, "the numbers", c_enums),
     Part(HEADER, C, "the texts", c_functions),

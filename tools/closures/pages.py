@@ -1,4 +1,4 @@
-"""docs/BELIEVE.md, as the closures and theorems.toml have it."""
+"""docs/BELIEVE.md and the text of all theorems, as the closures and theorems.toml have it."""
 
 import pathlib
 from collections.abc import Iterable, Iterator
@@ -12,20 +12,27 @@ from closures.theorems import (
     Bound, Given, Page, Theorem, closure_of_theorem, function_named, names_at,
 )
 
-HEAD = """\
+MARK = """\
 <!-- Written by tools/believe.py from the definitions and tools/closures/. Do not edit. -->
+"""
+HEAD = """\
 # What to believe
 
-For an auditor: for each theorem of the README what must be read to know what it says, what it \
-rests on beside its proof, and what it does not say. `tools/believe.py THEOREM` prints the same \
-with line numbers and with what each file has that may be skipped; `tools/believe.py CALL` does it \
-for any other call with a contract. Nothing that is not listed has to be read: no body, nothing in \
-`proofs/`, `must-fail/` and `specs/Inner`.
+For an auditor: for each theorem of the README what must be read to know what it says. Nothing \
+that is not listed has to be read: no body, nothing in `proofs/`, `must-fail/` and `specs/Inner`.
+
+- `tools/believe.py THEOREM` prints the definitions in the order in which they are read, with line \
+numbers, and what each file has that may be skipped. It also says what the theorem rests on beside \
+its proof, and what it does not say.
+- `tools/believe.py CALL` does so for any other call with a contract, as `mte_tenant::slice`.
+- `tools/believe.py --all` prints all theorems as one page. Debian's package of the pages has it \
+as `THEOREMS.md`.
 
 A definition is **reached** by a theorem if a clause names it, or a definition, a type or a \
 constant that is reached does. Files are in the order in which they are read, each before those \
 that it builds on. Lines are those of the definitions, without comments and blank lines. Of a type \
-with a model the model's value is followed, and not its fields.
+with a model the model's value is followed, and not its fields. A part that is taken *as given* is \
+printed by itself, by `--all`.
 """
 # Libraries of the kit that are parts of the standard library.
 OF_STD = {"core", "std_alloc"}
@@ -102,7 +109,7 @@ def items_of(reading: Reading) -> Iterator[str]:
 
 
 def kit_crates(crates: dict[str, list[str]], crate: str) -> list[str]:
-    """The ported crates that a crate stands on, itself or by those below it."""
+    """The ported crates that a crate depends on, itself or by those below it."""
     seen: set[str] = set()
     left = [crate]
     while left:
@@ -114,7 +121,7 @@ def kit_crates(crates: dict[str, list[str]], crate: str) -> list[str]:
 
 
 def read_crates(root: pathlib.Path) -> dict[str, list[str]]:
-    """The crates of crates.txt, each with what it stands on."""
+    """The crates of crates.txt, each with what it depends on."""
     found = {}
     for line in (root / "crates.txt").read_text(encoding="utf-8").splitlines():
         head, _, rest = line.partition("#")[0].partition(":")
@@ -145,13 +152,19 @@ def left_of(repository: Repository, page: Page, theorem: Theorem, names: set[Nam
     return f"With {known} as given, whose own closure is under *{given.title}*, it reaches "
 
 
+def rests_on(root: pathlib.Path, crate: str) -> str:
+    """What a theorem of a crate rests on, as the end of a sentence."""
+    ported = ", ".join(f"`{it}`" for it in kit_crates(read_crates(root), crate))
+    return (f"the proof of `{crate}` and of the crates below it, on the statements of the kit's "
+            f"{ported}, and on what is under *What all rest on*.")
+
+
 def section(root: pathlib.Path, repository: Repository, page: Page,
             theorem: Theorem) -> Iterator[str]:
-    """A theorem's part of the page."""
+    """A theorem's part of the text of all."""
     function = function_named(repository, theorem.name)
     names = closure_of_theorem(repository, page, theorem, "", theorem.given)
     reading = reading_of(repository, names)
-    ported = ", ".join(f"`{it}`" for it in kit_crates(read_crates(root), function.crate))
     yield from (f"## `{theorem.name}`", "",
                 f"{theorem.says} Its contract is in `{function.path}`:", "")
     yield from clauses_of(function)
@@ -160,8 +173,7 @@ def section(root: pathlib.Path, repository: Repository, page: Page,
     yield from file_rows(repository, reading, True)
     yield from items_of(reading)
     yield ""
-    yield (f"**It rests on** the proof of `{function.crate}` and of the crates below it, on the "
-           f"statements of the kit's {ported}, and on what is under *What all rest on*.")
+    yield f"**It rests on** {rests_on(root, function.crate)}"
     yield from ("", f"**What it does not say.** {theorem.limits}", "")
 
 
@@ -189,15 +201,19 @@ def written_part(repository: Repository, page: Page) -> Iterator[str]:
     yield ""
 
 
-def trusted_part(root: pathlib.Path, page: Page) -> Iterator[str]:
-    """The part on what all theorems rest on."""
-    data, crates = verdicts.read(), read_crates(root)
+def trusted_words(root: pathlib.Path, page: Page) -> Iterator[str]:
+    """What all theorems rest on, in words."""
+    crates = read_crates(root)
     ported = sorted({it for below in crates.values() for it in below} - set(crates) - OF_STD)
     yield from ("## What all rest on", "", page.trusted, "")
     names = ", ".join(f"`{it}`" for it in ported)
-    yield from (f"Ported crates of the kit that any crate stands on: {names}.", "")
-    yield "The last line of `rt verdict` for the theorems' crates and for the program:"
-    yield ""
+    yield from (f"Ported crates of the kit that any crate depends on: {names}.", "")
+
+
+def verdicts_part() -> Iterator[str]:
+    """What the prover printed of the theorems' crates."""
+    data = verdicts.read()
+    yield from ("The last line of `rt verdict` for the theorems' crates and for the program:", "")
     yield from (f"- `{name}`: `{it['line']}`" for name, it in data["crate"].items())
     yield from ("", "How many modules of the kit's statements each loaded:", "")
     libraries = sorted({library for it in data["crate"].values() for library in it["statements"]})
@@ -212,11 +228,17 @@ def trusted_part(root: pathlib.Path, page: Page) -> Iterator[str]:
 
 
 def written_page(root: pathlib.Path, repository: Repository, page: Page) -> str:
-    """The whole page."""
+    """The page: the numbers of all theorems, and what they rest on."""
+    lines = [*summary(repository, page), "", *trusted_words(root, page)]
+    return MARK + HEAD + "\n" + "\n".join(lines).rstrip("\n") + "\n"
+
+
+def written_text(root: pathlib.Path, repository: Repository, page: Page) -> str:
+    """The text of all theorems."""
     lines = [HEAD, *summary(repository, page), ""]
     for theorem in page.theorems:
         lines += section(root, repository, page, theorem)
     for given in page.given.values():
         lines += given_part(repository, given)
-    lines += [*written_part(repository, page), *trusted_part(root, page)]
+    lines += [*written_part(repository, page), *trusted_words(root, page), *verdicts_part()]
     return "\n".join(lines) + "\n"

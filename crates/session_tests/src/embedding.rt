@@ -1,4 +1,4 @@
-//! What docs/EMBEDDING.md shows in Rattle, once each, by `tombolopan` alone: a step, a heap, a
+//! What docs/RUST.md shows in Rattle, once each, by `tombolopan` alone: a step, a heap, a
 //! tenant alone, a host of two tenants, and the report of a session.
 
 use crate::images::{HI, image};

@@ -13,7 +13,7 @@
 //! - tenants over shared frames: `Host`;
 //! - sessions: `report`, `run_session` over any `Sink`, `run_both`.
 //!
-//! docs/EMBEDDING.md has a first use of each.
+//! docs/RUST.md has a first use of each.
 #![tactic(auto)]
 
 mod alone;

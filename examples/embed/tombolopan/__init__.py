@@ -1,5 +1,5 @@
 """Tombolopan from Python, by ctypes: sessions of several tenants, a tenant alone, and a memory with
-tags in which an A64 core steps. docs/EMBEDDING.md tells more.
+tags in which an A64 core steps. docs/PYTHON.md says more.
 
     tools/build.sh [--unproved] --only libtombolopan_c.a && pip install .
 
