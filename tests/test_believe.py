@@ -237,7 +237,7 @@ def test_a_printed_closure() -> None:
     for text in ("ensures free { FreedBlocksAreFree }", "crates/mte_tags/specs/Memory.antt: ",
                  "  skip ", "types and constants of the code:", "words of the kit:"):
         assert text in told
-    assert "it rests on the proof of `tag_discipline`" in told
+    assert "it rests on the proof of `heap_laws`" in told
     assert "what it does not say: It holds of a careful run" in told
     assert believe("chunks_are_guarded", "pages").status == 1
     assert "0 public functions" in believe("no_such_law").errors

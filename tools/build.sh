@@ -162,10 +162,10 @@ build_libc() {
     local sources
     sources=$(cd "$libc" && find src include arch build.py -type f -print0 | LC_ALL=C sort -z |
         xargs -0 sha256sum | sha256sum)
-    if [[ -e $libc/out/lib/libc.a && $sources == "$(cat "$libc/out/sources" 2>/dev/null)" ]]; then
+    if [[ -e $libc/out/lib/libc.a && $sources == "$(cat "$libc/out/sum" 2>/dev/null)" ]]; then
         say "the C library of tenants: was there"
     elif (watched "the C library of tenants" "$libc/build.py" --jobs "$1"); then
-        echo "$sources" >"$libc/out/sources"
+        echo "$sources" >"$libc/out/sum"
         say "the C library of tenants: built"
     elif [[ $only == tenants ]]; then
         exit 1

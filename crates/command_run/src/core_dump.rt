@@ -3,7 +3,7 @@
 use debuggee::{CoreSubject, write_core};
 use mte_flat::Flat;
 use mte_tags::TagMode;
-use run_request::{Request, read_course};
+use run_request::{RunRequest, read_course};
 use run_terms::{Failure, Replay};
 use std::fs::File;
 use std::io;
@@ -11,7 +11,7 @@ use std::io::BufWriter;
 
 /// Writes the core file of a tenant's end, where one is named.
 pub fn dump_core<'a>(
-    request: &Request<'a, '_>,
+    request: &RunRequest<'a, '_>,
     subject: &CoreSubject<'_>,
     memory: &mut Flat,
 ) -> Result<(), Failure<'a>> {
@@ -22,7 +22,10 @@ pub fn dump_core<'a>(
 }
 
 /// The tag mode of a tenant of a session, where a core file is named that has it.
-pub fn mode_in<'a>(request: &Request<'a, '_>, replay: &'a Replay) -> Result<TagMode, Failure<'a>> {
+pub fn mode_in<'a>(
+    request: &RunRequest<'a, '_>,
+    replay: &'a Replay,
+) -> Result<TagMode, Failure<'a>> {
     if request.options.output.core.is_none() {
         return Ok(TagMode::Sync);
     }

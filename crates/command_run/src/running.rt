@@ -7,14 +7,14 @@ use mte_program::StreamSink;
 use mte_session::{Event, file_of, write_all, write_report};
 use mte_tags::TagMode;
 use run_request::{
-    Replayed, Request, Run, SessionReplay, events_of, read_file, read_input, refuse,
+    Replayed, Run, RunRequest, SessionReplay, events_of, read_file, read_input, refuse,
     refuse_unadmitted,
 };
 use run_terms::{Failure, Replay};
 use tenant_run::{LoneTenant, Observer, TenantBench, observer_of};
 
 /// Runs the tenant, writes its output and says why it ended; returns the exit status.
-pub fn run_program<'a>(request: &Request<'a, '_>) -> Result<u8, Failure<'a>> {
+pub fn run_program<'a>(request: &RunRequest<'a, '_>) -> Result<u8, Failure<'a>> {
     match &request.options.replay {
         Some(replay) => run_replay(request, replay),
         None => run_alone(request),
@@ -22,7 +22,7 @@ pub fn run_program<'a>(request: &Request<'a, '_>) -> Result<u8, Failure<'a>> {
 }
 
 /// Runs an image alone, and says why it ended.
-fn run_alone<'a>(request: &Request<'a, '_>) -> Result<u8, Failure<'a>> {
+fn run_alone<'a>(request: &RunRequest<'a, '_>) -> Result<u8, Failure<'a>> {
     let (rt, options) = (request.rt, request.options);
     let image = request.image(1).bytes;
     let input = read_input(rt, options)?;
@@ -35,7 +35,7 @@ fn run_alone<'a>(request: &Request<'a, '_>) -> Result<u8, Failure<'a>> {
 
 /// Runs a tenant from its first instruction, and says why it ended.
 fn run_tenant<'a>(
-    request: &Request<'a, '_>,
+    request: &RunRequest<'a, '_>,
     tenant: &LoneTenant<'_>,
     bench: TenantBench,
 ) -> Result<u8, Failure<'a>> {
@@ -52,7 +52,7 @@ fn run_tenant<'a>(
 }
 
 /// Runs what a session does to one tenant, and says why it ended.
-fn run_replay<'a>(request: &Request<'a, '_>, replay: &'a Replay) -> Result<u8, Failure<'a>> {
+fn run_replay<'a>(request: &RunRequest<'a, '_>, replay: &'a Replay) -> Result<u8, Failure<'a>> {
     let script = read_file(request.rt, replay.script.as_str())?;
     let events = events_of(request.rt.alloc(), script.as_slice(), request.files)?;
     let session = SessionReplay {
@@ -65,7 +65,7 @@ fn run_replay<'a>(request: &Request<'a, '_>, replay: &'a Replay) -> Result<u8, F
 
 /// Runs the events of a session that concern one tenant, and says why it ended.
 fn run_session<'a>(
-    request: &Request<'a, '_>,
+    request: &RunRequest<'a, '_>,
     session: &SessionReplay<'a, '_>,
 ) -> Result<u8, Failure<'a>> {
     let (rt, options) = (request.rt, request.options);
@@ -79,7 +79,7 @@ fn run_session<'a>(
 
 /// Writes a tenant's lines of the report, and says why it ended.
 fn tell_replay<'a>(
-    request: &Request<'a, '_>,
+    request: &RunRequest<'a, '_>,
     session: &SessionReplay<'a, '_>,
     found: Replayed,
     observer: &mut Observer<'_>,
@@ -94,7 +94,7 @@ fn tell_replay<'a>(
 
 /// Writes a tenant's lines of the report, or its output as it is, and gives its tag mode.
 fn write_lines<'a>(
-    request: &Request<'a, '_>,
+    request: &RunRequest<'a, '_>,
     session: &SessionReplay<'a, '_>,
     bench: &TenantBench,
 ) -> Result<TagMode, Failure<'a>> {

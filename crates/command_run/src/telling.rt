@@ -16,7 +16,7 @@ use mte_tags::Paged;
 use mte_tenant::Status;
 use pointer_provenance::LostChunk;
 use report_documents::Document;
-use run_request::{Request, Run};
+use run_request::{Run, RunRequest};
 use run_terms::{Exactness, Failure, FileFault, Options};
 use shadow_memory::Full;
 use std::alloc::{AllocError, Global};
@@ -27,7 +27,7 @@ use tenant_run::{LastLine, Observer, TenantBench, TenantEnding};
 
 /// Writes what happened to a tenant, and returns the exit status.
 pub fn tell_end<'a>(
-    request: &Request<'a, '_>,
+    request: &RunRequest<'a, '_>,
     run: &Run<'_>,
     bench: TenantBench,
     observer: &mut Observer<'_>,
@@ -44,7 +44,7 @@ pub fn tell_end<'a>(
 /// Ends the lines of a trace, and says whether output was cut. A line or a chunk that is missing is
 /// a failure.
 fn end_watch<'a>(
-    request: &Request<'a, '_>,
+    request: &RunRequest<'a, '_>,
     observer: &mut Observer<'_>,
 ) -> Result<(), Failure<'a>> {
     if !observer.finish() {
@@ -65,7 +65,7 @@ fn end_watch<'a>(
 /// Writes what happened by a tenant's parts and its memory. It borrows them, so that none of its
 /// ends has to drop them.
 fn tell_parts<'a>(
-    request: &Request<'a, '_>,
+    request: &RunRequest<'a, '_>,
     run: &Run<'_>,
     parts: &TenantParts,
     memory: &mut Flat,
@@ -119,7 +119,7 @@ fn unwritten_lines(options: &Options) -> Failure<'_> {
 
 /// Writes which chunks are lost, and what the options request, and returns the exit status.
 fn tell<'a>(
-    request: &Request<'a, '_>,
+    request: &RunRequest<'a, '_>,
     report: &Report<'_>,
     lost: &[LostChunk],
     memory: &mut Flat,

@@ -7,13 +7,13 @@ use debuggee::{Cuts, Debuggee};
 use gdb_front::{Front, serve};
 use gdb_monitor::DebugSubject;
 use mte_tenant::Admission;
-use run_request::{Request, end_unadmitted, read_course, read_input, refuse};
+use run_request::{RunRequest, end_unadmitted, read_course, read_input, refuse};
 use run_terms::{Failure, Options, Replay};
 use std::alloc::{AllocError, Global};
 use tenant_run::admission_of;
 
 /// Answers GDB of the tenant that is requested, and returns the exit status.
-pub fn debug_program<'a>(request: &Request<'a, '_>) -> Result<u8, Failure<'a>> {
+pub fn debug_program<'a>(request: &RunRequest<'a, '_>) -> Result<u8, Failure<'a>> {
     match &request.options.replay {
         Some(replay) => debug_replay(request, replay),
         None => debug_alone(request),
@@ -21,7 +21,7 @@ pub fn debug_program<'a>(request: &Request<'a, '_>) -> Result<u8, Failure<'a>> {
 }
 
 /// Answers GDB of an image alone, and returns the exit status.
-fn debug_alone<'a>(request: &Request<'a, '_>) -> Result<u8, Failure<'a>> {
+fn debug_alone<'a>(request: &RunRequest<'a, '_>) -> Result<u8, Failure<'a>> {
     let options = request.options;
     let input = read_input(request.rt, options)?;
     let listed = listed_slices(request.rt.alloc(), options)?;
@@ -42,7 +42,7 @@ fn debug_alone<'a>(request: &Request<'a, '_>) -> Result<u8, Failure<'a>> {
 }
 
 /// Answers GDB of a tenant of a session, and returns the exit status.
-fn debug_replay<'a>(request: &Request<'a, '_>, replay: &'a Replay) -> Result<u8, Failure<'a>> {
+fn debug_replay<'a>(request: &RunRequest<'a, '_>, replay: &'a Replay) -> Result<u8, Failure<'a>> {
     let course = read_course(request.rt, replay, request.files)?;
     let Some(admitted) = course.admitted else {
         return Ok(end_unadmitted(request.rt));

@@ -4,7 +4,7 @@
 use command_run::run_program;
 use gdb_run::debug_program;
 use run_options::{EarlyEnd, read_command_line};
-use run_request::{Request, read_files, read_suppressions};
+use run_request::{RunRequest, read_files, read_suppressions};
 use run_terms::{Failure, Options, report};
 use std::process::ExitCode;
 
@@ -24,7 +24,7 @@ fn main(rt: HostRuntime) -> ExitCode {
 fn run<'a>(rt: &HostRuntime, options: &'a Options) -> Result<u8, Failure<'a>> {
     let files = read_files(rt, options)?;
     let suppressions = read_suppressions(rt, options)?;
-    let request = Request {
+    let request = RunRequest {
         rt,
         options,
         files: files.as_slice(),

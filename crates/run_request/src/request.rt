@@ -7,7 +7,7 @@ use run_terms::Options;
 
 /// What a command line requests, with the bytes of the files that it names.
 #[derive(Clone, Copy)]
-pub struct Request<'a, 'x> {
+pub struct RunRequest<'a, 'x> {
     /// The system.
     pub rt: &'x HostRuntime,
     /// The command line.
@@ -38,7 +38,7 @@ pub struct Run<'x> {
     pub mode: TagMode,
 }
 
-impl<'a, 'x> Request<'a, 'x> {
+impl<'a, 'x> RunRequest<'a, 'x> {
     /// The image in the file with a number from 1.
     pub fn image(&self, number: u32) -> Image<'_> {
         Image {
