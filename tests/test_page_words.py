@@ -1,6 +1,7 @@
 """The sentences of pages, and the numbers that pages say: each sentence is short, and each number
 that a command counts is the one that it counts. Nothing that was built is needed."""
 
+import functools
 import re
 import tomllib
 from collections.abc import Callable
@@ -32,11 +33,12 @@ def source(path: str) -> str:
     return (ROOT / path).read_text(encoding="utf-8")
 
 
-def constant(path: str, name: str) -> int:
-    """The number of a constant of a source file."""
-    found = re.search(rf"\bconst {name}: \w+ = ([\d_]+)", source(path))
-    assert found, f"{path} has no {name}"
-    return int(found[1])
+def constant(file: str, name: str) -> int:
+    """The number of a constant of the one source file of this name that has it."""
+    texts = (source(it) for it in files(rf"crates/\w+/src/{file}\.rt"))
+    found = [it for text in texts for it in re.findall(rf"\bconst {name}: \w+ = ([\d_]+)", text)]
+    assert len(found) == 1, f"{file}.rt: {name}: {found}"
+    return int(found[0])
 
 
 def files(pattern: str) -> list[str]:
@@ -63,24 +65,54 @@ def suite_mutants() -> int:
     return sum(len(tomllib.loads(source(it))) for it in files(r"tools/wrong_bodies/\w+\.toml"))
 
 
+def store_calls() -> int:
+    """How many calls the trait PageStore has."""
+    trait = next(it for it in map(source, files(r"crates/\w+/src/page_store\.rt")))
+    return len(re.findall(r"^    fn ", trait, re.M))
+
+
+def build_bytes() -> int:
+    """How long the text of build_info is."""
+    texts = [re.search(r'^const TEXT: &str = "([^"]*\ncommit: [^"]*)";', source(it), re.M)
+             for it in files(r"crates/\w+/src/\w+\.rt")]
+    found = [it[1] for it in texts if it]
+    assert len(found) == 1, found
+    return len(found[0])
+
+
 EDITS = r"crates/(\w+)/must-fail/[^/]+\.edit"
+# Constants of the code, each with the name of its file.
+CONSTANTS = {
+    "block_entries": ("entry", "LONGEST"),
+    "book_calls": ("book", "KEPT"),
+    "events": ("parsing", "EVENT_LIMIT"),
+    "file_limit": ("reading", "FILE_LIMIT"),
+    "kept_calls": ("calls", "KEPT_CALLS"),
+    "live_tenants": ("admission", "MAX_LIVE"),
+    "max_frames": ("limits", "MAX_FRAMES"),
+    "max_output": ("limits", "MAX_OUTPUT"),
+    "max_pages": ("limits", "MAX_PAGES"),
+    "max_steps": ("limits", "MAX_STEPS"),
+    "op_entries": ("op_cache", "COUNT"),
+    "page_calls": ("calls", "MOST_CALLS"),
+    "page_steps": ("values", "PAGE_STEPS"),
+    "picture_rows": ("layout", "ROWS"),
+    "remembered_pages": ("remembered", "DATA_PAGES"),
+    "tlb_entries": ("translation", "TLB_ENTRIES"),
+}
 COUNTS: dict[str, Callable[[], int]] = {
-    "block_entries": lambda: constant("crates/a64_run/src/entry.rt", "LONGEST"),
-    "build_bytes": lambda: len(re.findall(r'const TEXT: &str = "([^"]*)"', source(
-        "crates/build_info/src/lib.rt"))[0]),
+    **{name: functools.partial(constant, *place) for name, place in CONSTANTS.items()},
+    "build_bytes": build_bytes,
     "edit_crates": lambda: len({it.split("/")[1] for it in files(EDITS)}),
     "edits": lambda: len(files(EDITS)),
     "found_by_tags": lambda: found_by(1),
     "found_exact": lambda: found_by(2),
     "isolation_definitions": lambda: definitions("behaviours_are_isolated"),
     "library_sources": lambda: len(files(r"examples/libc/src/\w+\.[cS]")),
-    "live_tenants": lambda: constant("crates/mte_tenant/src/admission.rt", "MAX_LIVE"),
     "planted_bugs": lambda: len(checking.page_table(source("docs/project/CHECKED.md"))) - 3,
     "programs": lambda: len(files(r"examples/programs/\w+\.c")),
-    "remembered_pages": lambda: constant("crates/mte_space/src/remembered.rt", "DATA_PAGES"),
     "rows": lambda: len(table.read_rows()),
-    "store_calls": lambda: len(re.findall(r"^    fn ", source(
-        "crates/mte_tags/src/page_store.rt"), re.M)),
+    "store_calls": store_calls,
     "suite_mutants": suite_mutants,
     "vectors": lambda: len(re.findall(r"^case\b", source("tests/vectors/steps.txt"), re.M)),
 }
