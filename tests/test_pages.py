@@ -286,7 +286,8 @@ def test_commands(built: Built, part: Part) -> None:
     if re.search(r"^rustc ", part.text, re.M):
         rust_program("rustc", 85)
     folder = copy_files(built.folder / "copy", *COPIED)
-    prefix = installed.prefix(built.shared) if "PREFIX" in part.text else built.folder / "nowhere"
+    is_installed = re.search(r"PREFIX|pkg-config", part.text)
+    prefix = installed.prefix(built.shared) if is_installed else built.folder / "nowhere"
     copy = copy_with_programs(folder, str(prefix), built.host, built.alone, built.disassemble)
     prepare(copy, part, built)
     result = copy.run(part)
