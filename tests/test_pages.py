@@ -296,7 +296,7 @@ def test_commands(built: Built, part: Part) -> None:
             f"{part.place}: {command}: status {status}\n{result.ran.output}{result.ran.errors}")
     written = re.findall(r"write `(breakpoint [^`]*)`", part.before)
     lines = result.ran.output.splitlines()
-    assert not written or (set(lines) == set(written) and len(lines) >= 3), lines
+    assert not written or set(lines) == set(written), lines
 
 
 # Forms of commands, and options.
