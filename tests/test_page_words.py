@@ -130,7 +130,8 @@ def test_sizes() -> None:
     """All pages are short enough to be read, and those for users more so."""
     listed = [it for it in pages() if not it.startswith("examples/")]
     assert sum(len(read_page(it).encode()) for it in listed) <= BYTES
-    assert sum(len(read_page(it).split()) for it in listed if is_for_users(it)) <= USERS_WORDS
+    texts = [re.sub(r"<!--.*?-->", "", read_page(it)) for it in listed if is_for_users(it)]
+    assert sum(len(it.split()) for it in texts) <= USERS_WORDS
 
 
 @pytest.mark.parametrize("page", pages())
