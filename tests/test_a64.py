@@ -8,9 +8,10 @@ import re
 
 import pytest
 from a64 import (
-    absent, calls, definitions, dispatch, forms, groups, layout, meaning, pages, reach, rows,
-    stores, table,
+    absent, access_form, accesses, calls, definitions, dispatch, forms, groups, layout, meaning,
+    pages, reach, rows, table,
 )
+from a64.access_form import Access
 from a64.definitions import Definitions, Unknown, apply
 from a64.table import Field, FieldTest, Row
 
@@ -252,12 +253,12 @@ def test_forms_that_are_hidden() -> None:
 
 
 def test_what_rows_say() -> None:
-    """The constants and the call of `stores`, the constants and the register of `writes`."""
-    assert stores.split_stores(ALL["LdStPost"]) == ({"opc": "0"}, "one(regs, rn, 0, size, rt)")
-    assert stores.split_stores(ALL["LdLit"]) == ({}, "")
-    assert stores.split_writes(ALL["Branch"]) == ({"op": "1"}, "30")
-    assert stores.split_writes(ALL["AddG"]) == ({}, "rd")
-    assert stores.split_writes(ALL["Svc"]) == ({}, "")
+    """The call of `accesses`, the constants and the register of `writes`."""
+    assert accesses.access_call(ALL["LdStPost"]) == "single(size, opc, rn, rt, PostIndexed)"
+    assert accesses.access_call(ALL["Svc"]) == ""
+    assert accesses.split_writes(ALL["Branch"]) == ({"op": "1"}, "30")
+    assert accesses.split_writes(ALL["AddG"]) == ({}, "rd")
+    assert accesses.split_writes(ALL["Svc"]) == ({}, "")
 
 
 @pytest.mark.parametrize(("text", "value"), [
@@ -291,37 +292,45 @@ def test_a_step_is_evaluated() -> None:
         written = left["regs"]["x"].written
         assert written[4] == (x[4] - 16) % 2**64
         if load:
-            assert written[5] == written[3] == Unknown(loaded=True)
-            assert left["memory"] == ("memory",)
+            assert [written[n] for n in (5, 3)] == [
+                sum(definitions.byte_read(at + k) << 8 * k for k in range(8))
+                for at in (written[4], written[4] + 8)]
+            assert left["memory"] == ("after_read", ("memory",), written[4], 16, True)
         else:
             assert left["memory"][:3] == ("after_write", ("memory",), written[4])
             assert bytes(left["memory"][3]) == b"".join(
                 int(x[n]).to_bytes(8, "little") for n in (5, 3))
 
 
-def test_calls_of_stores() -> None:
-    """The value of a call of `stores`."""
+def test_forms_of_accesses() -> None:
+    """The form that a call of `accesses` gives, and what an instruction of it does."""
     regs = meaning.draw_registers(random.Random(2))
     regs["x"][4] = 0x0300_0000_0000_1000
     regs["x"][5] = 0x1122_3344_5566_7788
-    fields = {"rn": 4, "rt": 5, "size": 1, "imm9": -2}
-    assert meaning.evaluate_call("one(regs, rn, signed_offset(i64::from(imm9)), size, rt)", fields,
-                          regs) == ("bytes", 0x0300_0000_0000_0FFE, [0x88, 0x77])
-    assert meaning.evaluate_call("tags(regs, 2, rn, 1, rn)", fields, regs) == ("tags", 0x1010, 2, 3)
+    fields = {"rn": 4, "rt": 5, "size": 1, "opc": 0, "imm9": -2}
+    call = "single(size, opc, rn, rt, Offset(i32::from(imm9)))"
+    store = access_form.evaluate_call(call, fields)
+    assert store == Access("Store", ("Offset", -2), 4, 2, 5)
+    assert access_form.memory_after(store, regs) == (
+        "after_write", ("memory",), 0x0300_0000_0000_0FFE, [0x88, 0x77], True)
+    load = access_form.evaluate_call(call, {**fields, "opc": 3})
+    value = access_form.registers_loaded(load, regs)[5]
+    assert value & 0xFFFF == definitions.byte_read(0x0300_0000_0000_0FFE) + (
+        definitions.byte_read(0x0300_0000_0000_0FFF) << 8)
+    assert value >> 16 == (0xFFFF if value >> 15 & 1 else 0)
+    tags = access_form.evaluate_call("store_tags(2, rn, rn, tag_mode(2, 1))", fields)
+    assert access_form.memory_after(tags, regs) == (
+        "with_granules", ("memory",), 0x1010, 2, 3, False)
 
 
-def test_calls_of_stores_are_those_of_the_code() -> None:
-    """Each function that `stores` may call is one of the code, with the same parameters."""
-    code = "".join((ROOT / "crates" / path).read_text(encoding="utf-8") for path in (
-        "instruction_trace/src/stored.rt", "heap_bounds/src/addressing.rt"))
+def test_calls_of_accesses_are_those_of_the_code() -> None:
+    """Each function that `accesses` may call is one of the code, with the same parameters."""
+    code = (ROOT / "crates/a64_access/src/form.rt").read_text(encoding="utf-8")
     found = {name: re.findall(r"(\w+):", parameters)
-             for name, parameters in re.findall(r"fn (\w+)\(([^)]*)\) -> ", code)}
-    ours = [name for name in vars(meaning.Calls) if not name.startswith("_")]
-    assert len(ours) == 9
-    for name in ours:
-        taken = list(inspect.signature(getattr(meaning.Calls, name)).parameters)[1:]
-        has_regs = "regs" in found[name] and "_" not in taken
-        assert [{"_": "regs"}.get(each, each) for each in taken] == found[name][has_regs:], name
+             for name, parameters in re.findall(r"pub\(crate\) fn (\w+)\(([^)]*)\) -> ", code)}
+    ours = {name: list(inspect.signature(function).parameters)[1:]
+            for name, function in vars(access_form.Calls).items() if not name.startswith("_")}
+    assert len(ours) == 10 and ours == found
 
 
 # ---- absent families

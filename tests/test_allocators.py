@@ -16,7 +16,7 @@ PAGE = "docs/ALLOCATORS.md"
 
 
 def need_scudo() -> None:
-    """Skips the test where LLVM's Scudo is missing; where CI=true, fails it."""
+    """Skips the test where LLVM's Scudo is missing."""
     need("clang")
     folder = subprocess.run(["clang", "--print-resource-dir"], stdout=subprocess.PIPE, text=True,
                             check=True).stdout.strip()

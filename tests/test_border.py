@@ -203,7 +203,7 @@ def test_what_a_proof_does_not_notice(what: str) -> None:
 
 
 @pytest.mark.parametrize("path, old, new", [
-    ("crates/address_map/src/limits.rt", "MAX_FRAMES: usize = 65536", "MAX_FRAMES: usize = 65535"),
+    ("crates/common/src/limits.rt", "MAX_FRAMES: usize = 65536", "MAX_FRAMES: usize = 65535"),
     ("crates/mte_svc/src/calls.rt", "KEPT_CALLS: usize = 64", "KEPT_CALLS: usize = 32"),
     ("crates/mte_tags/src/fault.rt", '"SpAlignment"', '"StackAlignment"'),
     ("crates/mte_session/src/status.rt", 'b"running"', 'b"runs"'),

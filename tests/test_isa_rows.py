@@ -1,5 +1,5 @@
 """tools/isa.py over altered copies of the data: new rows, rows that it refuses, and rows whose
-`stores`, `writes` or `names` are wrong."""
+`accesses`, `writes` or `names` are wrong."""
 
 import pathlib
 import random
@@ -245,14 +245,13 @@ REFUSED_ROWS = [
      "MoveWide ", "MoveWide: it isn't next to the others of is_branch: Bitfield is between"),
     ("step     regs memory\n    text     pc", "step     registers memory\n    text     pc",
      "registers memory", "LdLit: step: `registers` is neither regs nor memory nor -FIELD"),
-    ("step     regs memory\n    text     pc\n    stores   nothing\n",
-     "step     regs memory\n    text     pc\n", "LdLit ",
-     "LdLit: it takes memory and doesn't say what it stores"),
+    ("    text     pc\n    accesses literal(opc, imm19, rt)\n", "    text     pc\n", "LdLit ",
+     "LdLit: it takes memory and doesn't say how it accesses it"),
     ("step     regs memory\n    text     pc", "step     regs\n    text     pc", "LdLit +4",
      "LdLit: step: ld_lit takes memory, outcome, regs, and the line says regs"),
-    ("text     pc\n    stores   nothing", "stores   nothing", "LdLit ",
+    ("text     pc\n    accesses literal", "accesses literal", "LdLit ",
      "LdLit: text: the line and ld_lit differ in pc"),
-    ("text     pc\n    stores   nothing", "text     here\n    stores   nothing", "text     here",
+    ("text     pc\n    accesses literal", "text     here\n    accesses literal", "text     here",
      "LdLit: text: `here` is neither pc nor -FIELD"),
     # Rows beside one another.
     ("overlaps TwoSource\n    example  9ADF", "example  9ADF", "SubP ",
@@ -404,35 +403,48 @@ def test_errors_go_to_standard_error(isa: AlteredIsa) -> None:
         assert ran == Ran(1, b"", told.encode())
 
 
-# ---- what a row stores, writes and is called, beside the definitions
+# ---- what a row accesses, writes and is called, compared with the definitions
 
 WRONG_MEANINGS = [
-    # stores: a constant, an offset, a size, a register, one that stores nothing, one that does.
-    ("opc=0 one(regs, rn, scaled_offset", "opc=1 one(regs, rn, scaled_offset", "LdStImm", "stores"),
-    ("one(regs, rn, 0, size, rt)", "one(regs, rn, 8, size, rt)", "LdStPost", "stores"),
-    ("scaled_offset(imm12, size), size, rt)", "scaled_offset(imm12, size), 3, rt)", "LdStImm",
-     "stores"),
-    ("register_offset(regs, rm, option, s, size), size, rt)",
-     "register_offset(regs, rm, option, s, size), size, rm)", "LdStReg", "stores"),
-    ("register_offset(regs, rm, option, s, size)", "register_offset(regs, rm, option, 0, size)",
-     "LdStReg", "stores"),
-    ("two(regs, 2, rn, granules_on", "two(regs, 0, rn, granules_on", "StGP", "stores"),
-    (".wrapping_mul(2), rt, rt2)", ".wrapping_mul(2), rt2, rt)", "StGP", "stores"),
-    (".wrapping_mul(2), rt, rt2)", ", rt, rt2)", "StGP", "stores"),
-    ("tags(regs, opc, rn, granules_on(mode, i64::from(imm9)), rt)",
-     "tags(regs, opc, rn, i64::from(imm9), rt)", "StG", "stores"),
-    ("tags(regs, opc, rn, granules_on(mode, i64::from(imm9)), rt)",
-     "tags(regs, 0, rn, granules_on(mode, i64::from(imm9)), rt)", "StG", "stores"),
-    ("tags(regs, opc, rn, granules_on(mode, i64::from(imm9)), rt)",
-     "tags(regs, opc, rn, granules_on(mode, i64::from(imm9)), rn)", "StG", "stores"),
-    ("stores   tags(regs, opc, rn, granules_on(mode, i64::from(imm9)), rt)", "stores   nothing",
-     "StG", "stores"),
-    ("text     pc\n    stores   nothing", "text     pc\n    stores   one(regs, rt, 0, 3, rt)",
-     "LdLit", "stores"),
-    ("scaled_offset(imm12, size), size, rt)", "scaled_offset(imm12, size), rt)", "LdStImm",
-     "stores"),
-    ("one(regs, rn, 0, size, rt)", "once(regs, rn, 0, size, rt)", "LdStPost", "stores"),
-    ("one(regs, rn, 0, size, rt)", "one(regs, rd, 0, size, rt)", "LdStPost", "stores"),
+    # accesses: an offset, a size, a register, a mode, a field, another function, none, one too few.
+    ("Offset(scaled_offset(imm12, size))", "Offset(scaled_offset(imm12, 3))", "LdStImm",
+     "accesses"),
+    ("single(size, opc, rn, rt, PostIndexed)", "single(3, opc, rn, rt, PostIndexed)", "LdStPost",
+     "accesses"),
+    ("single(size, opc, rn, rt, PostIndexed)", "single(size, opc, rn, rt, Offset(8))", "LdStPost",
+     "accesses"),
+    ("single(size, opc, rn, rt, PostIndexed)", "single(size, 1, rn, rt, PostIndexed)", "LdStPost",
+     "accesses"),
+    ("single(size, opc, rn, rt, PreIndexed", "single(size, opc, rn, rt, Offset", "LdStPre",
+     "accesses"),
+    ("single(size, opc, rn, rt, register_offset(rm, option, s))",
+     "single(size, opc, rn, rm, register_offset(rm, option, s))", "LdStReg", "accesses"),
+    ("register_offset(rm, option, s)", "register_offset(rm, option, 0)", "LdStReg", "accesses"),
+    ("register_offset(rm, option, s)", "register_offset(rm, 3, s)", "LdStReg", "accesses"),
+    ("literal(opc, imm19, rt)", "literal(1, imm19, rt)", "LdLit", "accesses"),
+    ("literal(opc, imm19, rt)", "single(3, 1, rt, rt, Offset(0))", "LdLit", "accesses"),
+    ("pair(opc, l, rn, rt, rt2, PostIndexed)", "pair(opc, 1, rn, rt, rt2, PostIndexed)",
+     "PairPost", "accesses"),
+    ("pair(opc, l, rn, rt, rt2, Offset", "pair(opc, l, rn, rt2, rt, Offset", "PairOff",
+     "accesses"),
+    ("rt2, PreIndexed(pair_offset(opc, imm7))", "rt2, PreIndexed(pair_offset(0, imm7))", "PairPre",
+     "accesses"),
+    ("tag_mode(2, i32::from(imm9))", "tag_mode(1, i32::from(imm9))", "Ldg", "accesses"),
+    ("store_tags(opc, rn, rt, tag_mode(mode, i32::from(imm9)))",
+     "store_tags(opc, rn, rt, tag_mode(2, i32::from(imm9)))", "StG", "accesses"),
+    ("store_tags(opc, rn, rt, tag", "store_tags(0, rn, rt, tag", "StG", "accesses"),
+    ("store_tags(opc, rn, rt, tag", "store_tags(opc, rn, rn, tag", "StG", "accesses"),
+    ("store_tags(opc, rn, rt, tag", "load_tag(rn, rt, tag", "StG", "accesses"),
+    ("tagged_pair(rn, rt, rt2, tag_mode(mode", "pair(2, 0, rn, rt, rt2, tag_mode(mode", "StGP",
+     "accesses"),
+    ("tagged_pair(rn, rt, rt2", "tagged_pair(rn, rt2, rt", "StGP", "accesses"),
+    ("Offset(scaled_offset(imm12, size))", "Offset(scaled_offset(imm12))", "LdStImm", "accesses"),
+    ("single(size, opc, rn, rt, PostIndexed)", "singly(size, opc, rn, rt, PostIndexed)",
+     "LdStPost", "accesses"),
+    ("single(size, opc, rn, rt, PostIndexed)", "single(size, opc, rd, rt, PostIndexed)",
+     "LdStPost", "accesses"),
+    ("    example  9ADF", "    accesses load_tag(rn, rd, PostIndexed)\n    example  9ADF", "SubP",
+     "accesses"),
     # writes: another field, another number, another constant, one that writes nothing, none.
     ("writes   rt", "writes   rn", "Ldg", "writes"),
     ("    writes   rt\n", "", "Ldg", "writes"),
@@ -459,7 +471,7 @@ WRONG_MEANINGS = [
 
 @pytest.mark.parametrize(("old", "new", "row", "key"), WRONG_MEANINGS)
 def test_wrong_meanings_are_told(isa: AlteredIsa, old: str, new: str, row: str, key: str) -> None:
-    """A row that stores, writes or is called something else than the definition is told, with its
+    """A row that accesses, writes or is called something else than the definition is told, with its
     line, and no other is."""
     isa.change(ROWS, old, new)
     found = isa.findings()

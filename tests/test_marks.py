@@ -59,10 +59,10 @@ def tool() -> list[str]:
 
 def test_one_text() -> None:
     """The lines that the tool writes over are those of the crate."""
-    source = (ROOT / "crates/build_info/src/lib.rt").read_text(encoding="utf-8")
+    source = (ROOT / "crates/common/src/build_info.rt").read_text(encoding="utf-8")
     text = mark.text_of({}).decode()
     assert f'const TEXT: &str = "{text}";' in source
-    for path in ("crates/build_info/src/lib.rt", "crates/tombolopan_c/src/build_calls.rt"):
+    for path in ("crates/common/src/build_info.rt", "crates/tombolopan_c/src/build_calls.rt"):
         contract = (ROOT / path).read_text(encoding="utf-8")
         assert f"ensures length {{ result ≡ {len(text)} }}" in contract
 

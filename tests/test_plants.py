@@ -15,7 +15,7 @@ PLANTS = read_plants(FILES, "")
 
 
 # The crates whose numbers and structures are those of a library.
-BELOW = {"tombolopan_c": ("call_reports",)}
+BELOW = {"tombolopan_c": ("c_reports",)}
 
 
 @pytest.mark.parametrize("plant", PLANTS, ids=[plant.name for plant in PLANTS])

@@ -159,7 +159,7 @@ def test_words() -> None:
 def test_version() -> None:
     """One file has the version; programs say it, and the page of changes begins with it."""
     assert re.fullmatch(r"\d+\.\d+", VERSION)
-    source = (ROOT / "crates/build_info/src/lib.rt").read_text(encoding="utf-8")
+    source = (ROOT / "crates/common/src/build_info.rt").read_text(encoding="utf-8")
     assert f'const TEXT: &str = "{VERSION}\n' in source
     for name in ("mte_run", "mte_split"):
         told = run([program(name), "--version"])

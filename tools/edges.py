@@ -14,7 +14,10 @@ import sys
 
 ROOT = pathlib.Path(__file__).resolve().parent.parent
 # Edges that no file names, by why they are there.
-KNOWN: dict[tuple[str, str], str] = {}
+KNOWN: dict[tuple[str, str], str] = {
+    ("run_request", "mte_flat"): "its contracts name the memory of a tenant that is alone",
+    ("heap_page", "mte_tags"): "it reads the tag of the registers' generator",
+}
 
 
 def read_crates(text: str) -> dict[str, list[str]]:

@@ -1,6 +1,5 @@
 """Tools of the system that a test needs."""
 
-import os
 import shutil
 
 import pytest
@@ -10,17 +9,15 @@ from tests.support.running import succeed
 
 
 def need(*names: str) -> None:
-    """Skips the test where a tool is missing; where CI=true, fails it."""
+    """Skips the test where a tool is missing, with its name."""
     missing = [name for name in names if shutil.which(name) is None]
     if missing:
         give_up(f"missing: {' '.join(missing)} (tests/packages.txt has the Debian packages)")
 
 
 def give_up(why: str) -> None:
-    """Says why a test cannot run here: a failure in CI, and a skip elsewhere. It may be asked while
-    pytest collects the cases of a file, which are skipped together."""
-    if os.environ.get("CI") == "true":
-        pytest.fail(why)
+    """Skips a test that cannot run here, and says why. It may be asked while pytest collects the
+    cases of a file, which are skipped together."""
     pytest.skip(why, allow_module_level=True)
 
 

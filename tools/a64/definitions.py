@@ -1,7 +1,7 @@
 """Reads the definitions by hand (specs/*.antt) and evaluates them on numbers.
 
 What has no definition in the files that are read is an unknown value. Accesses to memory don't
-fault; what they leave is given as a term that names it.
+fault; what they leave is given as a term that names it, and each address has a byte and a tag.
 """
 
 import functools
@@ -33,8 +33,7 @@ class DefinitionError(Exception):
 
 @dataclass(frozen=True)
 class Unknown:
-    """A value that isn't worked out; `loaded` says that it comes from memory."""
-    loaded: bool = False
+    """A value that isn't worked out."""
 
 
 @dataclass(frozen=True)
@@ -216,9 +215,8 @@ def little_endian_number(values: Sequence[Value]) -> Value:
 
 def combine(call: Callable[..., Value], *values: Value) -> Value:
     """The value of a function of known values, else an unknown one."""
-    unknown = [value for value in values if isinstance(value, Unknown)]
-    if unknown:
-        return Unknown(any(value.loaded for value in unknown))
+    if any(isinstance(value, Unknown) for value in values):
+        return Unknown()
     return call(*values)
 
 
@@ -238,6 +236,16 @@ def term(name: str, arity: int) -> Function:
 def lift(arity: int, call: Callable[..., Value]) -> Function:
     """A function of known values."""
     return Function(arity, functools.partial(combine, call))
+
+
+def byte_read(address: int) -> int:
+    """The byte that a load finds at an address."""
+    return address * 0x9E37_79B9 >> 13 & 255
+
+
+def tag_read(address: int) -> int:
+    """The tag of the granule that holds a plain address."""
+    return byte_read(address >> 4) & 15
 
 
 NOTHING = ("None",)
@@ -266,13 +274,14 @@ GIVEN: Environment = {
                               else little_endian_number(values)),
     "sum_through": Function(2, lambda call, last: combine(
         lambda *each: sum(each), *(apply(call, [k]) for k in range(last + 1)))),
-    # Memory: no access faults, what is read is unknown, and what is written is named.
+    # Memory: no access faults, what is read depends on the address, and what is written is named.
     "read_fault": Function(4, no_fault), "write_fault": Function(4, no_fault),
     "tags_fault": Function(3, no_fault), "tag_load_fault": Function(2, no_fault),
     "or_else": Function(2, lambda one, other: other if one == NOTHING else one),
-    "read_bytes": Function(3, lambda *_: Unknown(loaded=True)),
-    "tag_at": Function(2, lambda *_: 5), "tag_result": Function(2, lambda fault, tag: ("Ok", tag)),
-    "after_read": Function(4, lambda memory, *_: memory), "after_write": term("after_write", 4),
+    "read_bytes": lift(3, lambda _, at, count: [byte_read(at + k) for k in range(count)]),
+    "tag_at": lift(2, lambda _, at: tag_read(at)),
+    "tag_result": Function(2, lambda fault, tag: ("Ok", tag)),
+    "after_read": term("after_read", 4), "after_write": term("after_write", 4),
     "with_granules": term("with_granules", 5), "with_bytes_at": term("with_bytes_at", 3),
 }
 

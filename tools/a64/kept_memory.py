@@ -24,8 +24,8 @@ unfolding accessed step_of_instr
 
 def line(row: Row) -> str:
     """The proof of a row: one that reaches no memory leaves it by definition, and each other row,
-    whose line `stores` says what it stores, has an access."""
-    proof = "cc" if "stores" in row.said else "refl"
+    which has a line `accesses`, makes an access."""
+    proof = "cc" if "accesses" in row.said else "refl"
     return f"memory_kept {applied(row)} r m e = {proof}\n"
 
 

@@ -1,110 +1,32 @@
-"""Compares what each row says that it stores, writes and is called with the definitions by hand.
+"""Compares what each row says that it accesses, writes and is called with the definitions by hand.
 
 `step_of_instr` (Steps.antt and what it names) is evaluated for drawn fields and registers. What it
-leaves in memory must be what `stores` gives, by the functions that the line calls
-(crates/instruction_trace/src/stored.rt and crates/heap_bounds), and the registers that it writes,
-but what it loads and the base of an access, must be what `writes` gives. The comment of the
-definition has the mnemonics of `names`, and its target the addressing mode.
+leaves in memory and in the registers that it loads must be what `accesses` gives, by the functions
+that the line calls (crates/a64_access/src/form.rt), and the other registers that it writes, but
+the base of an access, must be what `writes` gives. The comment of the definition has the mnemonics
+of `names`, and its target the addressing mode.
 """
 
-import ast
 import random
 import re
-from collections.abc import Callable, Iterator
-from typing import Any, Optional
+from collections.abc import Iterator
+from typing import Optional
 
+from a64.access_form import (
+    BEFORE, Access, Fields, Regs, Term, evaluate_call, memory_after, moved_base, registers_loaded,
+)
+from a64.accesses import access_call, split_writes
 from a64.compare import STEPS, equations
 from a64.definitions import (
     Definition, DefinitionError, Definitions, Function, Registers, Unknown, apply,
     read_definitions,
 )
-from a64.stores import split_stores, split_writes
 from a64.table import Field, Row, Rows, TableError
 
 SAMPLES = 16  # of each row
-PLAIN = (1 << 56) - 1  # the bits of a plain address
-WORD64 = (1 << 64) - 1
 
 # What the evaluation of a definition raises that takes values of other types than it is given.
 MISTYPED = (TypeError, KeyError, IndexError, ValueError, OverflowError, RecursionError)
-
-Fields = dict[str, int]
-Regs = dict[str, Any]  # the record Regs of the definitions
-Stored = Optional[tuple[Any, ...]]  # what is stored: bytes or tags, the address, and them
-
-
-# ---- what the line `stores` calls, as crates/instruction_trace/src/stored.rt has it
-
-
-class Calls:
-    """The functions that the line may call."""
-
-    def __init__(self, regs: Regs) -> None:
-        self.regs = regs
-
-    def base(self, n: int) -> int:
-        return int(self.regs["sp"] if n == 31 else self.regs["x"][n])
-
-    def zero_or(self, n: int) -> int:
-        return 0 if n == 31 else int(self.regs["x"][n])
-
-    def one(self, _: Regs, rn: int, offset: int, size: int, rt: int) -> Stored:
-        return "bytes", (self.base(rn) + offset) & WORD64, to_bytes(self.zero_or(rt), 1 << size)
-
-    def two(self, _: Regs, opc: int, rn: int, imm7: int, rt: int, rt2: int) -> Stored:
-        size = 8 if opc >= 2 else 4
-        both = [byte for n in (rt, rt2) for byte in to_bytes(self.zero_or(n), size)]
-        return "bytes", (self.base(rn) + imm7 * size) & WORD64, both
-
-    def tags(self, _: Regs, opc: int, rn: int, granules: int, rt: int) -> Stored:
-        address = (self.base(rn) + 16 * granules) & PLAIN
-        return "tags", address, 2 if opc >= 2 else 1, self.base(rt) >> 56 & 15
-
-    def granules_on(self, mode: int, offset: int) -> int:
-        return 0 if mode == 1 else offset
-
-    def scaled_offset(self, imm12: int, size: int) -> int:
-        return imm12 << size
-
-    def signed_offset(self, offset: int) -> int:
-        return offset
-
-    def register_offset(self, _: Regs, rm: int, option: int, s: int, size: int) -> int:
-        low = self.zero_or(rm) & 0xFFFF_FFFF
-        signed = low - (low >> 31 << 32)
-        return {2: low, 6: signed}.get(option, self.zero_or(rm)) << (size if s else 0)
-
-
-def to_bytes(value: int, count: int) -> list[int]:
-    return [value >> 8 * k & 255 for k in range(count)]
-
-
-def evaluate_call(text: str, fields: Fields, regs: Regs) -> Any:
-    """The value of a call, written in Rust, for those fields and registers."""
-    tree = ast.parse(re.sub(r"\bi64::from\(", "(", text), mode="eval").body
-    return evaluate_tree(tree, {**fields, "regs": regs}, Calls(regs))
-
-
-def evaluate_tree(tree: ast.expr, names: dict[str, Any], calls: Calls) -> Any:
-    if isinstance(tree, ast.Constant):
-        return tree.value
-    if isinstance(tree, ast.Name):
-        if tree.id not in names:
-            raise DefinitionError(f"there is no field {tree.id}")
-        return names[tree.id]
-    if not isinstance(tree, ast.Call):
-        raise DefinitionError(f"`{ast.unparse(tree)}` is neither a field, a number nor a call")
-    values = [evaluate_tree(each, names, calls) for each in tree.args]
-    if isinstance(tree.func, ast.Attribute) and tree.func.attr == "wrapping_mul":
-        return evaluate_tree(tree.func.value, names, calls) * values[0]
-    name = tree.func.id if isinstance(tree.func, ast.Name) else ""
-    function: Optional[Callable[..., Any]] = getattr(calls, name, None)
-    if function is None or name.startswith("_"):
-        raise DefinitionError(f"`{ast.unparse(tree.func)}` is no function of stored.rt")
-    try:
-        return function(*values)
-    except TypeError as error:
-        raise DefinitionError(str(error).partition(".")[2]) from error
 
 
 # ---- what is drawn
@@ -137,10 +59,9 @@ def draw_fields(source: random.Random, row: Row, given: Fields) -> Fields:
 
 
 def samples(row: Row) -> Iterator[tuple[Fields, Regs]]:
-    """Fields and registers: in half of them the constants of `stores` and `writes` hold."""
+    """Fields and registers: in half of them the constants of `writes` hold."""
     source = random.Random(row.name)
-    given = {name: int(value) for constants, _ in (split_stores(row), split_writes(row))
-             for name, value in constants.items()}
+    given = {name: int(value) for name, value in split_writes(row)[0].items()}
     for number in range(SAMPLES):
         yield draw_fields(source, row, given if number % 2 else {}), draw_registers(source)
 
@@ -148,53 +69,47 @@ def samples(row: Row) -> Iterator[tuple[Fields, Regs]]:
 # ---- what the definitions leave
 
 
-def find_stored(memory: Any) -> Stored:
-    """What a memory has that the first one had not."""
-    kind, *parts = memory
-    if kind == "memory":
-        return None
-    if kind == "with_granules":
-        return "tags", parts[1], parts[2], parts[3]
-    return "bytes", parts[1], parts[2]
-
-
 def are_given(constants: dict[str, str], fields: Fields) -> bool:
     return all(fields[name] == int(value) for name, value in constants.items())
 
 
-def compare_stores(row: Row, fields: Fields, regs: Regs, memory: Any) -> Optional[str]:
-    """How what the row says that it stores isn't what the definition leaves."""
-    constants, call = split_stores(row)
-    try:
-        said = evaluate_call(call, fields, regs) if call and are_given(constants, fields) else None
-    except (DefinitionError, SyntaxError, *MISTYPED) as error:
-        return f"`{call}`: {error}"
-    found = find_stored(memory)
-    if said == found:
-        return None
-    return f"it says {describe_stored(said)}, and step_of_instr {describe_stored(found)}"
+def compare_accesses(access: Optional[Access], regs: Regs, left: Regs) -> Optional[str]:
+    """How what a form leaves in memory and in what it loads isn't what the definition leaves."""
+    said, found = memory_after(access, regs), left["memory"]
+    if said != found:
+        return f"it says {describe_memory(said)}, and step_of_instr {describe_memory(found)}"
+    written, loaded = left["regs"]["x"].written, registers_loaded(access, regs)
+    for n, value in loaded.items():
+        if written.get(n) != value:
+            return f"it says that x{n} becomes {value:#x}, and step_of_instr {written.get(n)}"
+    base = access.base if access and access.base not in loaded else 31
+    if (base in written) != (base in moved_base(access)):
+        return f"step_of_instr {'moves' if base in written else 'does not move'} the base"
+    return None
 
 
-def describe_stored(stored: Stored) -> str:
-    """What is stored, in a few words."""
-    if stored is None:
-        return "that nothing is stored"
-    what = f"the bytes {bytes(stored[2]).hex()}" if stored[0] == "bytes" else \
-        f"{stored[2]} tags {stored[3]:#x}"
-    return f"{what} at {stored[1]:#x}"
+def describe_memory(memory: Term) -> str:
+    """What was done to a memory, in a few words."""
+    if memory == BEFORE:
+        return "that nothing is accessed"
+    kind, inner, address, *parts = memory
+    if kind == "with_granules":
+        zeros = " with zeros" if parts[2] else ""
+        return f"{parts[0]} tags {parts[1]:#x}{zeros} at {address:#x}"
+    what = f"{parts[0]} bytes loaded" if kind == "after_read" else f"bytes {bytes(parts[0]).hex()}"
+    tags = f"{describe_memory(inner)}, " if inner != BEFORE else ""
+    checked = ", where tags are compared" if len(parts) > 1 and parts[1] else ""
+    return f"{tags}{what} at {address:#x}{checked}"
 
 
-def compare_writes(row: Row, fields: Fields, written: dict[int, Any]) -> Optional[str]:
+def compare_writes(row: Row, fields: Fields, written: set[int]) -> Optional[str]:
     """How the registers that the row says that it writes aren't those that the definition does."""
     constants, register = split_writes(row)
     number = int(register) if register.isdigit() else fields.get(register, 31)
     said = {number} - {31} if are_given(constants, fields) else set()
-    loaded = {n for n, value in written.items() if isinstance(value, Unknown) and value.loaded}
-    has_base = "memory" in row.split("step") and "rn" in fields
-    found = set(written) - loaded - ({fields["rn"]} - said if has_base else set())
-    if said == found:
+    if said == written:
         return None
-    return f"it says {register_names(said)}, and step_of_instr writes {register_names(found)}"
+    return f"it says {register_names(said)}, and step_of_instr writes {register_names(written)}"
 
 
 def register_names(registers: set[int]) -> str:
@@ -202,20 +117,37 @@ def register_names(registers: set[int]) -> str:
 
 
 def row_differences(row: Row, step: Function) -> Iterator[TableError]:
-    """The first difference of each kind."""
+    """The first difference of each kind; of a row with a wrong access that alone."""
     found: dict[str, TableError] = {}
     for fields, regs in samples(row):
         instr = (row.name, *(fields[f.name] for f in row.fields))
-        left = apply(step, [instr, regs, ("memory",)])
+        left = apply(step, [instr, regs, BEFORE])
         if isinstance(left, Unknown) or isinstance(left["regs"], Unknown):
             raise DefinitionError("what it leaves depends on what isn't read")
-        said = {"stores": compare_stores(row, fields, regs, left["memory"]),
-                "writes": compare_writes(row, fields, left["regs"]["x"].written)}
         values = " ".join(f"{name}={value}" for name, value in fields.items())
-        for key, text in said.items():
+        for key, text in sample_differences(row, fields, regs, left):
             if text and key not in found:
                 found[key] = row.error(f"{text}, where {values or 'it is'}", key)
+    if "accesses" in found:
+        found.pop("writes", None)
     yield from found.values()
+
+
+def sample_differences(row: Row, fields: Fields, regs: Regs,
+                       left: Regs) -> Iterator[tuple[str, Optional[str]]]:
+    """What is wrong with each line, for such fields and registers."""
+    call = access_call(row)
+    try:
+        access = evaluate_call(call, fields) if call else None
+        yield "accesses", compare_accesses(access, regs, left)
+    except (DefinitionError, SyntaxError, *MISTYPED) as error:
+        yield "accesses", f"`{call}`: {error}"
+        return
+    # A load of a tag gives it to the register that `writes` names.
+    is_load = access is not None and access.kind == "Load"
+    loaded = set(registers_loaded(access, regs)) if is_load else set()
+    written = set(left["regs"]["x"].written) - loaded - moved_base(access)
+    yield "writes", compare_writes(row, fields, written)
 
 
 # ---- names

@@ -4,7 +4,7 @@ from collections.abc import Mapping
 from typing import Optional
 
 from a64 import table
-from a64.stores import split_stores
+from a64.accesses import STORES, access_call
 from a64.table import FieldTest, Form, Row, Rows
 
 PATH = "docs/project/INSTRUCTIONS.md"
@@ -76,10 +76,10 @@ def sentences(row: Row, forms: list[Form]) -> str:
     said = [f"Example: `{word}` is `{text}`."]
     if row.allows:
         said.append("Allowed where " + "; ".join(test_words(test) for test in row.allows) + ".")
-    constants, call = split_stores(row)
-    if call:
-        when = " and ".join(f"`{name}` is {value}" for name, value in constants.items())
-        said.append(f"Stores where {when}." if when else "Always stores.")
+    function = access_call(row).partition("(")[0]
+    if function in STORES:
+        field = STORES[function]
+        said.append(f"Stores where `{field}` is 0." if field else "Always stores.")
     own = [f"`{form.name}`" for form in forms if form.row == row.name]
     if own:
         said.append(f"Forms: {', '.join(own)}.")

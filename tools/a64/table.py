@@ -18,7 +18,7 @@ TESTS = {"below": 2, "equal": 2, "differ": 2, "mask": 2, "load_store": 2, "load_
 # The values that two of these tests allow.
 ONE_OF = {"two_source": (2, 3, 8, 9, 10, 11), "offset_register": (2, 3, 6, 7)}
 
-KEYS = {"names", "allows", "part", "step", "copies", "text", "stores", "writes", "overlaps",
+KEYS = {"names", "allows", "part", "step", "copies", "text", "accesses", "writes", "overlaps",
         "example"}
 
 # The most bits of a field, by whether it is signed: of a larger one there is no type.
@@ -346,8 +346,8 @@ def check_row(row: Row, rows: Rows) -> None:
         check_taken(row, key)
     for token in row.said.get("copies", "").replace(";", " ").split():
         row.constant(token, "copies")
-    if "memory" in row.split("step") and "stores" not in row.said:
-        raise row.error("it takes memory and doesn't say what it stores")
+    if "memory" in row.split("step") and "accesses" not in row.said:
+        raise row.error("it takes memory and doesn't say how it accesses it")
     digits = row.split("example")[0]
     if not re.fullmatch(r"[0-9A-F]{8}", digits):
         raise row.error(f"`{digits}` is no word of eight hexadecimal digits", "example")

@@ -12,8 +12,7 @@ from .tables import SOURCE, Tables, read
 CRATE = "crates/tombolopan_c/src"
 # All sources that declare what crosses the border.
 FOLDERS = (
-    CRATE, "crates/call_reports/src", "crates/fuzz_handle/src", "crates/machine_acts/src",
-    "crates/traced_run/src",
+    CRATE, "crates/c_reports/src", "crates/tenant_snapshot/src", "crates/traced_run/src",
 )
 Read = Callable[[str], str]
 Names = tuple[tuple[str, str], ...]  # of a language, each with the name of C
@@ -139,12 +138,12 @@ def padding(crate: Border) -> Iterator[str]:
 
 def code_numbers(read_file: Read, tables: Tables) -> Iterator[str]:
     """What differs between the tables and the constants of the crates."""
-    listed = {"crates/call_reports/src/codes.rt": {**tables.unnamed}}
+    listed = {"crates/c_reports/src/codes.rt": {**tables.unnamed}}
     for it in tables.enums:
         listed.setdefault(it.code, {}).update({at.name: at.number for at in it.entries})
     for path, wanted in listed.items():
         found = rusty.constants(read_file(path))
-        if not path.startswith((CRATE, "crates/call_reports/src")):
+        if not path.startswith((CRATE, "crates/c_reports/src/codes.rt")):
             found = {name: found.get(name, -1) for name in wanted}
         yield from same_numbers(path, wanted, found)
     if tables.unnamed["VERSION"] != tables.version:

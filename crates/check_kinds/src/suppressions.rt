@@ -1,7 +1,7 @@
 //! What is found and not told: lines of a kind, a function and a source file.
 
 use crate::kinds::CheckKind;
-use obstacle::Obstacle;
+use common::Obstacle;
 use std::alloc::{AllocError, Global};
 use std::fmt;
 

@@ -1,38 +1,32 @@
 //! The core file of a tenant's end.
 
-use crate::files::read_course;
-use elf_core::{CoreSubject, write_core};
+use debuggee::{CoreSubject, write_core};
 use mte_flat::Flat;
 use mte_tags::TagMode;
-use run_terms::{Failure, Options, Replay};
+use run_request::{Request, read_course};
+use run_terms::{Failure, Replay};
 use std::fs::File;
 use std::io;
 use std::io::BufWriter;
 
 /// Writes the core file of a tenant's end, where one is named.
 pub fn dump_core<'a>(
-    rt: &HostRuntime,
-    options: &'a Options,
+    request: &Request<'a, '_>,
     subject: &CoreSubject<'_>,
     memory: &mut Flat,
 ) -> Result<(), Failure<'a>> {
-    match &options.output.core {
-        Some(name) => dump(rt, name.as_str(), subject, memory),
+    match &request.options.output.core {
+        Some(name) => dump(request.rt, name.as_str(), subject, memory),
         None => Ok(()),
     }
 }
 
 /// The tag mode of a tenant of a session, where a core file is named that has it.
-pub fn mode_in<'a>(
-    rt: &HostRuntime,
-    options: &'a Options,
-    replay: &'a Replay,
-    files: &[Vec<u8>],
-) -> Result<TagMode, Failure<'a>> {
-    if options.output.core.is_none() {
+pub fn mode_in<'a>(request: &Request<'a, '_>, replay: &'a Replay) -> Result<TagMode, Failure<'a>> {
+    if request.options.output.core.is_none() {
         return Ok(TagMode::Sync);
     }
-    let course = read_course(rt, replay, files)?;
+    let course = read_course(request.rt, replay, request.files)?;
     Ok(
         course
             .admitted

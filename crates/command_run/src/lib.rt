@@ -3,12 +3,9 @@
 #![tactic(auto)]
 
 mod core_dump;
-mod debugging;
-mod files;
 mod lost;
 mod map;
 mod running;
 mod telling;
-mod unadmitted;
 
 pub use running::run_program;

@@ -1,7 +1,7 @@
 //! The chunks that nothing reaches at a tenant's end.
 
 use a64_bits::plain;
-use address_map::{IMAGE_END, PAGE_SIZE, STACK_END, STACK_START};
+use common::{IMAGE_END, PAGE_SIZE, STACK_END, STACK_START};
 use mte_flat::{Flat, MappedPage};
 use mte_svc::TenantParts;
 use mte_tags::Attrs;

@@ -1,5 +1,6 @@
 //! The picture of the heap, in a file.
 
+use common::Printable;
 use either::Either;
 use mte_flat::Flat;
 use mte_report::{PictureForm, Report};
@@ -7,7 +8,6 @@ use run_terms::{Failure, Options};
 use std::fs::File;
 use std::io::BufWriter;
 use std::{fmt, io};
-use terminal_text::Printable;
 
 /// The name for which the heap is written as text, on standard error.
 const TEXT: &str = "text";

@@ -1,22 +1,22 @@
 //! What is said of a tenant at its end.
 
 use crate::core_dump::dump_core;
-use crate::files::Image;
 use crate::lost::lost_chunks;
 use crate::map::draw_map;
-use address_map::GRANULE_SIZE;
 use check_kinds::Suppressions;
-use elf_core::CoreSubject;
+use common::GRANULE_SIZE;
+use debuggee::CoreSubject;
 use heap_bounds::{Allocation, made_by};
 use heap_page::HeapPage;
 use mte_backtrace::Names;
 use mte_flat::Flat;
 use mte_report::Report;
 use mte_svc::{AnsweredCall, HeapCalls, TenantParts};
-use mte_tags::{Paged, TagMode};
+use mte_tags::Paged;
 use mte_tenant::Status;
 use pointer_provenance::LostChunk;
 use report_documents::Document;
+use run_request::{Request, Run};
 use run_terms::{Exactness, Failure, FileFault, Options};
 use shadow_memory::Full;
 use std::alloc::{AllocError, Global};
@@ -25,45 +25,30 @@ use std::io;
 use std::io::{BufWriter, Write};
 use tenant_run::{LastLine, Observer, TenantBench, TenantEnding};
 
-/// What is said of a run beside its tenant.
-#[derive(Clone, Copy)]
-pub struct Run<'x> {
-    /// Its image.
-    pub image: Image<'x>,
-    /// What is not told of what is found.
-    pub suppressions: &'x Suppressions,
-    /// Its seed, where it ran alone.
-    pub seed: Option<u64>,
-    /// What a tag that differed did.
-    pub mode: TagMode,
-}
-
-/// Writes what happened, as the options request it, and returns the exit status.
+/// Writes what happened to a tenant, and returns the exit status.
 pub fn tell_end<'a>(
-    rt: &HostRuntime,
+    request: &Request<'a, '_>,
+    run: &Run<'_>,
     bench: TenantBench,
     observer: &mut Observer<'_>,
-    options: &'a Options,
-    run: &Run<'_>,
 ) -> Result<u8, Failure<'a>> {
-    end_watch(rt, observer, options)?;
+    end_watch(request, observer)?;
     let TenantBench {
         parts,
         mut memory,
         ..
     } = bench;
-    tell_parts(rt, &parts, &mut memory, observer, options, run)
+    tell_parts(request, run, &parts, &mut memory, observer)
 }
 
-/// Ends the lines of a trace, and says whether output was cut. A line or a chunk that is missing
-/// is a failure.
+/// Ends the lines of a trace, and says whether output was cut. A line or a chunk that is missing is
+/// a failure.
 fn end_watch<'a>(
-    rt: &HostRuntime,
+    request: &Request<'a, '_>,
     observer: &mut Observer<'_>,
-    options: &'a Options,
 ) -> Result<(), Failure<'a>> {
     if !observer.finish() {
-        return Err(unwritten_lines(options));
+        return Err(unwritten_lines(request.options));
     }
     if !observer.is_complete() {
         return Err(Failure::Memory);
@@ -72,9 +57,47 @@ fn end_watch<'a>(
         return Err(failure_of(full));
     }
     if observer.is_cut {
-        let _ = eprintln!(rt; "mte_run: output was cut: there was no more room (--out)");
+        let _ = eprintln!(request.rt; "mte_run: output was cut: there was no more room (--out)");
     }
     Ok(())
+}
+
+/// Writes what happened by a tenant's parts and its memory. It borrows them, so that none of its
+/// ends has to drop them.
+fn tell_parts<'a>(
+    request: &Request<'a, '_>,
+    run: &Run<'_>,
+    parts: &TenantParts,
+    memory: &mut Flat,
+    observer: &Observer<'_>,
+) -> Result<u8, Failure<'a>> {
+    let (alloc, options) = (request.rt.alloc(), request.options);
+    let subject = CoreSubject {
+        parts,
+        mode: run.mode,
+        name: run.image.name,
+    };
+    dump_core(request, &subject, memory)?;
+    let reserved = reserved_pages(alloc, options, memory)?;
+    let lost = lost_chunks(alloc, parts, observer, memory)?;
+    let is_named = !lost.is_empty() || is_told(parts, observer, options);
+    let names = Names::of(alloc, if is_named { run.image.bytes } else { &[] })?;
+    let report = Report {
+        parts,
+        book: &observer.book,
+        last: Some(observer.last()),
+        last_count: options.output.last_lines,
+        turns: observer.turns(),
+        limit: options.limit(),
+        names: &names,
+        image: run.image.name,
+        seed: run.seed,
+        finding: observer.finding(),
+        store: observer.store.as_ref(),
+        statistics: observer.table(reserved),
+        is_cut: observer.is_cut,
+    };
+    tell(request, &report, lost.as_slice(), memory)
 }
 
 /// The failure to note more of the tenant's pointers.
@@ -94,113 +117,35 @@ fn unwritten_lines(options: &Options) -> Failure<'_> {
     }
 }
 
-/// Writes what happened of a tenant's parts and its memory, and returns the exit status. It borrows
-/// them, so that none of its ends has to drop them.
-fn tell_parts<'a>(
-    rt: &HostRuntime,
-    parts: &TenantParts,
-    memory: &mut Flat,
-    observer: &Observer<'_>,
-    options: &'a Options,
-    run: &Run<'_>,
-) -> Result<u8, Failure<'a>> {
-    let subject = CoreSubject {
-        parts,
-        mode: run.mode,
-        name: run.image.name,
-    };
-    dump_core(rt, options, &subject, memory)?;
-    let numbers = Numbers {
-        reserved: reserved_pages(rt.alloc(), options, memory)?,
-        seed: run.seed,
-    };
-    let chunks = lost_chunks(rt.alloc(), parts, observer, memory)?;
-    let is_named = !chunks.is_empty() || is_told(parts, observer, options);
-    let names = Names::of(rt.alloc(), named_bytes(&run.image, is_named))?;
-    let report = report_of(parts, observer, options, &names, run.image.name, numbers);
-    let lost = LostChunks {
-        chunks: chunks.as_slice(),
-        suppressions: run.suppressions,
-    };
-    tell_found(rt, &report, options, &lost, memory)
-}
-
-/// The chunks that a tenant has lost.
-#[derive(Clone, Copy)]
-struct LostChunks<'x> {
-    chunks: &'x [LostChunk],
-    /// What is not told of them.
-    suppressions: &'x Suppressions,
-}
-
-/// Writes which chunks are lost, and what the options request. It borrows what it writes, so that
-/// none of its ends has to drop that.
-fn tell_found<'a>(
-    rt: &HostRuntime,
+/// Writes which chunks are lost, and what the options request, and returns the exit status.
+fn tell<'a>(
+    request: &Request<'a, '_>,
     report: &Report<'_>,
-    options: &'a Options,
-    lost: &LostChunks<'_>,
+    lost: &[LostChunk],
     memory: &mut Flat,
 ) -> Result<u8, Failure<'a>> {
-    let has_lost = tell_lost(rt, report, lost.chunks, lost.suppressions)?;
-    tell_run(rt, report, options, has_lost, memory)
-}
-
-/// The bytes of an image that has names, or none where none is written.
-fn named_bytes<'x>(image: &Image<'x>, is_told: bool) -> &'x [u8] {
-    if is_told { image.bytes } else { &[] }
-}
-
-/// Numbers of a run.
-#[derive(Clone, Copy)]
-struct Numbers {
-    /// The reservation in pages, where it is written.
-    reserved: u64,
-    /// The seed, where it ran alone.
-    seed: Option<u64>,
-}
-
-/// The report of a tenant's parts, by what is remembered of it, under the name of its image's file.
-fn report_of<'x, 'n, 'o>(
-    parts: &'x TenantParts,
-    observer: &'x Observer<'o>,
-    options: &Options,
-    names: &'x Names<'n>,
-    image: &'x str,
-    numbers: Numbers,
-) -> Report<'x> {
-    Report {
-        parts,
-        book: &observer.book,
-        last: Some(observer.last()),
-        last_count: options.output.last_lines,
-        turns: observer.turns(),
-        limit: options.limit(),
-        names,
-        image,
-        seed: numbers.seed,
-        finding: observer.finding(),
-        store: observer.store.as_ref(),
-        statistics: observer.table(numbers.reserved),
-        is_cut: observer.is_cut,
-    }
-}
-
-/// Writes what the options request of a run, and returns the exit status.
-fn tell_run<'a>(
-    rt: &HostRuntime,
-    report: &Report<'_>,
-    options: &'a Options,
-    has_lost: bool,
-    memory: &mut Flat,
-) -> Result<u8, Failure<'a>> {
+    let (rt, options) = (request.rt, request.options);
+    let has_lost = tell_lost(rt, report, lost, request.suppressions)?;
+    tell_report(rt, report, memory)?;
+    tell_leaks(rt, report, options)?;
+    tell_statistics(rt, report)?;
     let ending = ending_of(report, options);
     let status = status_of(report, options, ending, has_lost);
-    tell_all(rt, report, options, memory)?;
     write_files(rt, report, options, status, memory)?;
     tell_unseen(rt, report, options);
     tell_last_line(rt, report, ending, status);
     Ok(status)
+}
+
+/// How the tenant ended.
+fn ending_of(report: &Report<'_>, options: &Options) -> TenantEnding {
+    if report.finding.is_some() {
+        return TenantEnding::Exact;
+    }
+    match TenantEnding::of(&report.parts.history, report.limit) {
+        TenantEnding::Exit if report.is_cut && options.output.is_whole => TenantEnding::Cut,
+        ending => ending,
+    }
 }
 
 /// The exit status: the one that an option names for what was found, or for lost chunks, else that
@@ -230,16 +175,52 @@ fn is_told(parts: &TenantParts, observer: &Observer<'_>, options: &Options) -> b
         || output.page.is_some()
 }
 
-/// Writes what the options request, on standard error.
-fn tell_all(
+/// Writes the chunks that nothing reaches, on standard error, but for those that are suppressed.
+/// Whether there are any.
+fn tell_lost(
     rt: &HostRuntime,
     report: &Report<'_>,
-    options: &Options,
-    memory: &mut Flat,
-) -> io::Result<()> {
-    tell_report(rt, report, memory)?;
-    tell_leaks(rt, report, options)?;
-    tell_statistics(rt, report)
+    lost: &[LostChunk],
+    suppressions: &Suppressions,
+) -> io::Result<bool> {
+    let told = report.told_lost(rt.alloc(), lost, suppressions)?;
+    if told.is_empty() {
+        return Ok(false);
+    }
+    write_lost(rt, report, told.as_slice())?;
+    Ok(true)
+}
+
+/// Writes chunks that nothing reaches, on standard error.
+fn write_lost(rt: &HostRuntime, report: &Report<'_>, lost: &[LostChunk]) -> io::Result<()> {
+    let mut out = BufWriter::new(rt.alloc(), rt.stderr())?;
+    write!(out, "mte_run: ")?;
+    report.write_lost(rt.alloc(), &mut out, lost)
+}
+
+/// Writes what happened, on standard error, unless the tenant exited.
+fn tell_report(rt: &HostRuntime, report: &Report<'_>, memory: &mut Flat) -> io::Result<()> {
+    let log = &report.parts.history;
+    if report.finding.is_none() && matches!(log.status, Status::Exited(_)) {
+        return Ok(());
+    }
+    let mut out = BufWriter::new(rt.alloc(), rt.stderr())?;
+    report.write(rt.alloc(), &mut out, memory)
+}
+
+/// Writes the live chunks, on standard error, where that is requested.
+fn tell_leaks(rt: &HostRuntime, report: &Report<'_>, options: &Options) -> io::Result<()> {
+    if !options.output.leaks {
+        return Ok(());
+    }
+    let mut out = BufWriter::new(rt.alloc(), rt.stderr())?;
+    report.write_leaks(rt.alloc(), &mut out)
+}
+
+/// Writes the numbers of the run, on standard error, where they are requested.
+fn tell_statistics(rt: &HostRuntime, report: &Report<'_>) -> io::Result<()> {
+    let mut out = BufWriter::new(rt.alloc(), rt.stderr())?;
+    report.write_statistics(&mut out)
 }
 
 /// Writes the files that the options name.
@@ -269,79 +250,6 @@ fn write_files<'a>(
         }
     }
     draw_map(rt, report, options, memory)
-}
-
-/// How the tenant ended.
-fn ending_of(report: &Report<'_>, options: &Options) -> TenantEnding {
-    if report.finding.is_some() {
-        return TenantEnding::Exact;
-    }
-    match TenantEnding::of(&report.parts.history, report.limit) {
-        TenantEnding::Exit if report.is_cut && options.output.is_whole => TenantEnding::Cut,
-        ending => ending,
-    }
-}
-
-/// Writes what no tag finds, on standard error, of a tenant that exited and had chunks whose last
-/// granule has bytes past their size.
-fn tell_unseen(rt: &HostRuntime, report: &Report<'_>, options: &Options) {
-    let log = &report.parts.history;
-    let is_exit = matches!(log.status, Status::Exited(_));
-    let is_unseen = options.output.exact == Exactness::Tags && !options.output.check.provenance;
-    if is_exit && is_unseen && may_have_spare_bytes(&log.calls) {
-        let _ = eprintln!(rt;
-            "mte_run: no tag differed; a tag is that of 16 bytes, so up to 15 bytes past a chunk's \
-             size are compared by --exact alone"
-        );
-    }
-}
-
-/// Writes what happened, on standard error, unless the tenant exited.
-fn tell_report(rt: &HostRuntime, report: &Report<'_>, memory: &mut Flat) -> io::Result<()> {
-    let log = &report.parts.history;
-    if report.finding.is_none() && matches!(log.status, Status::Exited(_)) {
-        return Ok(());
-    }
-    let mut out = BufWriter::new(rt.alloc(), rt.stderr())?;
-    report.write(rt.alloc(), &mut out, memory)
-}
-
-/// Writes the live chunks, on standard error, where that is wanted.
-fn tell_leaks(rt: &HostRuntime, report: &Report<'_>, options: &Options) -> io::Result<()> {
-    if !options.output.leaks {
-        return Ok(());
-    }
-    let mut out = BufWriter::new(rt.alloc(), rt.stderr())?;
-    report.write_leaks(rt.alloc(), &mut out)
-}
-
-/// Writes the chunks that nothing reaches, on standard error, without those that are not told.
-/// Whether there are any.
-fn tell_lost(
-    rt: &HostRuntime,
-    report: &Report<'_>,
-    lost: &[LostChunk],
-    suppressions: &Suppressions,
-) -> io::Result<bool> {
-    let told = report.told_lost(rt.alloc(), lost, suppressions)?;
-    if told.is_empty() {
-        return Ok(false);
-    }
-    write_lost(rt, report, told.as_slice())?;
-    Ok(true)
-}
-
-/// Writes chunks that nothing reaches, on standard error.
-fn write_lost(rt: &HostRuntime, report: &Report<'_>, lost: &[LostChunk]) -> io::Result<()> {
-    let mut out = BufWriter::new(rt.alloc(), rt.stderr())?;
-    write!(out, "mte_run: ")?;
-    report.write_lost(rt.alloc(), &mut out, lost)
-}
-
-/// Writes the numbers of the run, on standard error, where they are wanted.
-fn tell_statistics(rt: &HostRuntime, report: &Report<'_>) -> io::Result<()> {
-    let mut out = BufWriter::new(rt.alloc(), rt.stderr())?;
-    report.write_statistics(&mut out)
 }
 
 /// The reservation in pages, those that are mapped and those that are left, where it is written.
@@ -376,7 +284,33 @@ fn write_document(
     match form {
         DocumentForm::Json => document.write_json(&mut out, memory),
         DocumentForm::Sarif => document.write_sarif(&mut out, memory),
-        DocumentForm::Page => HeapPage(document).write(&mut out, memory),
+        DocumentForm::Page => write_page(document, &mut out, memory),
+    }
+}
+
+/// Writes a page for browsers, with what is written for programs in it.
+fn write_page<W: Write>(document: &Document<'_>, out: &mut W, memory: &mut Flat) -> io::Result<()> {
+    let mut run = Vec::new(document.alloc);
+    document.write_json(&mut run, memory)?;
+    let page = HeapPage {
+        alloc: document.alloc,
+        report: document.report,
+        run: run.as_slice(),
+    };
+    page.write(out, memory)
+}
+
+/// Writes what no tag finds, on standard error, of a tenant that exited and had chunks whose last
+/// granule has bytes past their size.
+fn tell_unseen(rt: &HostRuntime, report: &Report<'_>, options: &Options) {
+    let log = &report.parts.history;
+    let is_exit = matches!(log.status, Status::Exited(_));
+    let is_unseen = options.output.exact == Exactness::Tags && !options.output.check.provenance;
+    if is_exit && is_unseen && may_have_spare_bytes(&log.calls) {
+        let _ = eprintln!(rt;
+            "mte_run: no tag differed; a tag is that of 16 bytes, so up to 15 bytes past a chunk's \
+             size are compared by --exact alone"
+        );
     }
 }
 

@@ -1,7 +1,7 @@
 -- What the tests of the mappings rest on.
 use Rattle.std.proofs.Common.{◌≡◌, ℕ, ◌+◌, ◌*◌, ◌≤◌, true, List}
-use Rattle.address_map.specs.declared.limits.TheConstants.{PAGE_SIZE}
-use Rattle.address_map.specs.declared.ranges.TheConstants.{SECONDARY_END}
+use Rattle.common.specs.declared.limits.TheConstants.{PAGE_SIZE}
+use Rattle.common.specs.declared.ranges.TheConstants.{SECONDARY_END}
 use Rattle.scudo_secondary.specs.declared.mappings.Mapping.{Mapping}
 use Rattle.scudo_secondary.specs.Mappings.{is_place}
 use Rattle.scudo_secondary.proofs.MappingLemmas.{pages_of-with_mapping, pages_of-filter}

@@ -1,4 +1,4 @@
-//! Tests of the heap and its parts, of its calls as values, and of its picture.
+//! Tests of the heap and its parts, of its calls, and of its picture.
 
 mod cache;
 mod calls;
@@ -6,7 +6,6 @@ mod careful;
 mod copies;
 mod frames;
 mod header;
-mod operations;
 mod picture;
 mod primary;
 mod secondary;

@@ -4,8 +4,8 @@ ghost use Rattle.std.specs.Prelude.{◌≡◌, ◌-◌, ◌≤◌, ◌==◌, not
 ghost use Rattle.std.specs.List.{after_last, suffix_len};
 ghost use Rattle.debug_lines.specs.Texts.{has_control};
 
+use common::Printable;
 use std::{fmt, str};
-use terminal_text::Printable;
 
 /// What is between the parts of a path.
 const SLASH: u8 = b'/';

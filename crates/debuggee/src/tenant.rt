@@ -2,7 +2,7 @@
 
 ghost use Rattle.std.specs.Prelude.{◌≡◌, ◌<◌, ◌==◌, ◌⊎◌, [], Some, true, false};
 ghost use Rattle.std.specs.Prelude.{IfOk, IfErr, IsErrOf};
-ghost use Rattle.obstacle.specs.Obstacles.{IfRefused};
+ghost use Rattle.common.specs.Obstacles.{IfRefused};
 ghost use Rattle.mte_svc.specs.Ready.{IsReady};
 ghost use Rattle.mte_tenant.specs.Ledger.{admission_refusal, charge_of, is_bad};
 ghost use Rattle.mte_tenant.specs.Machines.{machine_of, start_of, after_slice, after_slice_end};
@@ -10,17 +10,17 @@ ghost use Rattle.mte_tenant.specs.Admissions.{start_in};
 ghost use Rattle.debuggee.specs.Courses.{IsAt};
 
 use crate::cuts::Cuts;
+use crate::memory_map::MappedRegion;
 use crate::watched::{Hit, Watched, Watchpoint};
 use a64_run::OpCache;
 use a64_step::{Decoder, Regs};
-use elf_core::MappedRegion;
+use common::Obstacle;
 use instruction_trace::Moment;
 use mte_flat::Flat;
 use mte_tags::TagMode;
 use mte_tenant::{
     Admission, AdmitError, TenantParts, admit_alone, attempt, is_bad_reservation, settle, slice,
 };
-use obstacle::Obstacle;
 use run_book::Book;
 use run_cause::StoreWatch;
 use std::alloc::{AllocError, Global};

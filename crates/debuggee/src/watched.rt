@@ -2,9 +2,9 @@
 
 ghost use Rattle.std.specs.Prelude.{◌≡◌};
 
+use crate::memory_map::{MappedRegion, regions};
 use a64_bits::plain;
-use address_map::{GRANULE_SIZE, PAGE_SIZE};
-use elf_core::{MappedRegion, regions};
+use common::{GRANULE_SIZE, PAGE_SIZE};
 use mte_flat::Flat;
 use mte_tags::{Attrs, ChunkAccess, MemFault, NoPagesLeft, Paged, Tagged};
 use std::alloc::{AllocError, Global};

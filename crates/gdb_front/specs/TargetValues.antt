@@ -1,7 +1,7 @@
 -- The values of a target's registers, by their numbers in the description that GDB is given.
 use Rattle.std.specs.Prelude.{ℕ, ◌+◌, ◌*◌, ◌^◌, ◌==◌, Option, Some, None, slice_get, nat_lt}
 use Rattle.std.specs.Prelude.{if◌then◌else◌}
-use Rattle.elf_core.specs.Flags.{word_of_flags, word_of_mode}
+use Rattle.debuggee.specs.Flags.{word_of_flags, word_of_mode}
 use Rattle.mte_tags.specs.declared.generator.Rgsr.{Rgsr}
 use Rattle.gdb_front.specs.declared.registers.TargetRegisters.{TargetRegisters}
 

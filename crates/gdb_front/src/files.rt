@@ -5,7 +5,7 @@ use crate::mappings::{put_maps, put_smaps};
 use crate::parts::{put_file_part, put_file_status};
 use crate::reply::Reply;
 use crate::text::TextBuffer;
-use elf_core::MappedRegion;
+use debuggee::MappedRegion;
 use gdb_packets::{FileCall, read_hex};
 use std::alloc::Global;
 

@@ -1,7 +1,7 @@
 //! The regions of a memory as Linux writes them (proc(5)).
 
 use crate::text::TextBuffer;
-use elf_core::MappedRegion;
+use debuggee::MappedRegion;
 use mte_tags::Attrs;
 
 /// Where chunks of size classes begin, and where those with pages of their own end.

@@ -5,7 +5,7 @@ use crate::front::Front;
 use crate::parts::put_part;
 use crate::reply::Reply;
 use crate::text::TextBuffer;
-use elf_core::Signal;
+use debuggee::Signal;
 use gdb_packets::{Command, read_register};
 use std::alloc::Global;
 

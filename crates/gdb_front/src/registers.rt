@@ -5,7 +5,7 @@ ghost use Rattle.gdb_front.specs.TargetValues.{value_of, word_of_generator};
 
 use crate::text::TextBuffer;
 use a64_registers::Regs;
-use elf_core::{flags_word, tag_control};
+use debuggee::{flags_word, tag_control};
 use mte_tags::{Rgsr, TagMode};
 
 /// How many registers the description has.

@@ -3,8 +3,7 @@
 use crate::front::Front;
 use crate::reply::Reply;
 use crate::text::TextBuffer;
-use debuggee::{Hit, WatchedAccess};
-use elf_core::Signal;
+use debuggee::{Hit, Signal, WatchedAccess};
 use gdb_travel::StopReason;
 
 /// GDB's numbers of SIGTRAP and SIGXCPU, which are Linux's.

@@ -3,7 +3,7 @@
 use crate::points::Points;
 use crate::stop::{StopReason, Until};
 use a64_bits::plain;
-use address_map::MAX_STEPS;
+use common::MAX_STEPS;
 use debuggee::Debuggee;
 
 /// Moves a tenant on until it has attempted `steps` instructions, or cannot go on. It attempts no

@@ -1,6 +1,6 @@
 -- What a plain address is for, and which block of a size class it is in.
 use Rattle.std.specs.Prelude.{◌≡◌, ℕ, ◌+◌, ◌-◌, ◌%◌, ◌<◌, ◌≤◌}
-use Rattle.address_map.specs.declared.ranges.TheConstants.{REGION_SIZE}
+use Rattle.common.specs.declared.ranges.TheConstants.{REGION_SIZE}
 use Rattle.scudo_header.specs.Classes.{IsClass, size_of}
 use Rattle.scudo_header.specs.Regions.{region_of}
 use Rattle.heap_bounds.specs.declared.blocks.Block.{Block}

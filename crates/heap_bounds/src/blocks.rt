@@ -1,12 +1,12 @@
 //! What an address is for.
 
 ghost use Rattle.std.specs.Prelude.{◌≡◌, ℕ, ◌↔◌, ◌≤◌, ◌<◌, IfSome, None};
-ghost use Rattle.address_map.specs.declared.ranges.TheConstants.{IMAGE_START, IMAGE_END};
-ghost use Rattle.address_map.specs.declared.ranges.TheConstants.{STACK_START, STACK_END};
-ghost use Rattle.address_map.specs.declared.ranges.TheConstants.{SECONDARY_START, SECONDARY_END};
+ghost use Rattle.common.specs.declared.ranges.TheConstants.{IMAGE_START, IMAGE_END};
+ghost use Rattle.common.specs.declared.ranges.TheConstants.{STACK_START, STACK_END};
+ghost use Rattle.common.specs.declared.ranges.TheConstants.{SECONDARY_START, SECONDARY_END};
 ghost use Rattle.heap_bounds.specs.Blocks.{IsBetween, IsInRegion, IsBlockAt};
 
-use address_map::{
+use common::{
     IMAGE_END, IMAGE_START, REGION_SIZE, REGIONS_START, SECONDARY_END, SECONDARY_START, STACK_END,
     STACK_START,
 };

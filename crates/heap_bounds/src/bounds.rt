@@ -6,7 +6,7 @@ ghost use Rattle.heap_bounds.specs.Extents.{IsByteOf, IsGranuleOf};
 use crate::blocks::{Block, RangeUse};
 use crate::calls::{Allocation, freed_by, made_by};
 use a64_bits::plain;
-use list_copy::copy_list;
+use common::copy_list;
 use mte_svc::AnsweredCall;
 use std::alloc::{AllocError, Global};
 use std::collections::BTreeMap;

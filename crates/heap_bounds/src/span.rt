@@ -1,7 +1,6 @@
 //! The bytes that an attempted instruction accessed.
 
-use crate::access::access_of;
-use crate::addressing::{base, tag_offset};
+use a64_access::{AccessForm, AccessKind};
 use a64_decode::decode;
 use a64_instr::Instr;
 use a64_registers::Regs;
@@ -22,36 +21,18 @@ pub struct Span {
 /// before and after it. A service's result says how many bytes it took.
 pub fn span_of(word: u32, before: &Regs, after: &Regs) -> Option<Span> {
     let instr = decode(word)?;
-    match instr {
-        Instr::Svc => span_of_service(before, after),
-        Instr::StG { .. } => span_of_zeros(&instr, before),
-        _ => {
-            let access = access_of(&instr, before)?;
-            Some(Span {
-                addr: access.addr,
-                bytes: access.len(),
-                is_write: access.is_write,
-            })
-        }
+    if let Instr::Svc = instr {
+        return span_of_service(before, after);
     }
-}
-
-/// The granules that STZG (opc 1) and STZ2G (opc 3) make zero with their tags.
-fn span_of_zeros(instr: &Instr, regs: &Regs) -> Option<Span> {
-    match *instr {
-        Instr::StG {
-            opc,
-            imm9,
-            mode,
-            rn,
-            ..
-        } if opc == 1 || opc == 3 => Some(Span {
-            addr: base(regs, rn).wrapping_add(tag_offset(mode, i64::from(imm9))),
-            bytes: if opc == 3 { 32 } else { 16 },
-            is_write: true,
-        }),
-        _ => None,
+    let form = AccessForm::of(&instr)?;
+    if matches!(form.kind, AccessKind::LoadTag | AccessKind::StoreTags) {
+        return None;
     }
+    Some(Span {
+        addr: form.addr(before),
+        bytes: form.len(),
+        is_write: form.is_write(),
+    })
 }
 
 /// What the service accessed that reads or writes for the tenant.

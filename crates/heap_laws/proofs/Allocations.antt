@@ -5,7 +5,7 @@ use Rattle.std.proofs.Math.Nat.{mul-mod_left}
 use Rattle.mte_tags.specs.Memory.{Memory, byte_at, byte_cases, with_new_pages, attrs_at, attrs_cases, page_at, pages_left, IsFree}
 use Rattle.mte_tags.specs.declared.attrs.Attrs.{Attrs}
 use Rattle.mte_tags.proofs.PageLaws.{page_at-with_new_pages_out}
-use Rattle.address_map.specs.declared.limits.TheConstants.{PAGE_SIZE}
+use Rattle.common.specs.declared.limits.TheConstants.{PAGE_SIZE}
 use Rattle.scudo_header.specs.Classes.{size_of, class_for}
 use Rattle.scudo_header.specs.declared.headers.Origin.{Origin}
 use Rattle.scudo_primary.specs.Pools.{is_member}
@@ -23,11 +23,11 @@ use Rattle.scudo_heap.specs.Large.{mapping_for}
 use Rattle.scudo_heap.specs.Allocation.{AllocationResult, allocation_of, no_chunk, place_in, is_empty, with_free_block, after_take, after_class_allocation, map_chunk_cases, after_large_allocation, nonzero_size, need_of, allocate_cases, after_allocate}
 use Rattle.scudo_heap.proofs.LargeLemmas.{after_map_chunk}
 use Rattle.scudo_heap.proofs.ServedLemmas.{MayGrow, next-free, regions-of}
-use Rattle.tag_discipline.specs.LiveChunks.{IsCarved, IsPlace}
-use Rattle.tag_discipline.specs.CarefulRuns.{State}
-use Rattle.tag_discipline.specs.SoundHeaps.{Sound}
-use Rattle.tag_discipline.proofs.Serving.{blocks-of}
-use Rattle.tag_discipline.proofs.Allocations.{IsSoundIn, branch, both_true, ready_sound, place-in, IsClassFor, class-for, asked_some}
+use Rattle.heap_laws.specs.LiveChunks.{IsCarved, IsPlace}
+use Rattle.heap_laws.specs.CarefulRuns.{State}
+use Rattle.heap_laws.specs.SoundHeaps.{Sound}
+use Rattle.heap_laws.proofs.Serving.{blocks-of}
+use Rattle.heap_laws.proofs.SoundAllocations.{IsSoundIn, branch, both_true, ready_sound, place-in, IsClassFor, class-for, asked_some}
 
 -- a world whose class has a free block if it could get one: mapped pages are as they were
 pub record IsReadyIn (s : State) (v : World) : Type 0 where

@@ -38,18 +38,18 @@ use Rattle.mte_svc.specs.Services.{service_cases, after_svc}
 use Rattle.mte_svc.specs.HeapServices.{heap_call_in, world_in, heap_service_cases, after_heap_service}
 use Rattle.mte_tenant.specs.Machines.{Machine, Attempt, machine_of, with_steps, with_regs, runs, continues, stop_by_tag, with_service, after_outcome, after_attempt}
 use Rattle.a64_step.specs.Steps.{step_of}
-use Rattle.tag_discipline.specs.LiveChunks.{BlockChunk}
-use Rattle.tag_discipline.specs.LivePages.{PageChunk}
-use Rattle.tag_discipline.specs.CarefulRuns.{State, Live, state_after_call, IsCareful, found_at}
-use Rattle.tag_discipline.specs.CarefulTenants.{state_of, before_service, call_at, next_call}
-use Rattle.tag_discipline.specs.SoundHeaps.{Sound}
-use Rattle.tag_discipline.proofs.Allocations.{branch}
-use Rattle.tag_discipline.proofs.BlockCalls.{block-open}
-use Rattle.tag_discipline.proofs.BlockSounds.{live_half}
-use Rattle.tag_discipline.proofs.Larges.{check-pointer-of}
-use Rattle.tag_discipline.proofs.Runs.{call-kept}
-use Rattle.tag_discipline.proofs.Serving.{blocks-of}
-use Rattle.tag_discipline.proofs.Tenants.{step-quiet, after-attempt-done, call-with-steps}
+use Rattle.heap_laws.specs.LiveChunks.{BlockChunk}
+use Rattle.heap_laws.specs.LivePages.{PageChunk}
+use Rattle.heap_laws.specs.CarefulRuns.{State, Live, state_after_call, IsCareful, found_at}
+use Rattle.heap_laws.specs.CarefulTenants.{state_of, before_service, call_at, next_call}
+use Rattle.heap_laws.specs.SoundHeaps.{Sound}
+use Rattle.heap_laws.proofs.SoundAllocations.{branch}
+use Rattle.heap_laws.proofs.BlockCalls.{block-open}
+use Rattle.heap_laws.proofs.BlockSounds.{live_half}
+use Rattle.heap_laws.proofs.Larges.{check-pointer-of}
+use Rattle.heap_laws.proofs.Runs.{call-kept}
+use Rattle.heap_laws.proofs.Serving.{blocks-of}
+use Rattle.heap_laws.proofs.Tenants.{step-quiet, after-attempt-done, call-with-steps}
 use Rattle.heap_laws.specs.NewChunks.{HasNewChunk, HasChunk}
 use Rattle.heap_laws.specs.Uses.{IsUsable}
 use Rattle.heap_laws.specs.Answers.{size_of_chunk, tag_of_chunk, end_of_chunk, asked_bytes, AnswersPointerTo, AnswersArePointers, HasUsableBytes, AskedBytesMayBeUsed, AskedBytesOfTenantsMayBeUsed}

@@ -5,7 +5,7 @@ use Rattle.std.specs.Cmp.{nat_cmp_total}
 use Rattle.std.specs.FinMap.{get-remove}
 use Rattle.std.specs.List.{list_any}
 use Rattle.a64_bits.specs.Addresses.{plain}
-use Rattle.address_map.specs.declared.limits.TheConstants.{PAGE_SIZE}
+use Rattle.common.specs.declared.limits.TheConstants.{PAGE_SIZE}
 use Rattle.mte_tags.specs.Memory.{attrs_at}
 use Rattle.mte_tags.proofs.Pages.{tied_other}
 use Rattle.scudo_header.specs.declared.headers.Origin.{Origin}
@@ -25,20 +25,20 @@ use Rattle.scudo_heap.specs.Stacks.{stack_of}
 use Rattle.scudo_heap.specs.Allocation.{AllocationResult}
 use Rattle.scudo_heap.proofs.BesideLemmas.{start_of, stop_of}
 use Rattle.scudo_heap.proofs.MapLemmas.{IsAt, without, inside-in}
-use Rattle.tag_discipline.specs.LiveChunks.{BlockChunk, LiveBlocks, IsPlace, chunk_at, without_chunk, new_chunk}
-use Rattle.tag_discipline.specs.LivePages.{PageChunk, LivePages, large_at, without_large, new_large}
-use Rattle.tag_discipline.specs.CarefulRuns.{State, Live, found_at, with_made_chunk, without_freed_chunk, IsPointerTo}
-use Rattle.tag_discipline.specs.SoundHeaps.{Sound}
-use Rattle.tag_discipline.proofs.Allocations.{IsSoundIn}
-use Rattle.tag_discipline.proofs.Blocks.{apart}
-use Rattle.tag_discipline.proofs.BlockCalls.{block-open}
-use Rattle.tag_discipline.proofs.BlockSounds.{not-top}
-use Rattle.tag_discipline.proofs.Serving.{blocks-of}
-use Rattle.tag_discipline.proofs.Larges.{check-pointer-of, mappings-apart}
-use Rattle.tag_discipline.proofs.MadeStates.{IsMade}
-use Rattle.tag_discipline.proofs.ReallocStates.{chunk-with, large-with}
-use Rattle.tag_discipline.proofs.FoundStates.{IsListed, block, pages, same_found, large-named}
-use Rattle.tag_discipline.proofs.Freeings.{named}
+use Rattle.heap_laws.specs.LiveChunks.{BlockChunk, LiveBlocks, IsPlace, chunk_at, without_chunk, new_chunk}
+use Rattle.heap_laws.specs.LivePages.{PageChunk, LivePages, large_at, without_large, new_large}
+use Rattle.heap_laws.specs.CarefulRuns.{State, Live, found_at, with_made_chunk, without_freed_chunk, IsPointerTo}
+use Rattle.heap_laws.specs.SoundHeaps.{Sound}
+use Rattle.heap_laws.proofs.SoundAllocations.{IsSoundIn}
+use Rattle.heap_laws.proofs.Blocks.{apart}
+use Rattle.heap_laws.proofs.BlockCalls.{block-open}
+use Rattle.heap_laws.proofs.BlockSounds.{not-top}
+use Rattle.heap_laws.proofs.Serving.{blocks-of}
+use Rattle.heap_laws.proofs.Larges.{check-pointer-of, mappings-apart}
+use Rattle.heap_laws.proofs.MadeStates.{IsMade}
+use Rattle.heap_laws.proofs.ReallocStates.{chunk-with, large-with}
+use Rattle.heap_laws.proofs.FoundStates.{IsListed, block, pages, same_found, large-named}
+use Rattle.heap_laws.proofs.Freeings.{named}
 
 -- a chunk in a block, or with pages of its own
 abbrev pub AnyChunk : Type 0

@@ -3,13 +3,13 @@ use Rattle.std.proofs.Common.{◌≡◌, ◌≢◌, ℕ, zero, suc, ◌+◌, ◌
 use Rattle.scudo_header.specs.Classes.{size_of}
 use Rattle.scudo_primary.specs.Blocks.{IsClass}
 use Rattle.scudo_heap.specs.Chunks.{tag_parity}
-use Rattle.tag_discipline.specs.LiveChunks.{IsHalfTag}
-use Rattle.tag_discipline.proofs.Draws.{half-odd, half-next}
-use Rattle.tag_discipline.proofs.BlockSounds.{live_half}
-use Rattle.tag_discipline.proofs.BlockCalls.{block-open}
-use Rattle.tag_discipline.proofs.Faults.{refused}
-use Rattle.tag_discipline.proofs.Serving.{blocks-of}
-use Rattle.tag_discipline.proofs.Disciplines.{chunks-tagged}
+use Rattle.heap_laws.specs.LiveChunks.{IsHalfTag}
+use Rattle.heap_laws.proofs.Draws.{half-odd, half-next}
+use Rattle.heap_laws.proofs.BlockSounds.{live_half}
+use Rattle.heap_laws.proofs.BlockCalls.{block-open}
+use Rattle.heap_laws.proofs.Faults.{refused}
+use Rattle.heap_laws.proofs.Serving.{blocks-of}
+use Rattle.heap_laws.proofs.Disciplines.{chunks-tagged}
 use Rattle.heap_laws.specs.Distances.{IsOddDistance, OddDistancesDiffer, NeighboursAreOddBlocksApart}
 
 odd_sum : (a b c d : ℕ) → (b + a) % 2 ≡ 1 → (c + b) % 2 ≡ 1 → (d + c) % 2 ≡ 1 → (d + a) % 2 ≡ 1

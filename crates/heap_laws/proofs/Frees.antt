@@ -32,22 +32,22 @@ use Rattle.scudo_heap.specs.Realloc as heap
 use Rattle.scudo_heap.specs.Realloc.{user_of_chunk, after_copy, with_copied_bytes, after_move, with_new_size, realloc_cases, checked_realloc_cases, after_realloc}
 use Rattle.scudo_heap.specs.Calls.{call_of_free, call_of_reallocation, after_call}
 use Rattle.scudo_heap.proofs.OpenLemmas.{open-mapped}
-use Rattle.tag_discipline.specs.LiveChunks.{BlockChunk, LiveBlocks, IsPlace, chunk_at}
-use Rattle.tag_discipline.specs.CarefulRuns.{State, found_at, with_made_chunk, state_after_call, IsLiveBlock}
-use Rattle.tag_discipline.specs.SoundHeaps.{Sound}
-use Rattle.tag_discipline.specs.Discipline.{Deallocation}
-use Rattle.tag_discipline.proofs.Allocations.{IsSoundIn, branch}
-use Rattle.tag_discipline.proofs.BlockCalls.{room, block-open, with-chunk-tag-call}
-use Rattle.tag_discipline.proofs.Frees.{AreSmall, origin_small, small}
-use Rattle.tag_discipline.proofs.Serving.{blocks-of}
-use Rattle.tag_discipline.proofs.MadeStates.{IsMade}
-use Rattle.tag_discipline.proofs.MadeCalls.{malloc-state-after-allocation}
-use Rattle.tag_discipline.proofs.FreeStates.{with-bytes-at-kept}
-use Rattle.tag_discipline.proofs.ReallocStates.{still-block}
-use Rattle.tag_discipline.proofs.Freeings.{IsFreeIn, named, not-free, not-null, free-world, realloc-world}
-use Rattle.tag_discipline.proofs.Freed.{IsStale}
-use Rattle.tag_discipline.proofs.Runs.{call-kept, run-sound, run-stale}
-use Rattle.tag_discipline.proofs.Disciplines.{not-zero, block-careful, stale-by}
+use Rattle.heap_laws.specs.LiveChunks.{BlockChunk, LiveBlocks, IsPlace, chunk_at}
+use Rattle.heap_laws.specs.CarefulRuns.{State, found_at, with_made_chunk, state_after_call, IsLiveBlock}
+use Rattle.heap_laws.specs.SoundHeaps.{Sound}
+use Rattle.heap_laws.specs.Discipline.{Deallocation}
+use Rattle.heap_laws.proofs.SoundAllocations.{IsSoundIn, branch}
+use Rattle.heap_laws.proofs.BlockCalls.{room, block-open, with-chunk-tag-call}
+use Rattle.heap_laws.proofs.SoundFrees.{AreSmall, origin_small, small}
+use Rattle.heap_laws.proofs.Serving.{blocks-of}
+use Rattle.heap_laws.proofs.MadeStates.{IsMade}
+use Rattle.heap_laws.proofs.MadeCalls.{malloc-state-after-allocation}
+use Rattle.heap_laws.proofs.FreeStates.{with-bytes-at-kept}
+use Rattle.heap_laws.proofs.ReallocStates.{still-block}
+use Rattle.heap_laws.proofs.Freeings.{IsFreeIn, named, not-free, not-null, free-world, realloc-world}
+use Rattle.heap_laws.proofs.Freed.{IsStale}
+use Rattle.heap_laws.proofs.Runs.{call-kept, run-sound, run-stale}
+use Rattle.heap_laws.proofs.Disciplines.{not-zero, block-careful, stale-by}
 use Rattle.heap_laws.specs.Frees.{freed_header, HasFreedHeader, IsAborted, DoubleFreesAbort}
 
 -- ---- a call that frees a chunk gives its block back in a sound state

@@ -25,12 +25,12 @@ use Rattle.scudo_heap.specs.Realloc.{ReallocResult, after_move, with_new_size, r
 use Rattle.scudo_heap.specs.Calls.{after_call}
 use Rattle.scudo_heap.proofs.AllocationLemmas.{power-align}
 use Rattle.scudo_heap.proofs.MapLemmas.{without}
-use Rattle.tag_discipline.specs.CarefulRuns.{State, found_at, HasHeader, state_after_call}
-use Rattle.tag_discipline.specs.SoundHeaps.{Sound}
-use Rattle.tag_discipline.proofs.Allocations.{branch}
-use Rattle.tag_discipline.proofs.BlockCalls.{block-open}
-use Rattle.tag_discipline.proofs.Larges.{check-pointer-of}
-use Rattle.tag_discipline.proofs.Serving.{blocks-of}
+use Rattle.heap_laws.specs.CarefulRuns.{State, found_at, HasHeader, state_after_call}
+use Rattle.heap_laws.specs.SoundHeaps.{Sound}
+use Rattle.heap_laws.proofs.SoundAllocations.{branch}
+use Rattle.heap_laws.proofs.BlockCalls.{block-open}
+use Rattle.heap_laws.proofs.Larges.{check-pointer-of}
+use Rattle.heap_laws.proofs.Serving.{blocks-of}
 use Rattle.heap_laws.specs.OtherChunks.{AreSame, OtherHeadersStay}
 use Rattle.heap_laws.proofs.Allocations.{each-allocation}
 use Rattle.heap_laws.proofs.NewChunks.{least-align}

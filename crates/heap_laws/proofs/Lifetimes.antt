@@ -7,17 +7,17 @@ use Rattle.scudo_heap.specs.declared.chunk.Chunk.TheVariants.{Small}
 use Rattle.scudo_heap.specs.Chunks.{end_of}
 use Rattle.scudo_heap.specs.Allocation.{after_malloc}
 use Rattle.mte_tenant.specs.Machines.{Machine, after_attempt}
-use Rattle.tag_discipline.specs.LiveChunks.{BlockChunk, chunk_at, new_chunk}
-use Rattle.tag_discipline.specs.Laws.{IsRefused, IsOutOfReach}
-use Rattle.tag_discipline.specs.CarefulRuns.{State, Live, state_after_call, IsLiveBlock, call as call_step, next, stop}
-use Rattle.tag_discipline.specs.CarefulTenants.{state_of, before_service, live_after}
-use Rattle.tag_discipline.specs.SoundHeaps.{Sound}
-use Rattle.tag_discipline.specs.Discipline.{Deallocation, malloc}
-use Rattle.tag_discipline.proofs.BlockCalls.{block-open}
-use Rattle.tag_discipline.proofs.Faults.{refused}
-use Rattle.tag_discipline.proofs.Serving.{blocks-of}
-use Rattle.tag_discipline.proofs.Tenants.{step-quiet, after-attempt-kept, after-attempt-done}
-use Rattle.tag_discipline.proofs.Disciplines.{stays, chunks-tagged, guarded, freed-free, freed-blocks}
+use Rattle.heap_laws.specs.LiveChunks.{BlockChunk, chunk_at, new_chunk}
+use Rattle.heap_laws.specs.Laws.{IsRefused, IsOutOfReach}
+use Rattle.heap_laws.specs.CarefulRuns.{State, Live, state_after_call, IsLiveBlock, call as call_step, next, stop}
+use Rattle.heap_laws.specs.CarefulTenants.{state_of, before_service, live_after}
+use Rattle.heap_laws.specs.SoundHeaps.{Sound}
+use Rattle.heap_laws.specs.Discipline.{Deallocation, malloc}
+use Rattle.heap_laws.proofs.BlockCalls.{block-open}
+use Rattle.heap_laws.proofs.Faults.{refused}
+use Rattle.heap_laws.proofs.Serving.{blocks-of}
+use Rattle.heap_laws.proofs.Tenants.{step-quiet, after-attempt-kept, after-attempt-done}
+use Rattle.heap_laws.proofs.Disciplines.{stays, chunks-tagged, guarded, freed-free, freed-blocks}
 use Rattle.heap_laws.specs.Frees.{HasFreedHeader, IsAborted}
 use Rattle.heap_laws.specs.NewChunks.{IsZero}
 use Rattle.heap_laws.specs.Lifetimes.{NextMalloc, chunk_made, LifetimesAreGuarded, ChunksFreedAtOnce}

@@ -32,21 +32,21 @@ use Rattle.scudo_heap.specs.Realloc.{ReallocResult, user_of, user_of_chunk, afte
 use Rattle.scudo_heap.specs.Calls.{after_call}
 use Rattle.scudo_heap.proofs.MapLemmas.{without}
 use Rattle.scudo_heap.proofs.OpenLemmas.{open-mapped}
-use Rattle.tag_discipline.specs.LiveChunks.{BlockChunk, IsPlace, chunk_at, new_chunk}
-use Rattle.tag_discipline.specs.LivePages.{new_large}
-use Rattle.tag_discipline.specs.CarefulRuns.{State, Live, found_at, with_made_chunk, without_freed_chunk, live_move_cases, with_size_of, live_after_resize_in_block, live_after_resize, live_after_realloc, live_realloc_cases, live_realloc, state_after_call, HasHeader, IsPointerTo}
-use Rattle.tag_discipline.specs.SoundHeaps.{Sound}
-use Rattle.tag_discipline.proofs.BlockCalls.{block-open}
-use Rattle.tag_discipline.proofs.BlockSounds.{present-tag}
-use Rattle.tag_discipline.proofs.BlockSteps.{at-with}
-use Rattle.tag_discipline.proofs.Refits.{after-retag-tail-fits}
-use Rattle.tag_discipline.proofs.Serving.{blocks-of}
-use Rattle.tag_discipline.proofs.Larges.{check-pointer-of}
-use Rattle.tag_discipline.proofs.MadeStates.{IsMade}
-use Rattle.tag_discipline.proofs.MadeCalls.{malloc-state-after-allocation}
-use Rattle.tag_discipline.proofs.FreeStates.{with-bytes-at-kept}
-use Rattle.tag_discipline.proofs.ReallocStates.{still-with-made-chunk}
-use Rattle.tag_discipline.proofs.Disciplines.{apart}
+use Rattle.heap_laws.specs.LiveChunks.{BlockChunk, IsPlace, chunk_at, new_chunk}
+use Rattle.heap_laws.specs.LivePages.{new_large}
+use Rattle.heap_laws.specs.CarefulRuns.{State, Live, found_at, with_made_chunk, without_freed_chunk, live_move_cases, with_size_of, live_after_resize_in_block, live_after_resize, live_after_realloc, live_realloc_cases, live_realloc, state_after_call, HasHeader, IsPointerTo}
+use Rattle.heap_laws.specs.SoundHeaps.{Sound}
+use Rattle.heap_laws.proofs.BlockCalls.{block-open}
+use Rattle.heap_laws.proofs.BlockSounds.{present-tag}
+use Rattle.heap_laws.proofs.BlockSteps.{at-with}
+use Rattle.heap_laws.proofs.Refits.{after-retag-tail-fits}
+use Rattle.heap_laws.proofs.Serving.{blocks-of}
+use Rattle.heap_laws.proofs.Larges.{check-pointer-of}
+use Rattle.heap_laws.proofs.MadeStates.{IsMade}
+use Rattle.heap_laws.proofs.MadeCalls.{malloc-state-after-allocation}
+use Rattle.heap_laws.proofs.FreeStates.{with-bytes-at-kept}
+use Rattle.heap_laws.proofs.ReallocStates.{still-with-made-chunk}
+use Rattle.heap_laws.proofs.Disciplines.{apart}
 use Rattle.heap_laws.specs.NewChunks.{HasNewChunk, HasChunk}
 use Rattle.heap_laws.specs.Reallocs.{ReallocatedChunksAreLive}
 use Rattle.heap_laws.proofs.NewChunks.{HasNewHeader, made-live, malloc-written, new-live}

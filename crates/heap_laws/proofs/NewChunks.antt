@@ -9,7 +9,7 @@ use Rattle.std.specs.FinMap.{get-insert}
 use Rattle.std.specs.Int.{to_le_bytes, w64}
 use Rattle.std.specs.List.{list_any, range_with_len}
 use Rattle.a64_bits.specs.Addresses.{plain}
-use Rattle.address_map.specs.declared.limits.TheConstants.{PAGE_SIZE}
+use Rattle.common.specs.declared.limits.TheConstants.{PAGE_SIZE}
 use Rattle.mte_tags.specs.Memory.{Memory, byte_at, byte_cases, with_granules, with_new_pages, new_page}
 use Rattle.mte_tags.specs.Accesses.{read_bytes}
 use Rattle.mte_tags.specs.RandomTags.{after_draw}
@@ -39,20 +39,20 @@ use Rattle.scudo_heap.specs.Calls.{after_call}
 use Rattle.scudo_heap.proofs.AllocationLemmas.{power-align}
 use Rattle.scudo_heap.proofs.OpenLemmas.{open-mapped}
 use Rattle.scudo_heap.proofs.ServedLemmas.{places-of, pages-free, pages-open}
-use Rattle.tag_discipline.specs.LiveChunks.{BlockChunk, LiveBlocks, IsPlace, new_chunk}
-use Rattle.tag_discipline.specs.LivePages.{PageChunk, LivePages, large_at, with_large, new_large}
-use Rattle.tag_discipline.specs.CarefulRuns.{State, Live, HasHeader, with_made_chunk, state_after_call, IsLiveBlock, IsLiveLarge}
-use Rattle.tag_discipline.specs.SoundHeaps.{Sound}
-use Rattle.tag_discipline.proofs.Views.{SoundBlocks}
-use Rattle.tag_discipline.proofs.Draws.{IsFresh}
-use Rattle.tag_discipline.proofs.BlockCalls.{fenced, fenced-both, block-open}
-use Rattle.tag_discipline.proofs.BlockSteps.{at-with}
-use Rattle.tag_discipline.proofs.Allocations.{IsSoundIn, branch, fresh_in}
-use Rattle.tag_discipline.proofs.MadeLarges.{at, large}
-use Rattle.tag_discipline.proofs.FoundStates.{large-named}
-use Rattle.tag_discipline.proofs.Larges.{check-pointer-of}
-use Rattle.tag_discipline.proofs.Freeings.{named, not-null}
-use Rattle.tag_discipline.proofs.Disciplines.{not-zero}
+use Rattle.heap_laws.specs.LiveChunks.{BlockChunk, LiveBlocks, IsPlace, new_chunk}
+use Rattle.heap_laws.specs.LivePages.{PageChunk, LivePages, large_at, with_large, new_large}
+use Rattle.heap_laws.specs.CarefulRuns.{State, Live, HasHeader, with_made_chunk, state_after_call, IsLiveBlock, IsLiveLarge}
+use Rattle.heap_laws.specs.SoundHeaps.{Sound}
+use Rattle.heap_laws.proofs.Views.{SoundBlocks}
+use Rattle.heap_laws.proofs.Draws.{IsFresh}
+use Rattle.heap_laws.proofs.BlockCalls.{fenced, fenced-both, block-open}
+use Rattle.heap_laws.proofs.BlockSteps.{at-with}
+use Rattle.heap_laws.proofs.SoundAllocations.{IsSoundIn, branch, fresh_in}
+use Rattle.heap_laws.proofs.MadeLarges.{at, large}
+use Rattle.heap_laws.proofs.FoundStates.{large-named}
+use Rattle.heap_laws.proofs.Larges.{check-pointer-of}
+use Rattle.heap_laws.proofs.Freeings.{named, not-null}
+use Rattle.heap_laws.proofs.Disciplines.{not-zero}
 use Rattle.heap_laws.specs.NewChunks.{HasNewChunk, NewChunksAreLive, IsZero, NewChunksAreZero, SizesAndAlignments}
 use Rattle.heap_laws.proofs.Allocations.{IsReadyIn, IsNext, IsMappable, each-allocation}
 

@@ -5,7 +5,7 @@ use Rattle.std.proofs.Math.Nat.{min-le_right}
 use Rattle.std.specs.Prelude.{min}
 use Rattle.std.specs.Int.{to_le_bytes, w64}
 use Rattle.a64_bits.specs.Addresses.{plain}
-use Rattle.address_map.specs.declared.limits.TheConstants.{PAGE_SIZE}
+use Rattle.common.specs.declared.limits.TheConstants.{PAGE_SIZE}
 use Rattle.mte_tags.specs.Memory.{Memory, byte_at, byte_cases, tag_at, with_granules, with_new_pages}
 use Rattle.mte_tags.specs.Accesses.{read_bytes}
 use Rattle.mte_tags.specs.RandomTags.{after_draw}
@@ -38,19 +38,19 @@ use Rattle.scudo_heap.specs.Realloc.{ReallocResult, user_of, user_of_chunk, afte
 use Rattle.scudo_heap.specs.Calls.{after_call}
 use Rattle.scudo_heap.proofs.AllocationLemmas.{power-align}
 use Rattle.scudo_heap.proofs.BesideLemmas.{start_of, stop_of, malloc-beside}
-use Rattle.tag_discipline.specs.LiveChunks.{BlockChunk, LiveBlocks, IsPlace, chunk_at}
-use Rattle.tag_discipline.specs.CarefulRuns.{State, Live, found_at, with_made_chunk, without_freed_chunk, live_move_cases, live_after_resize_in_block, with_size_of, live_after_resize, live_after_realloc, live_free_cases, live_realloc_cases, live_free, live_realloc, state_after_call, IsPointerTo, IsCareful}
-use Rattle.tag_discipline.specs.SoundHeaps.{Sound}
-use Rattle.tag_discipline.proofs.Allocations.{IsSoundIn, branch}
-use Rattle.tag_discipline.proofs.BlockCalls.{block-open}
-use Rattle.tag_discipline.proofs.Serving.{blocks-of}
-use Rattle.tag_discipline.proofs.Larges.{check-pointer-of}
-use Rattle.tag_discipline.proofs.MadeLarges.{at, large}
-use Rattle.tag_discipline.proofs.MadeStates.{IsMade}
-use Rattle.tag_discipline.proofs.MadeCalls.{malloc-state-after-allocation, calloc-state-after-allocation, memalign-state-after-allocation}
-use Rattle.tag_discipline.proofs.FoundStates.{IsListed, block, pages}
-use Rattle.tag_discipline.proofs.FreeStates.{with-bytes-at-kept}
-use Rattle.tag_discipline.proofs.ReallocStates.{chunk-with, still-with-made-chunk}
+use Rattle.heap_laws.specs.LiveChunks.{BlockChunk, LiveBlocks, IsPlace, chunk_at}
+use Rattle.heap_laws.specs.CarefulRuns.{State, Live, found_at, with_made_chunk, without_freed_chunk, live_move_cases, live_after_resize_in_block, with_size_of, live_after_resize, live_after_realloc, live_free_cases, live_realloc_cases, live_free, live_realloc, state_after_call, IsPointerTo, IsCareful}
+use Rattle.heap_laws.specs.SoundHeaps.{Sound}
+use Rattle.heap_laws.proofs.SoundAllocations.{IsSoundIn, branch}
+use Rattle.heap_laws.proofs.BlockCalls.{block-open}
+use Rattle.heap_laws.proofs.Serving.{blocks-of}
+use Rattle.heap_laws.proofs.Larges.{check-pointer-of}
+use Rattle.heap_laws.proofs.MadeLarges.{at, large}
+use Rattle.heap_laws.proofs.MadeStates.{IsMade}
+use Rattle.heap_laws.proofs.MadeCalls.{malloc-state-after-allocation, calloc-state-after-allocation, memalign-state-after-allocation}
+use Rattle.heap_laws.proofs.FoundStates.{IsListed, block, pages}
+use Rattle.heap_laws.proofs.FreeStates.{with-bytes-at-kept}
+use Rattle.heap_laws.proofs.ReallocStates.{chunk-with, still-with-made-chunk}
 use Rattle.heap_laws.specs.OtherChunks.{IsOfOthers, OtherChunksStay}
 use Rattle.heap_laws.proofs.Allocations.{IsMappable, each-allocation}
 use Rattle.heap_laws.proofs.NewChunks.{least-align}

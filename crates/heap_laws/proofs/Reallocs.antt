@@ -33,20 +33,20 @@ use Rattle.scudo_heap.specs.Realloc.{ReallocResult, user_of, user_of_chunk, afte
 use Rattle.scudo_heap.specs.Calls.{after_call}
 use Rattle.scudo_heap.proofs.BesideLemmas.{malloc-beside, found-within, open-in}
 use Rattle.scudo_heap.proofs.OpenLemmas.{open-mapped}
-use Rattle.tag_discipline.specs.LiveChunks.{BlockChunk, chunk_at}
-use Rattle.tag_discipline.specs.LivePages.{PageChunk, LivePages, large_at, without_large}
-use Rattle.tag_discipline.specs.CarefulRuns.{State, Live, found_at, with_made_chunk, without_freed_chunk, live_move_cases, live_after_resize, live_after_realloc, live_realloc_cases, live_realloc, state_after_call, IsLiveLarge}
-use Rattle.tag_discipline.specs.SoundHeaps.{Sound}
-use Rattle.tag_discipline.proofs.Allocations.{branch}
-use Rattle.tag_discipline.proofs.Serving.{blocks-of}
-use Rattle.tag_discipline.proofs.BlockCalls.{block-open}
-use Rattle.tag_discipline.proofs.MadeStates.{IsMade}
-use Rattle.tag_discipline.proofs.MadeCalls.{malloc-state-after-allocation}
-use Rattle.tag_discipline.proofs.FoundStates.{large-named}
-use Rattle.tag_discipline.proofs.FreeStates.{with-bytes-at-kept}
-use Rattle.tag_discipline.proofs.ReallocStates.{still-block, still-with-made-chunk}
-use Rattle.tag_discipline.proofs.Freeings.{IsFreeIn, named, not-null, freed-stale}
-use Rattle.tag_discipline.proofs.Disciplines.{not-zero, freed-pages}
+use Rattle.heap_laws.specs.LiveChunks.{BlockChunk, chunk_at}
+use Rattle.heap_laws.specs.LivePages.{PageChunk, LivePages, large_at, without_large}
+use Rattle.heap_laws.specs.CarefulRuns.{State, Live, found_at, with_made_chunk, without_freed_chunk, live_move_cases, live_after_resize, live_after_realloc, live_realloc_cases, live_realloc, state_after_call, IsLiveLarge}
+use Rattle.heap_laws.specs.SoundHeaps.{Sound}
+use Rattle.heap_laws.proofs.SoundAllocations.{branch}
+use Rattle.heap_laws.proofs.Serving.{blocks-of}
+use Rattle.heap_laws.proofs.BlockCalls.{block-open}
+use Rattle.heap_laws.proofs.MadeStates.{IsMade}
+use Rattle.heap_laws.proofs.MadeCalls.{malloc-state-after-allocation}
+use Rattle.heap_laws.proofs.FoundStates.{large-named}
+use Rattle.heap_laws.proofs.FreeStates.{with-bytes-at-kept}
+use Rattle.heap_laws.proofs.ReallocStates.{still-block, still-with-made-chunk}
+use Rattle.heap_laws.proofs.Freeings.{IsFreeIn, named, not-null, freed-stale}
+use Rattle.heap_laws.proofs.Disciplines.{not-zero, freed-pages}
 use Rattle.heap_laws.specs.Reallocs.{ReallocKeepsBytes, ReallocFreesBlocks, ReallocUnmapsPages}
 use Rattle.heap_laws.proofs.Chunks.{AnyChunk, IsIn, found_of, user-is, is-listed, is-found, is-taken}
 use Rattle.heap_laws.proofs.OtherBytes.{malloc-byte, freed-byte}

@@ -4,17 +4,17 @@ use Rattle.mte_tenant.specs.Machines.{Machine, runs, stop_by_tag, after_attempt,
 use Rattle.mte_sched.specs.Lives.{TenantEvent, OwnSlice, OwnStop}
 use Rattle.mte_sched.specs.Contents as contents
 use Rattle.mte_sched.specs.Contents.{after_own_events}
-use Rattle.tag_discipline.specs.CarefulRuns.{State, Live, no_chunks, HasFree, state_after_call}
-use Rattle.tag_discipline.specs.CarefulTenants.{state_of, before_service, live_after, live_through, IsCareful}
-use Rattle.tag_discipline.specs.CarefulSessions.{live_of, AreCareful, first_machine}
-use Rattle.tag_discipline.specs.SoundHeaps.{Sound}
-use Rattle.tag_discipline.specs.Discipline.{Deallocation}
-use Rattle.tag_discipline.specs.TenantLaws.{NextDeallocation}
-use Rattle.tag_discipline.proofs.Freed.{Freed, IsStale}
-use Rattle.tag_discipline.proofs.Tenants.{step-quiet, after-attempt-kept, after-attempt-done}
-use Rattle.tag_discipline.proofs.Starts.{tenants-start}
-use Rattle.tag_discipline.proofs.Disciplines.{stale-refused, others-in, stale-tag}
-use Rattle.tag_discipline.proofs.Sessions.{accepted, machine-of, gone-stays, live-is}
+use Rattle.heap_laws.specs.CarefulRuns.{State, Live, no_chunks, HasFree, state_after_call}
+use Rattle.heap_laws.specs.CarefulTenants.{state_of, before_service, live_after, live_through, IsCareful}
+use Rattle.heap_laws.specs.CarefulSessions.{live_of, AreCareful, first_machine}
+use Rattle.heap_laws.specs.SoundHeaps.{Sound}
+use Rattle.heap_laws.specs.Discipline.{Deallocation}
+use Rattle.heap_laws.specs.TenantLaws.{NextDeallocation}
+use Rattle.heap_laws.proofs.Freed.{Freed, IsStale}
+use Rattle.heap_laws.proofs.Tenants.{step-quiet, after-attempt-kept, after-attempt-done}
+use Rattle.heap_laws.proofs.Starts.{tenants-start}
+use Rattle.heap_laws.proofs.Disciplines.{stale-refused, others-in, stale-tag}
+use Rattle.heap_laws.proofs.Sessions.{accepted, machine-of, gone-stays, live-is}
 use Rattle.heap_laws.specs.Turns.{Turns, stop, next, pause, AnyTurns, TenantsTakeTurns, TurnsStaySound, KeepsFreeThrough, FreedChunksInTurns}
 use Rattle.heap_laws.proofs.Frees.{IsStaleChunk, freed-stale-chunk, freed-aborts}
 

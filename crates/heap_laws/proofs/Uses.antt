@@ -11,12 +11,12 @@ use Rattle.scudo_secondary.specs.Mappings as secondary
 use Rattle.scudo_heap.specs.Chunks.{end_of}
 use Rattle.scudo_heap.specs.Served.{heap_page}
 use Rattle.scudo_heap.proofs.MapLemmas.{without, inside-in}
-use Rattle.tag_discipline.specs.CarefulSessions.{state_in}
-use Rattle.tag_discipline.proofs.Serving.{blocks-of}
-use Rattle.tag_discipline.proofs.BlockCalls.{block-open}
-use Rattle.tag_discipline.proofs.Larges.{check-pointer-of}
-use Rattle.tag_discipline.proofs.Disciplines.{chunks-tagged}
-use Rattle.tag_discipline.proofs.Sessions.{tenants-stay}
+use Rattle.heap_laws.specs.CarefulSessions.{state_in}
+use Rattle.heap_laws.proofs.Serving.{blocks-of}
+use Rattle.heap_laws.proofs.BlockCalls.{block-open}
+use Rattle.heap_laws.proofs.Larges.{check-pointer-of}
+use Rattle.heap_laws.proofs.Disciplines.{chunks-tagged}
+use Rattle.heap_laws.proofs.Sessions.{tenants-stay}
 use Rattle.heap_laws.specs.Uses.{IsUsable, ChunksMayBeUsed, ChunksOfTenantsMayBeUsed}
 
 -- the addresses between two are in pages of the heap, with a tag

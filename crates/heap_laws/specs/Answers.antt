@@ -16,9 +16,9 @@ use Rattle.scudo_heap.specs.Realloc.{user_of_chunk, after_realloc}
 use Rattle.scudo_heap.specs.Calls.{after_call}
 use Rattle.mte_svc.specs.Results.{x_of}
 use Rattle.mte_tenant.specs.Machines.{Machine, runs, after_attempt}
-use Rattle.tag_discipline.specs.CarefulRuns.{State, Live, IsCareful}
-use Rattle.tag_discipline.specs.CarefulTenants.{state_of, next_call, IsCarefulNext}
-use Rattle.tag_discipline.specs.SoundHeaps.{Sound}
+use Rattle.heap_laws.specs.CarefulRuns.{State, Live, IsCareful}
+use Rattle.heap_laws.specs.CarefulTenants.{state_of, next_call, IsCarefulNext}
+use Rattle.heap_laws.specs.SoundHeaps.{Sound}
 use Rattle.heap_laws.specs.Uses.{IsUsable}
 
 -- The size of a chunk.

@@ -4,10 +4,10 @@ use Rattle.std.specs.Prelude.{◌⊎◌, Some}
 use Rattle.scudo_header.specs.Classes.{size_of}
 use Rattle.scudo_heap.specs.declared.chunk.Place.{Place}
 use Rattle.scudo_heap.specs.Chunks.{end_of}
-use Rattle.tag_discipline.specs.LiveChunks.{BlockChunk, chunk_at}
-use Rattle.tag_discipline.specs.CarefulRuns.{State}
-use Rattle.tag_discipline.specs.Laws.{IsRefused, AreNeighbours}
-use Rattle.tag_discipline.specs.SoundHeaps.{Sound}
+use Rattle.heap_laws.specs.LiveChunks.{BlockChunk, chunk_at}
+use Rattle.heap_laws.specs.CarefulRuns.{State}
+use Rattle.heap_laws.specs.Laws.{IsRefused, AreNeighbours}
+use Rattle.heap_laws.specs.SoundHeaps.{Sound}
 
 -- An odd number of blocks of a class from one block to another.
 abbrev pub IsOddDistance : ℕ → ℕ → ℕ → Type 0

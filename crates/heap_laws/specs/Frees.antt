@@ -6,10 +6,10 @@ use Rattle.scudo_heap.specs.declared.abort.HeapAbort.TheVariants.{InvalidState}
 use Rattle.scudo_heap.specs.declared.call.HeapCall.TheVariants.{Free, Realloc, UsableSize}
 use Rattle.scudo_heap.specs.Placing.{World}
 use Rattle.scudo_heap.specs.Calls.{CallResult, after_call}
-use Rattle.tag_discipline.specs.LiveChunks.{BlockChunk}
-use Rattle.tag_discipline.specs.CarefulRuns.{State, state_after_call, HasHeader}
-use Rattle.tag_discipline.specs.SoundHeaps.{Sound}
-use Rattle.tag_discipline.specs.Discipline.{Deallocation, KeepsFree}
+use Rattle.heap_laws.specs.LiveChunks.{BlockChunk}
+use Rattle.heap_laws.specs.CarefulRuns.{State, state_after_call, HasHeader}
+use Rattle.heap_laws.specs.SoundHeaps.{Sound}
+use Rattle.heap_laws.specs.Discipline.{Deallocation, KeepsFree}
 
 -- The header of a chunk of a size class after its free.
 abbrev pub freed_header : BlockChunk → Header

@@ -1,3 +1,12 @@
+pub mod LiveChunks
+pub mod LivePages
+pub mod Laws
+pub mod CarefulRuns
+pub mod CarefulTenants
+pub mod CarefulSessions
+pub mod SoundHeaps
+pub mod Discipline
+pub mod TenantLaws
 pub mod NewChunks
 pub mod Uses
 pub mod OtherChunks

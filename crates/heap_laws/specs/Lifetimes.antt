@@ -10,16 +10,16 @@ use Rattle.scudo_heap.specs.Chunks.{end_of}
 use Rattle.scudo_heap.specs.Allocation.{after_malloc}
 use Rattle.mte_tenant.specs.Machines.{Machine, after_attempt}
 use Rattle.mte_sched.specs.Lives.{Session, Life, lives, life_among}
-use Rattle.tag_discipline.specs.LiveChunks.{BlockChunk, chunk_at, new_chunk}
-use Rattle.tag_discipline.specs.Laws.{IsRefused, IsOutOfReach}
-use Rattle.tag_discipline.specs.CarefulRuns.{State, Live, no_chunks, state_after_call}
-use Rattle.tag_discipline.specs.CarefulRuns.{IsLiveBlock}
-use Rattle.tag_discipline.specs.CarefulTenants.{state_of, before_service, next_call, live_after}
-use Rattle.tag_discipline.specs.CarefulTenants.{IsCarefulNext}
-use Rattle.tag_discipline.specs.CarefulSessions.{first_machine}
-use Rattle.tag_discipline.specs.SoundHeaps.{Sound}
-use Rattle.tag_discipline.specs.Discipline.{given_tag}
-use Rattle.tag_discipline.specs.TenantLaws.{NextDeallocation}
+use Rattle.heap_laws.specs.LiveChunks.{BlockChunk, chunk_at, new_chunk}
+use Rattle.heap_laws.specs.Laws.{IsRefused, IsOutOfReach}
+use Rattle.heap_laws.specs.CarefulRuns.{State, Live, no_chunks, state_after_call}
+use Rattle.heap_laws.specs.CarefulRuns.{IsLiveBlock}
+use Rattle.heap_laws.specs.CarefulTenants.{state_of, before_service, next_call, live_after}
+use Rattle.heap_laws.specs.CarefulTenants.{IsCarefulNext}
+use Rattle.heap_laws.specs.CarefulSessions.{first_machine}
+use Rattle.heap_laws.specs.SoundHeaps.{Sound}
+use Rattle.heap_laws.specs.Discipline.{given_tag}
+use Rattle.heap_laws.specs.TenantLaws.{NextDeallocation}
 use Rattle.heap_laws.specs.NewChunks.{IsZero}
 use Rattle.heap_laws.specs.Uses.{IsUsable}
 use Rattle.heap_laws.specs.Distances.{AreOddBlocksApart}

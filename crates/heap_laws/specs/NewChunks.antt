@@ -13,10 +13,10 @@ use Rattle.scudo_heap.specs.Chunks.{end_of}
 use Rattle.scudo_heap.specs.Allocation.{after_malloc, after_calloc, after_memalign}
 use Rattle.scudo_heap.specs.Freeing.{usable_size_of}
 use Rattle.scudo_heap.specs.Realloc.{user_of_chunk}
-use Rattle.tag_discipline.specs.LiveChunks.{BlockChunk, chunk_at, new_chunk}
-use Rattle.tag_discipline.specs.LivePages.{PageChunk, large_at, new_large}
-use Rattle.tag_discipline.specs.CarefulRuns.{State, state_after_call, IsLiveBlock, IsLiveLarge}
-use Rattle.tag_discipline.specs.SoundHeaps.{Sound}
+use Rattle.heap_laws.specs.LiveChunks.{BlockChunk, chunk_at, new_chunk}
+use Rattle.heap_laws.specs.LivePages.{PageChunk, large_at, new_large}
+use Rattle.heap_laws.specs.CarefulRuns.{State, state_after_call, IsLiveBlock, IsLiveLarge}
+use Rattle.heap_laws.specs.SoundHeaps.{Sound}
 
 -- A chunk is live at its user address, with the header of a new one.
 abbrev pub HasNewChunk : State → Origin → Chunk → Type 0

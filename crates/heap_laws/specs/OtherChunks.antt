@@ -5,12 +5,12 @@ use Rattle.mte_tags.specs.Memory.{Memory, byte_at}
 use Rattle.scudo_secondary.specs.Mappings as secondary
 use Rattle.scudo_heap.specs.declared.call.HeapCall.{HeapCall}
 use Rattle.scudo_heap.specs.Chunks.{end_of}
-use Rattle.tag_discipline.specs.LiveChunks.{BlockChunk, chunk_at}
-use Rattle.tag_discipline.specs.LivePages.{PageChunk, large_at}
-use Rattle.tag_discipline.specs.CarefulRuns.{State, state_after_call, IsCareful}
-use Rattle.tag_discipline.specs.CarefulRuns.{IsLiveBlock, IsLiveLarge}
-use Rattle.tag_discipline.specs.SoundHeaps.{Sound}
-use Rattle.tag_discipline.specs.Discipline.{MayFree}
+use Rattle.heap_laws.specs.LiveChunks.{BlockChunk, chunk_at}
+use Rattle.heap_laws.specs.LivePages.{PageChunk, large_at}
+use Rattle.heap_laws.specs.CarefulRuns.{State, state_after_call, IsCareful}
+use Rattle.heap_laws.specs.CarefulRuns.{IsLiveBlock, IsLiveLarge}
+use Rattle.heap_laws.specs.SoundHeaps.{Sound}
+use Rattle.heap_laws.specs.Discipline.{MayFree}
 
 -- A call neither frees nor reallocates what is at a user address.
 abbrev pub IsOfOthers : HeapCall → ℕ → Type 0

@@ -9,11 +9,11 @@ use Rattle.scudo_heap.specs.declared.call.HeapCall.TheVariants.{Realloc}
 use Rattle.scudo_heap.specs.declared.chunk.Chunk.{Chunk}
 use Rattle.scudo_heap.specs.Served.{is_inside}
 use Rattle.scudo_heap.specs.Realloc.{after_realloc, user_of_chunk}
-use Rattle.tag_discipline.specs.LiveChunks.{BlockChunk}
-use Rattle.tag_discipline.specs.LivePages.{PageChunk}
-use Rattle.tag_discipline.specs.CarefulRuns.{State, state_after_call, IsLiveBlock, IsLiveLarge}
-use Rattle.tag_discipline.specs.CarefulRuns.{HasFreeBlock, IsCareful}
-use Rattle.tag_discipline.specs.SoundHeaps.{Sound}
+use Rattle.heap_laws.specs.LiveChunks.{BlockChunk}
+use Rattle.heap_laws.specs.LivePages.{PageChunk}
+use Rattle.heap_laws.specs.CarefulRuns.{State, state_after_call, IsLiveBlock, IsLiveLarge}
+use Rattle.heap_laws.specs.CarefulRuns.{HasFreeBlock, IsCareful}
+use Rattle.heap_laws.specs.SoundHeaps.{Sound}
 use Rattle.heap_laws.specs.NewChunks.{HasChunk}
 
 -- A reallocation of a live chunk keeps the bytes that both sizes have.

@@ -5,14 +5,14 @@ use Rattle.std.specs.Prelude.{◌≡◌, ℕ, Some}
 use Rattle.mte_tags.specs.declared.state.TagMode.TheVariants.{Sync}
 use Rattle.mte_tenant.specs.Machines.{Machine, after_attempt, after_slice_end}
 use Rattle.mte_sched.specs.Lives.{Session, Life, lives, life_among}
-use Rattle.tag_discipline.specs.CarefulRuns.{State, Live, no_chunks, HasFreeBlock}
-use Rattle.tag_discipline.specs.CarefulTenants.{state_of, before_service, live_after}
-use Rattle.tag_discipline.specs.CarefulTenants.{IsCarefulNext}
-use Rattle.tag_discipline.specs.CarefulSessions.{first_machine, live_of, IsCarefulIn}
-use Rattle.tag_discipline.specs.Laws.{IsOutOfReach}
-use Rattle.tag_discipline.specs.SoundHeaps.{Sound}
-use Rattle.tag_discipline.specs.Discipline.{AreOtherTags, given_tag}
-use Rattle.tag_discipline.specs.TenantLaws.{NextDeallocation}
+use Rattle.heap_laws.specs.CarefulRuns.{State, Live, no_chunks, HasFreeBlock}
+use Rattle.heap_laws.specs.CarefulTenants.{state_of, before_service, live_after}
+use Rattle.heap_laws.specs.CarefulTenants.{IsCarefulNext}
+use Rattle.heap_laws.specs.CarefulSessions.{first_machine, live_of, IsCarefulIn}
+use Rattle.heap_laws.specs.Laws.{IsOutOfReach}
+use Rattle.heap_laws.specs.SoundHeaps.{Sound}
+use Rattle.heap_laws.specs.Discipline.{AreOtherTags, given_tag}
+use Rattle.heap_laws.specs.TenantLaws.{NextDeallocation}
 use Rattle.heap_laws.specs.Frees.{HasFreedHeader, IsAborted}
 
 -- next: a careful attempt, with `left` steps of its slice left, after which P holds

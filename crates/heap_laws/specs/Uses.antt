@@ -7,11 +7,11 @@ use Rattle.scudo_secondary.specs.Mappings as secondary
 use Rattle.scudo_heap.specs.Chunks.{end_of}
 use Rattle.mte_tenant.specs.Machines.{Machine}
 use Rattle.mte_sched.specs.Lives.{Session, Life}
-use Rattle.tag_discipline.specs.LiveChunks.{BlockChunk, chunk_at}
-use Rattle.tag_discipline.specs.LivePages.{PageChunk, large_at}
-use Rattle.tag_discipline.specs.CarefulRuns.{State}
-use Rattle.tag_discipline.specs.CarefulSessions.{IsCarefulIn, state_in}
-use Rattle.tag_discipline.specs.SoundHeaps.{Sound}
+use Rattle.heap_laws.specs.LiveChunks.{BlockChunk, chunk_at}
+use Rattle.heap_laws.specs.LivePages.{PageChunk, large_at}
+use Rattle.heap_laws.specs.CarefulRuns.{State}
+use Rattle.heap_laws.specs.CarefulSessions.{IsCarefulIn, state_in}
+use Rattle.heap_laws.specs.SoundHeaps.{Sound}
 
 -- No read and no write through a pointer with a tag faults, checked or not, whose bytes are between
 -- two addresses.

@@ -1,4 +1,4 @@
-//! The laws of a heap through careful runs, as `tag_discipline` has them: of a tenant in the
+//! The laws of a heap through careful runs, as `tag_laws` has them: of a tenant in the
 //! synchronous mode that stores no tags itself, and whose frees and reallocations name live chunks
 //! with the headers that the heap wrote, or nothing that passes the heap's checks. Each law of a
 //! state that `Sound` holds of holds of each tenant of a session whose slices were careful

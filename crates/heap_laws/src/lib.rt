@@ -1,12 +1,24 @@
-//! What a heap does for a tenant of careful runs, beside its tags: a chunk is live, zero and usable
-//! when it is made, keeps its bytes, and is freed once.
+//! Laws of a heap and its tags, for a tenant that stores no tags itself, leaves the headers of its
+//! heap unwritten and makes careful calls: a chunk is live, zero and usable when it is made, keeps
+//! its bytes, is guarded by its tag, is freed once, and is then out of reach.
 #![tactic(auto)]
 
 mod laws;
+mod tag_laws;
+mod tenant_laws;
 
 pub use laws::{
     answers_are_pointers, answers_of_tenants_are_pointers, chunks_may_be_used,
     chunks_of_tenants_may_be_used, double_frees_abort, freed_chunks_stay_freed,
     lifetimes_are_guarded, new_chunks_are_live, new_chunks_are_zero, odd_distances_differ,
     other_chunks_stay, reallocations_free, reallocations_keep_bytes, tenants_take_turns,
+};
+pub use tag_laws::{
+    careful_runs_are_sound, chunks_are_apart, chunks_are_guarded, chunks_are_tagged,
+    freed_chunks_are_refused, freed_pages_are_refused, neighbours_differ, new_tags_differ,
+    reused_tags_differ,
+};
+pub use tenant_laws::{
+    careful_tenants_are_sound, chunks_of_tenants_are_guarded, freed_chunks_of_tenants_are_refused,
+    freed_pages_of_tenants_are_refused, reused_tags_of_tenants_differ,
 };

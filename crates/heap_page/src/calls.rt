@@ -6,7 +6,6 @@ use heap_bounds::{Block, CallText};
 use instruction_trace::Moment;
 use mte_backtrace::{FrameAddresses, Quoted};
 use mte_report::{Context, Report};
-use report_documents::Document;
 use run_book::{Book, BookChunk, BookEntry};
 use std::alloc::{AllocError, Global};
 use std::collections::BTreeMap;
@@ -51,12 +50,13 @@ fn newest_of(alloc: Global, live: &BTreeMap<u64, BookEntry>) -> Result<Vec<BookE
 
 /// Adds the addresses of the calls that led to heap calls.
 pub(crate) fn push_frames(
-    document: &Document<'_>,
+    alloc: Global,
+    report: &Report<'_>,
     entries: &[BookEntry],
     frames: &mut FrameAddresses,
 ) -> Result<(), AllocError> {
     for entry in entries {
-        let stack = document.report.stack_of(document.alloc, entry)?;
+        let stack = report.stack_of(alloc, entry)?;
         stack.push_frames(frames)?;
     }
     Ok(())

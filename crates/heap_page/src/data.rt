@@ -9,7 +9,6 @@ use crate::style::STYLE;
 use mte_backtrace::{FrameAddresses, FrameNames};
 use mte_flat::Flat;
 use mte_report::{Context, Report};
-use report_documents::Document;
 use run_book::BookEntry;
 use std::alloc::Global;
 use std::io;
@@ -17,12 +16,19 @@ use std::io::Write;
 
 /// A page over what happened to a tenant.
 #[derive(Clone, Copy)]
-pub struct HeapPage<'a>(pub &'a Document<'a>);
+pub struct HeapPage<'a> {
+    /// What texts and stacks take memory from.
+    pub alloc: Global,
+    /// What happened.
+    pub report: &'a Report<'a>,
+    /// The same as one object of JSON (RFC 8259).
+    pub run: &'a [u8],
+}
 
 impl<'a> HeapPage<'a> {
     /// Writes the page, in ASCII but for the letters of names.
     pub fn write<W: Write>(&self, out: &mut W, memory: &mut Flat) -> io::Result<()> {
-        let mut data = Vec::new(self.0.alloc);
+        let mut data = Vec::new(self.alloc);
         self.write_data(&mut data, memory)?;
         write!(out, "{BEFORE_STYLE}{STYLE}{BEFORE_DATA}")?;
         write_inside(out, data.as_slice())?;
@@ -30,19 +36,19 @@ impl<'a> HeapPage<'a> {
         out.flush()
     }
 
-    /// Writes the data: the document in JSON of the run, and what happened to the heap.
+    /// Writes the data: the run, and what happened to the heap.
     fn write_data<W: Write>(&self, out: &mut W, memory: &mut Flat) -> io::Result<()> {
+        let (alloc, report) = (self.alloc, self.report);
         write!(out, "{{\"run\":")?;
-        self.0.write_json(out, memory)?;
-        let entries = shown_calls(self.0.alloc, self.0.report.book)?;
-        let code = Code::of(self.0.alloc, self.0.report)?;
-        let mut frames = FrameAddresses::new(self.0.alloc);
-        push_frames(self.0, entries.as_slice(), &mut frames)?;
+        out.write_all(self.run)?;
+        let entries = shown_calls(alloc, report.book)?;
+        let code = Code::of(alloc, report)?;
+        let mut frames = FrameAddresses::new(alloc);
+        push_frames(alloc, report, entries.as_slice(), &mut frames)?;
         code.push_frames(&mut frames)?;
-        let (alloc, report) = (self.0.alloc, self.0.report);
         let names = report.names.of_frames(alloc, &frames)?;
         write_events(alloc, out, report, &names, entries.as_slice(), &code)?;
-        write_rows(out, self.0, entries.as_slice(), memory)?;
+        write_rows(alloc, out, report, entries.as_slice(), memory)?;
         write!(out, "}}")
     }
 }

@@ -1,9 +1,9 @@
 //! The rows of a page: 512 bytes each, with the tags of their granules at the end.
 
 use a64_bits::plain;
-use address_map::GRANULE_SIZE;
+use common::GRANULE_SIZE;
 use mte_flat::Flat;
-use report_documents::Document;
+use mte_report::Report;
 use run_book::BookEntry;
 use std::alloc::{AllocError, Global};
 use std::collections::BTreeMap;
@@ -84,17 +84,14 @@ impl ShownRows {
 
 /// Writes the rows: the address, and a digit a granule, or `.` where it has no tag.
 pub(crate) fn write_rows<W: Write>(
+    alloc: Global,
     out: &mut W,
-    document: &Document<'_>,
+    report: &Report<'_>,
     entries: &[BookEntry],
     memory: &mut Flat,
 ) -> io::Result<()> {
-    let address = document.report.address();
-    let rows = ShownRows::of(
-        document.alloc,
-        address.map(|address| plain(address)),
-        entries,
-    )?;
+    let address = report.address().map(|address| plain(address));
+    let rows = ShownRows::of(alloc, address, entries)?;
     write!(out, "\"rows\":[")?;
     let mut is_first = true;
     for start in rows.starts.keys() {

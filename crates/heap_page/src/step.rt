@@ -1,11 +1,10 @@
 //! What an instruction did, in few letters.
 
+use a64_access::{AccessForm, StoredTags};
 use a64_decode::decode;
 use a64_instr::Instr;
 use a64_registers::Regs;
-use heap_bounds::{access_of, base, signed_offset};
 use instruction_trace::{Moment, Nzcv};
-use mte_tags::tag_of;
 use std::fmt;
 
 /// A step: the index of its word; the registers that it changed, as `x8=f0`, `sp=3ffffff0`,
@@ -74,66 +73,21 @@ fn write_access<W: fmt::Write>(
     instr: &Instr,
     regs: &Regs,
 ) -> fmt::Result {
-    if let Some(access) = access_of(instr, regs) {
-        let (letter, bytes) = (if access.is_write { "w" } else { "r" }, access.len());
-        write!(f, " {letter}{:x}+{bytes}", access.addr)?;
+    let Some(form) = AccessForm::of(instr) else {
+        return Ok(());
+    };
+    if form.is_of_registers() {
+        let letter = if form.is_write() { "w" } else { "r" };
+        write!(f, " {letter}{:x}+{}", form.addr(regs), form.len())?;
     }
-    match tags_of(instr, regs) {
-        Some(stored) => write!(f, " {stored}"),
+    match form.stored_tags(regs) {
+        Some(
+            StoredTags {
+                addr,
+                granules,
+                tag,
+            },
+        ) => write!(f, " g{addr:x}+{granules}={tag:x}"),
         None => Ok(()),
     }
-}
-
-/// The tag of granules from an address on.
-#[derive(Clone, Copy)]
-struct StoredTags {
-    addr: u64,
-    granules: u8,
-    tag: u8,
-}
-
-impl fmt::Display for StoredTags {
-    fn fmt<W: fmt::Write>(&self, f: &mut fmt::Formatter<W>) -> fmt::Result {
-        let StoredTags {
-            addr,
-            granules,
-            tag,
-        } = self;
-        write!(f, "g{addr:x}+{granules}={tag:x}")
-    }
-}
-
-/// The tags that an instruction stores: STG and its kin that of a register, STGP that of its
-/// address (Arm ARM DDI 0487, C6.2).
-fn tags_of(instr: &Instr, regs: &Regs) -> Option<StoredTags> {
-    match *instr {
-        Instr::StG {
-            opc,
-            imm9,
-            mode,
-            rn,
-            rt,
-        } => Some(StoredTags {
-            addr: based(regs, rn, mode, i64::from(imm9)),
-            granules: if opc >= 2 { 2 } else { 1 },
-            tag: tag_of(base(regs, rt)),
-        }),
-        Instr::StGP { mode, imm7, rn, .. } => Some(StoredTags {
-            addr: based(regs, rn, mode, i64::from(imm7)),
-            granules: 1,
-            tag: tag_of(base(regs, rn)),
-        }),
-        _ => None,
-    }
-}
-
-/// An address some granules from a base on, or the base where it is written after the access
-/// (mode 1, post-index).
-fn based(regs: &Regs, rn: u8, mode: u8, granules: i64) -> u64 {
-    let offset = if mode == 1 {
-        0
-    } else {
-        signed_offset(granules).wrapping_mul(16)
-    };
-    base(regs, rn).wrapping_add(offset)
 }

@@ -2,7 +2,7 @@
 
 use crate::part::Part::{Hexadecimal, Number, Text};
 use crate::part::write_parts;
-use address_map::PAGE_SIZE;
+use common::PAGE_SIZE;
 use std::fmt;
 
 /// What a range of pages is for.

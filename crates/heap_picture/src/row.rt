@@ -1,14 +1,14 @@
 //! What a row of a picture shows.
 
 ghost use Rattle.std.specs.Prelude.{◌≡◌, ◌↔◌, ◌⊎◌, ◌+◌, ◌*◌, ◌<◌, ◌≤◌, IfSome, None};
-ghost use Rattle.address_map.specs.declared.limits.TheConstants.{GRANULE_SIZE};
+ghost use Rattle.common.specs.declared.limits.TheConstants.{GRANULE_SIZE};
 ghost use Rattle.heap_picture.specs.declared.layout.TheConstants.{GRANULES};
 
 use crate::cell::{CELL_WIDTH, Cell};
 use crate::layout::GRANULES;
 use crate::part::Part::{Number, Text};
 use crate::part::write_parts;
-use address_map::GRANULE_SIZE;
+use common::GRANULE_SIZE;
 use std::fmt;
 
 /// Whose a granule is.

@@ -1,8 +1,8 @@
 //! What a load brings into registers.
 
+use a64_access::{AccessForm, AccessKind};
 use a64_instr::Instr;
 use a64_registers::Regs;
-use heap_bounds::{access_of, zero_or};
 use std::fmt;
 
 /// What a load brings into registers.
@@ -10,7 +10,7 @@ use std::fmt;
 pub struct Loaded {
     addr: u64,
     /// How many bytes of each register.
-    bytes: u64,
+    bytes: u8,
     first: u64,
     /// The second register of a pair.
     second: Option<u64>,
@@ -18,15 +18,15 @@ pub struct Loaded {
 
 /// What the instruction loads, by the registers before and after it; `None` where it loads nothing.
 pub fn load_of(instr: &Instr, before: &Regs, after: &Regs) -> Option<Loaded> {
-    let access = access_of(instr, before)?;
-    if access.is_write {
+    let form = AccessForm::of(instr)?;
+    if !matches!(form.kind, AccessKind::Load) {
         return None;
     }
     Some(Loaded {
-        addr: access.addr,
-        bytes: access.bytes,
-        first: zero_or(after, access.first),
-        second: access.second.map(|register| zero_or(after, register)),
+        addr: form.addr(before),
+        bytes: form.bytes,
+        first: after.get(form.first % 32),
+        second: form.second.map(|register| after.get(register % 32)),
     })
 }
 

@@ -2,7 +2,7 @@
 
 use crate::instruction::Instruction;
 use crate::loaded::load_of;
-use crate::stores::stored;
+use crate::stored::store_of;
 use crate::written::written_by;
 use a64_bits::Flags;
 use a64_decode::decode;
@@ -74,7 +74,7 @@ impl<'a> fmt::Display for Effect<'a> {
             return Ok(());
         };
         write_kept(f, written_by(&instr), before, after)?;
-        if let Some(stored) = stored(&instr, before) {
+        if let Some(stored) = store_of(&instr, before) {
             return write!(f, "; {stored}");
         }
         match load_of(&instr, before, after) {

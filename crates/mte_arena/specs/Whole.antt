@@ -1,6 +1,6 @@
 -- What holds of the fields of an arena.
 use Rattle.std.specs.Prelude.{◌≡◌, ◌≤◌, length}
-use Rattle.address_map.specs.declared.limits.TheConstants.{MAX_FRAMES}
+use Rattle.common.specs.declared.limits.TheConstants.{MAX_FRAMES}
 use Rattle.mte_arena.specs.Blocks.{presence, AreBlocks}
 use Rattle.mte_arena.specs.declared.arena.Arena.TheInside.{Inside}
 

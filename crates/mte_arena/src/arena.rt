@@ -11,7 +11,7 @@ ghost use Rattle.mte_arena.specs.Blocks.{frame_of};
 
 use crate::packed::{half_of, set_half, set_run};
 use crate::region::{FreeingRight, Region, RegionStart, allocate, deallocate};
-use address_map::{MAX_FRAMES, PAGE_SIZE};
+use common::{MAX_FRAMES, PAGE_SIZE};
 use std::alloc::Global;
 use std::marker::Model;
 

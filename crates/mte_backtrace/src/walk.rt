@@ -5,7 +5,7 @@ ghost use Rattle.std.specs.Prelude.{◌≡◌};
 
 use a64_bits::plain;
 use a64_registers::Regs;
-use address_map::{SECONDARY_START, STACK_END};
+use common::{SECONDARY_START, STACK_END};
 use mte_tags::{Attrs, Tagged};
 
 /// The bytes of a frame record.

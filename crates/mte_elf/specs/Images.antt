@@ -6,7 +6,7 @@ use Rattle.std.specs.List.{list_any, list_all, starts_with}
 use Rattle.mte_elf.specs.Headers.{file_type_of, machine_of, entry_of, table_offset_of}
 use Rattle.mte_elf.specs.Headers.{header_size_of, header_count_of, headers_of, is_interpreter}
 use Rattle.mte_elf.specs.Headers.{segments_of}
-use Rattle.address_map.specs.declared.ranges.TheConstants.{IMAGE_START, IMAGE_END}
+use Rattle.common.specs.declared.ranges.TheConstants.{IMAGE_START, IMAGE_END}
 use Rattle.mte_elf.specs.declared.image.Segment.{Segment}
 use Rattle.mte_elf.specs.declared.error.ElfError.{ElfError}
 use Rattle.mte_elf.specs.declared.error.ElfError.TheVariants.{Short, NotElf64, NotAarch64, NotExec}

@@ -10,7 +10,7 @@ ghost use Rattle.mte_elf.specs.Pages.{image_page, page_or};
 
 use crate::image::{Plan, Segment};
 use crate::planning::{last_page_touched, pages_touched};
-use address_map::PAGE_SIZE;
+use common::PAGE_SIZE;
 use mte_tags::{Attrs, Paged};
 
 /// Maps the pages of an image and loads its bytes. `plan` is the file's plan, the pages below

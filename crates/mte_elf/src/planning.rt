@@ -3,7 +3,7 @@
 ghost use Rattle.std.specs.Prelude.{◌≡◌, ℕ, ◌+◌, ◌-◌, ◌*◌, ◌/◌, ◌^◌, ◌≤◌, ◌<◌, length, IfOk};
 ghost use Rattle.std.specs.Prelude.{IfErr, Err, Some, None, sum_by, true};
 ghost use Rattle.std.specs.List.{list_any, list_all};
-ghost use Rattle.obstacle.specs.Obstacles.{IfRefused};
+ghost use Rattle.common.specs.Obstacles.{IfRefused};
 ghost use Rattle.mte_elf.specs.Headers.{HasFileHeader, entry_of, segments_of};
 ghost use Rattle.mte_elf.specs.Images.{refusal_of, pages_of, has_table, is_in_range};
 ghost use Rattle.mte_elf.specs.Images.{header_refusal};
@@ -16,8 +16,7 @@ use crate::headers::{
     segments, table_offset,
 };
 use crate::image::{Plan, Segment};
-use address_map::{IMAGE_END, IMAGE_START, PAGE_SIZE};
-use obstacle::Obstacle;
+use common::{IMAGE_END, IMAGE_START, Obstacle, PAGE_SIZE};
 use std::alloc::Global;
 
 /// The bytes of a page.

@@ -3,7 +3,7 @@
 
 ghost use Rattle.std.specs.Prelude.{◌≡◌, ◌<◌};
 
-use list_copy::copy_list;
+use common::copy_list;
 use std::alloc::{AllocError, Global};
 
 /// A page and the slot that it was put into.

@@ -15,7 +15,7 @@ use crate::mapped::{MappedPage, mapped_slots};
 use crate::slot::{Slot, find, holds, new_slot};
 use crate::slots::{restore_slots, take_slot, unmarked_slots};
 use a64_bits::plain;
-use list_copy::copy_list;
+use common::copy_list;
 use mte_tags::{Attrs, NoPagesLeft, PageStore, Paged, TagMode, TagState, replace_bytes};
 use std::alloc::{AllocError, Global};
 

@@ -3,7 +3,7 @@ use Rattle.std.proofs.lemmas.List.{length-set, length-replicate}
 use Rattle.std.specs.List.{refill}
 use Rattle.std.specs.Prelude.{◌≢◌, sum, get_or, slice_set}
 use Rattle.std.proofs.Common.{◌≡◌, ℕ, zero, suc, ◌+◌, ◌-◌, ◌<◌, ◌≤◌, List, [], ◌∷◌, ◌++◌, length, replicate, Option, Some, None, refl, sym, ap, ◌∙◌, subst, arith, inl, inr, get_or-set_same, get_or-set_other}
-use Rattle.address_map.specs.declared.limits.TheConstants.{MAX_FRAMES}
+use Rattle.common.specs.declared.limits.TheConstants.{MAX_FRAMES}
 use Rattle.mte_arena.specs.Frames.{Frame, IsLive, zero_frame, make_frame, frame_at, with_bytes_cases}
 use Rattle.mte_frames.specs.Pool.{Pool, make_pool, frames_left, reserved_by, taken_by, IsHeldBy, IsSound, is_owned, owned_by}
 use Rattle.mte_frames.specs.Whole.{times, vacant, pool_of, IsPool}

@@ -11,7 +11,7 @@
 --     KeepsOthers q p n           from p to n all other quotas, and the frames out under them, stay
 use Rattle.std.specs.Prelude.{◌≡◌, ◌≢◌, ◌↔◌, ℕ, ◌+◌, ◌-◌, ◌<◌, ◌≤◌, if◌then◌else◌}
 use Rattle.std.specs.Prelude.{nat_eq, List, [], ◌∷◌, length, sum, get_or, Option, Some, None}
-use Rattle.address_map.specs.declared.limits.TheConstants.{MAX_FRAMES}
+use Rattle.common.specs.declared.limits.TheConstants.{MAX_FRAMES}
 use Rattle.mte_arena.specs.Blocks.{with_block}
 use Rattle.mte_arena.specs.Frames.{Frame, IsLive, with_bytes, with_bytes_cases}
 

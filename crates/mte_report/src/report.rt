@@ -1,13 +1,14 @@
 //! What happened to a tenant that did not exit, in words.
 
 use crate::explanation::Explanation;
+use a64_access::AccessForm;
 use a64_bits::plain;
 use a64_decode::decode;
 use a64_registers::Regs;
 use circular_buffer::HeapCircularBuffer;
 use elf_symbols::SymbolOffset;
-use heap_bounds::{RangeUse, access_of};
-use instruction_trace::{Instruction, Moment, Nzcv, TraceLine, Turn, tell_turns};
+use heap_bounds::RangeUse;
+use instruction_trace::{Instruction, Moment, Nzcv, StatisticsTable, TraceLine, Turn, tell_turns};
 use mte_backtrace::{FrameNames, Names};
 use mte_flat::Flat;
 use mte_svc::{Status, TenantParts};
@@ -17,7 +18,6 @@ use run_cause::{
     Cause, Evidence, Finding, ForbiddenAccess, LastStore, Violation, abort_words, breakpoint_words,
     family_of, fault_words, is_undefined,
 };
-use run_statistics::StatisticsTable;
 use scudo_heap::HeapAbort;
 use std::alloc::Global;
 use std::io::Write;
@@ -245,9 +245,9 @@ fn size_of_access(memory: &mut Flat, regs: &Regs, addr: u64) -> AccessSize {
     };
     AccessSize(
         decode(word)
-            .and_then(|instr| access_of(&instr, regs))
-            .filter(|access| plain(access.addr) == addr)
-            .map(|access| access.len()),
+            .and_then(|instr| AccessForm::of(&instr))
+            .filter(|form| form.is_of_registers() && plain(form.addr(regs)) == addr)
+            .map(|form| form.len()),
     )
 }
 

@@ -3,6 +3,7 @@
 use crate::context::Context;
 use crate::explanation::Explanation;
 use crate::report::Report;
+use common::ShellWord;
 use debug_variables::Declaration;
 use named_places::PlaceKind;
 use run_book::{Book, BookChunk, BookEntry, EntryText};
@@ -10,7 +11,6 @@ use run_cause::{Cause, FoundCause};
 use std::alloc::Global;
 use std::io;
 use std::io::Write;
-use terminal_text::ShellWord;
 
 impl<'a> Report<'a> {
     /// Writes the calls that led to the end, then the cause, and the calls of the chunks that it

@@ -2,13 +2,15 @@
 #![tactic(auto)]
 
 use command_run::run_program;
+use gdb_run::debug_program;
 use run_options::{EarlyEnd, read_command_line};
-use run_terms::{Failure, report};
+use run_request::{Request, read_files, read_suppressions};
+use run_terms::{Failure, Options, report};
 use std::process::ExitCode;
 
 fn main(rt: HostRuntime) -> ExitCode {
     let status = match &read_command_line(&rt) {
-        Ok(options) => match run_program(&rt, options) {
+        Ok(options) => match run(&rt, options) {
             Ok(status) => status,
             Err(failure) => report(&rt, &failure),
         },
@@ -16,4 +18,21 @@ fn main(rt: HostRuntime) -> ExitCode {
         Err(EarlyEnd::OutOfMemory) => report(&rt, &Failure::Memory),
     };
     ExitCode::from(status)
+}
+
+/// Runs the tenant that is requested, or lets GDB debug it; returns the exit status.
+fn run<'a>(rt: &HostRuntime, options: &'a Options) -> Result<u8, Failure<'a>> {
+    let files = read_files(rt, options)?;
+    let suppressions = read_suppressions(rt, options)?;
+    let request = Request {
+        rt,
+        options,
+        files: files.as_slice(),
+        suppressions: &suppressions,
+    };
+    if options.is_debugged {
+        debug_program(&request)
+    } else {
+        run_program(&request)
+    }
 }

@@ -2,7 +2,7 @@
 use Rattle.std.proofs.Common.{◌≡◌, ℕ, zero, suc, ◌+◌, ◌-◌, ◌<◌, ◌≤◌, List, [], ◌∷◌, length, sum, get_or, slice_set, Option, refl, ap, sym, ◌∙◌, arith, inl, inr}
 use Rattle.std.proofs.lemmas.Bool.{cases_eq}
 use Rattle.std.proofs.lemmas.Grind.{same_number_lists}
-use Rattle.address_map.specs.declared.limits.TheConstants.{MAX_PAGES}
+use Rattle.common.specs.declared.limits.TheConstants.{MAX_PAGES}
 use Rattle.mte_frames.specs.Pool.{Pool, make_pool, IsSound, KeepsOthers, taken_by, reserved_by}
 use Rattle.mte_frames.proofs.Counts.{sum-set, within_of}
 use Rattle.mte_translate.specs.Tables.{Root, pages_of, IsTable, IsCached}

@@ -1,8 +1,8 @@
 -- Where a live tenant's memory is, and what holds of it in a pool and a translation lookaside
 -- buffer that all tenants share.
 use Rattle.std.specs.Prelude.{◌≡◌, ℕ, ◌+◌, ◌<◌, ◌≤◌, List, None}
-use Rattle.address_map.specs.declared.limits.TheConstants.{MAX_PAGES}
-use Rattle.address_map.specs.declared.ranges.TheConstants.{STACK_PAGES}
+use Rattle.common.specs.declared.limits.TheConstants.{MAX_PAGES}
+use Rattle.common.specs.declared.ranges.TheConstants.{STACK_PAGES}
 use Rattle.mte_tags.specs.Memory.{Memory}
 use Rattle.mte_frames.specs.Pool.{Pool, frames_left, taken_by, reserved_by}
 use Rattle.mte_translate.specs.Tables.{pages_of, IsCached}

@@ -7,7 +7,7 @@ ghost use Rattle.std.specs.Prelude.{option_copied, option_map};
 ghost use Rattle.std.specs.Option.{option_copied_mut};
 ghost use Rattle.std.specs.Borrow.{sem};
 ghost use Rattle.std.specs.List.{list_any};
-ghost use Rattle.obstacle.specs.Obstacles.{IfRefused};
+ghost use Rattle.common.specs.Obstacles.{IfRefused};
 ghost use Rattle.mte_tenant.specs.Ledger.{admission_refusal, facts_of, has_id, has_live_id};
 ghost use Rattle.mte_tenant.specs.Ledger.{is_bad, is_live, numbers_of};
 ghost use Rattle.mte_sched.specs.Tenants.{entries_in, tenants_in};
@@ -20,7 +20,7 @@ use crate::memory::start_memory;
 use crate::tenant::{Caches, Holding, Live, Tenant};
 use crate::turns::{slice_at, stop_at};
 use a64_run::OpCache;
-use address_map::MAX_FRAMES;
+use common::{MAX_FRAMES, Obstacle};
 use mte_arena::{Arena, ArenaError, FRAME_BYTES};
 use mte_frames::FramePool;
 use mte_space::RememberedPages;
@@ -29,7 +29,6 @@ use mte_tenant::{
     Admission, AdmitError, LedgerFacts, NotLive, accept, accepted_means, start_parts,
 };
 use mte_translate::Tlb;
-use obstacle::Obstacle;
 use scudo_heap::condition_of_calls;
 use std::alloc::{AllocError, Global};
 

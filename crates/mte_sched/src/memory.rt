@@ -16,7 +16,7 @@ ghost use Rattle.mte_sched.specs.Memories.{memory_at, IsTenantMemory, IsPlanned,
 ghost use Rattle.mte_svc.specs.Ready.{IsReady};
 
 use crate::tenant::{Caches, Live};
-use address_map::MAX_PAGES;
+use common::MAX_PAGES;
 use mte_elf::Plan;
 use mte_frames::{FramePool, Quota};
 use mte_space::{RememberedPages, Space, Tenancy, pages_of_a_space, unmap_all};

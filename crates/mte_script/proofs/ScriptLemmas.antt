@@ -13,9 +13,9 @@ use Rattle.mte_script.specs.declared.event.Event.{Event}
 use Rattle.mte_script.specs.declared.error.ScriptFault.{ScriptFault}
 use Rattle.mte_script.specs.declared.error.ScriptFault.TheVariants.{Syntax, TooManyEvents}
 use Rattle.mte_script.specs.declared.error.ScriptError.{ScriptError}
-use Rattle.obstacle.specs.declared.Obstacle.{Obstacle}
-use Rattle.obstacle.specs.declared.Obstacle.TheVariants.{OutOfMemory, Refused}
-use Rattle.obstacle.specs.Obstacles.{IfRefused}
+use Rattle.common.specs.declared.obstacle.Obstacle.{Obstacle}
+use Rattle.common.specs.declared.obstacle.Obstacle.TheVariants.{OutOfMemory, Refused}
+use Rattle.common.specs.Obstacles.{IfRefused}
 use Rattle.mte_script.specs.Faults.{IsLineFault, IsFirstFault}
 use Rattle.mte_script.specs.Scripts.{after_event, event_of_line, readings, events_of, Parsed}
 use Rattle.mte_script.specs.Scripts.{words_of, digits_value, decimal_of, is_digit}

@@ -5,7 +5,7 @@ use Rattle.std.specs.Prelude.{filter, codes, Option, Some, None, is_some, unwrap
 use Rattle.std.specs.Prelude.{option_to_list, Result, Ok, Err, if◌then◌else◌}
 use Rattle.std.specs.List.{list_all, starts_with}
 use Rattle.std.specs.Int.{from_be_bytes, w64}
-use Rattle.address_map.specs.declared.limits.TheConstants.{MAX_STEPS}
+use Rattle.common.specs.declared.limits.TheConstants.{MAX_STEPS}
 use Rattle.mte_tags.specs.declared.state.TagMode.{TagMode}
 use Rattle.mte_tags.specs.declared.state.TagMode.TheVariants.{Sync, Async}
 use Rattle.hex.specs.Hex.{decode_sized}

@@ -7,7 +7,7 @@ ghost use Rattle.mte_script.specs.Scripts.{is_admission, is_number, is_seed, num
 use crate::error::ScriptFault;
 use crate::event::Event;
 use crate::text::{decimal, is, sixteen_digits};
-use address_map::MAX_STEPS;
+use common::MAX_STEPS;
 use mte_tags::TagMode;
 use tenant_terms::Terms;
 

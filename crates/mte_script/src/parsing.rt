@@ -2,7 +2,7 @@
 
 ghost use Rattle.std.specs.Prelude.{◌≡◌, ◌≤◌, ◌+◌, length, vec_capacity, Some};
 ghost use Rattle.std.specs.Prelude.{Ok, Err, IfOk, IfErr};
-ghost use Rattle.obstacle.specs.Obstacles.{IfRefused};
+ghost use Rattle.common.specs.Obstacles.{IfRefused};
 ghost use Rattle.mte_script.specs.Scripts.{script_events};
 ghost use Rattle.mte_script.specs.Faults.{IsFirstFault, IsLineFault};
 
@@ -10,7 +10,7 @@ use crate::error::{ScriptError, ScriptFault};
 use crate::event::Event;
 use crate::grammar::event_of;
 use crate::text::{WORD_LIMIT, read_words};
-use obstacle::Obstacle;
+use common::Obstacle;
 use std::alloc::Global;
 
 /// The most events of a script.

@@ -3,8 +3,8 @@ use Rattle.std.specs.Prelude.{◌≡◌, ℕ, List, length, Ok, Err}
 use Rattle.mte_streams.specs.Writing.{WriteLog, WroteAll, WrotePart}
 use Rattle.mte_script.specs.declared.event.Event.{Event}
 use Rattle.mte_script.specs.declared.error.ScriptError.{ScriptError}
-use Rattle.obstacle.specs.declared.Obstacle.{Obstacle}
-use Rattle.obstacle.specs.declared.Obstacle.TheVariants as obstacle
+use Rattle.common.specs.declared.obstacle.Obstacle.{Obstacle}
+use Rattle.common.specs.declared.obstacle.Obstacle.TheVariants as obstacle
 use Rattle.mte_script.specs.Scripts.{script_events}
 use Rattle.mte_session.specs.declared.session.SessionError.{SessionError}
 use Rattle.mte_session.specs.declared.session.SessionError.TheVariants.{Script, OutOfMemory, Write}

@@ -2,7 +2,7 @@
 
 ghost use Rattle.std.specs.Prelude.{◌≡◌, [], ◌≤◌, map, OnOk, OnErr, IfOk, IfErr, Err, Some};
 ghost use Rattle.std.specs.Prelude.{None};
-ghost use Rattle.obstacle.specs.Obstacles.{IfRefused};
+ghost use Rattle.common.specs.Obstacles.{IfRefused};
 ghost use Rattle.mte_streams.specs.Writing.{Writes};
 ghost use Rattle.mte_sched.specs.Contents.{after_call};
 ghost use Rattle.mte_sched.specs.Hosts.{content_of};
@@ -16,10 +16,10 @@ ghost use Rattle.mte_session.specs.Outcomes.{session_error, Reported, Failed};
 use crate::files::admission_of;
 use crate::refusals::write_refusal;
 use crate::report::write_report;
+use common::Obstacle;
 use mte_sched::{Host, Refusal, Refused, Tenant, ledger_follows, tenants_are_alone};
 use mte_script::{Event, ScriptError, ScriptFault, parse_script};
 use mte_streams::{Sink, WriteFault};
-use obstacle::Obstacle;
 use std::alloc::{AllocError, Global};
 use thiserror::Error;
 

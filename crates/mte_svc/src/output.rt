@@ -4,7 +4,7 @@ ghost use Rattle.std.specs.Prelude.{◌≡◌, ◌≤◌, ◌+◌, ◌-◌, ◌+
 ghost use Rattle.std.specs.Prelude.{is_ok, if◌then◌else◌, vec_len, vec_capacity, replicate};
 ghost use Rattle.mte_tags.specs.Accesses.{read_fault, read_bytes, after_read, result_of};
 
-use list_copy::copy_list;
+use common::copy_list;
 use mte_tags::{MemFault, Tagged};
 use std::alloc::{AllocError, Global};
 use std::marker::Model;

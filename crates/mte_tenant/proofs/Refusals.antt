@@ -2,8 +2,8 @@
 use Rattle.std.proofs.Common.{◌≡◌, ℕ, ◌+◌, ◌<◌, ◌≤◌, ◌==◌, nat_lt, nat_le, Bool, true, false, Option, Some, None, List, [], ◌∷◌, refl, arith}
 use Rattle.std.specs.Prelude.{option_map}
 use Rattle.std.proofs.lemmas.Bool.{ltb-false, leb-false, eqb-false}
-use Rattle.address_map.specs.declared.limits.TheConstants.{MAX_PAGES, MAX_OUTPUT}
-use Rattle.address_map.specs.declared.ranges.TheConstants.{STACK_PAGES}
+use Rattle.common.specs.declared.limits.TheConstants.{MAX_PAGES, MAX_OUTPUT}
+use Rattle.common.specs.declared.ranges.TheConstants.{STACK_PAGES}
 use Rattle.mte_elf.specs.Images.{refusal_of, pages_of}
 use Rattle.mte_elf.specs.declared.error.ElfError.{ElfError}
 use Rattle.mte_elf.proofs.LoadingLemmas.{or_false}

@@ -4,8 +4,8 @@ use Rattle.std.specs.Prelude.{ℕ, ◌+◌, ◌-◌, ◌*◌, ◌==◌, nat_lt, 
 use Rattle.std.specs.Prelude.{false, List, [], ◌∷◌, ◌++◌, map, sum_by, count_by, Option, Some, None}
 use Rattle.std.specs.Prelude.{option_map, if◌then◌else◌}
 use Rattle.std.specs.List.{list_any}
-use Rattle.address_map.specs.declared.limits.TheConstants.{MAX_PAGES, MAX_OUTPUT}
-use Rattle.address_map.specs.declared.ranges.TheConstants.{STACK_PAGES}
+use Rattle.common.specs.declared.limits.TheConstants.{MAX_PAGES, MAX_OUTPUT}
+use Rattle.common.specs.declared.ranges.TheConstants.{STACK_PAGES}
 use Rattle.mte_elf.specs.Images.{refusal_of, pages_of}
 use Rattle.mte_tenant.specs.declared.admission.TheConstants.{MAX_LIVE}
 use Rattle.mte_tenant.specs.declared.admission.LedgerFacts.{LedgerFacts}

@@ -2,7 +2,7 @@
 
 ghost use Rattle.std.specs.Prelude.{◌≡◌, ◌↔◌, ◌+◌, ◌<◌, ◌≤◌, IfOk, IfErr, OnOk, IsErrOf, Some};
 ghost use Rattle.std.specs.Prelude.{None, IsTrue, false, option_map};
-ghost use Rattle.obstacle.specs.Obstacles.{IfRefused};
+ghost use Rattle.common.specs.Obstacles.{IfRefused};
 ghost use Rattle.mte_elf.specs.Headers.{entry_of, segments_of};
 ghost use Rattle.mte_elf.specs.Images.{refusal_of, pages_of};
 ghost use Rattle.mte_tenant.specs.declared.admission.AdmitError.TheVariants.{Image};
@@ -11,9 +11,8 @@ ghost use Rattle.mte_tenant.specs.Ledger.{charge_of, is_bad, first_of, admission
 ghost use Rattle.mte_tenant.specs.Names.{admit_name, not_live_name};
 
 use crate::refusal::Refusal;
-use address_map::{MAX_OUTPUT, MAX_PAGES, STACK_PAGES};
+use common::{MAX_OUTPUT, MAX_PAGES, Obstacle, STACK_PAGES};
 use mte_elf::{ElfError, Plan, plan};
-use obstacle::Obstacle;
 use std::alloc::Global;
 use std::error::Error;
 use std::fmt;

@@ -2,7 +2,7 @@
 
 ghost use Rattle.std.specs.Prelude.{◌≡◌, ◌<◌, [], ◌∷◌, Some, None, true, false};
 ghost use Rattle.std.specs.Prelude.{IfOk, IfErr, IsErrOf, OnOk, OnErr};
-ghost use Rattle.obstacle.specs.Obstacles.{IfRefused};
+ghost use Rattle.common.specs.Obstacles.{IfRefused};
 ghost use Rattle.mte_tags.specs.Memory.{no_pages};
 ghost use Rattle.mte_svc.specs.Ready.{IsReady};
 ghost use Rattle.mte_svc.specs.Results.{is_running};
@@ -14,9 +14,9 @@ ghost use Rattle.mte_tenant.specs.Admissions.{start_in};
 use crate::admission::{Admission, AdmitError, LedgerFacts, accept, accepted_means, charge};
 use crate::machine::{fill, handle, settle, start_parts};
 use a64_step::{Decoder, run, steps_keep_pages};
+use common::Obstacle;
 use mte_svc::TenantParts;
 use mte_tags::Paged;
-use obstacle::Obstacle;
 use scudo_heap::condition_of_calls;
 use std::alloc::Global;
 

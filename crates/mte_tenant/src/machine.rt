@@ -20,7 +20,7 @@ ghost use Rattle.mte_tenant.specs.Machines.{after_outcome, after_stop, continues
 use crate::admission::Admission;
 use a64_run::{Edges, NoEdges, OpCache, known_words_stay, run_with_edges};
 use a64_step::{Outcome, Regs, steps_keep_pages};
-use address_map::{MAX_PAGES, PAGE_SIZE, STACK_END, STACK_PAGES, STACK_START};
+use common::{MAX_PAGES, PAGE_SIZE, STACK_END, STACK_PAGES, STACK_START};
 use mte_elf::{Plan, load};
 use mte_svc::{HeapCalls, Input, Output, Record, Status, SvcEnd, TenantParts, svc};
 use mte_tags::{Attrs, Paged, Rgsr, TagMode, Tagged};

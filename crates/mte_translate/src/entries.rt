@@ -7,7 +7,7 @@ ghost use Rattle.mte_translate.specs.Tables.{entry_at, is_valid, count_in, leaf_
 ghost use Rattle.mte_translate.specs.Tables.{HasEntry, frame_in};
 ghost use Rattle.mte_translate.specs.TableSteps.{Wrote};
 
-use address_map::{ADDRESS_END, MAX_FRAMES, PAGE_SIZE};
+use common::{ADDRESS_END, MAX_FRAMES, PAGE_SIZE};
 use mte_frames::FramePool;
 use mte_tags::Attrs;
 

@@ -3,7 +3,7 @@
 
 ghost use Rattle.std.specs.Prelude.{◌≡◌, ◌≢◌, ℕ, ◌+◌, ◌*◌, ◌/◌, ◌<◌, ◌≤◌};
 ghost use Rattle.std.specs.Prelude.{true, false};
-ghost use Rattle.address_map.specs.declared.limits.TheConstants.{MAX_FRAMES};
+ghost use Rattle.common.specs.declared.limits.TheConstants.{MAX_FRAMES};
 ghost use Rattle.mte_frames.specs.Pool.{IsHeldBy, HasFrameLeft, taken_by};
 ghost use Rattle.mte_translate.specs.Tables.{entry_at, is_valid, count_in, walk_at};
 ghost use Rattle.mte_translate.specs.Tables.{IsTreeOf, IsSlotOf, IsPageOf, IsApart};

@@ -1,57 +1,16 @@
-//! How an instruction forms the address that it accesses.
+//! The accesses of which variables are judged.
 
-use a64_instr::Instr;
+use a64_access::{AccessForm, AccessKind, AddressingMode};
+use shadow_memory::Step;
 
-/// How an instruction forms the address that it accesses.
-#[derive(Clone, Copy, PartialEq, Eq)]
-pub(crate) enum AddressForm {
-    /// A register.
-    Plain,
-    /// A register and a constant other than 0.
-    Constant,
-    /// A register and another.
-    Indexed,
-    /// A register, which is moved behind the access.
-    Behind,
-    /// A register, which is moved in front of the access.
-    Front,
-}
-
-/// A base register and what is added to it.
-#[derive(Clone, Copy)]
-pub(crate) struct AddressParts {
-    /// The base register.
-    pub(crate) base: u8,
-    /// How the address is formed.
-    pub(crate) form: AddressForm,
-}
-
-impl AddressParts {
-    /// Those of an instruction that loads or stores.
-    pub(crate) fn of(instr: &Instr) -> Option<AddressParts> {
-        let (base, form) = match *instr {
-            Instr::LdStReg { rn, .. } => (rn, AddressForm::Indexed),
-            Instr::LdStImm { rn, imm12, .. } => (rn, constant_form(imm12 == 0)),
-            Instr::LdStUnscaled { rn, imm9, .. } => (rn, constant_form(imm9 == 0)),
-            Instr::PairOff { rn, imm7, .. } => (rn, constant_form(imm7 == 0)),
-            Instr::LdStPost { rn, .. } | Instr::PairPost { rn, .. } => (rn, AddressForm::Behind),
-            Instr::LdStPre { rn, .. } | Instr::PairPre { rn, .. } => (rn, AddressForm::Front),
-            _ => return None,
-        };
-        Some(AddressParts { base, form })
-    }
-
-    /// Whether the base register is moved.
-    pub(crate) fn writes_back(&self) -> bool {
-        matches!(self.form, AddressForm::Behind | AddressForm::Front)
-    }
-}
-
-/// The form of a register and a constant.
-fn constant_form(is_zero: bool) -> AddressForm {
-    if is_zero {
-        AddressForm::Plain
+/// How an instruction loads or stores registers by a base register, and no tag with them.
+pub(crate) fn form_by_base(step: &Step<'_>) -> Option<AccessForm> {
+    let form = step.form?;
+    let is_plain = matches!(form.kind, AccessKind::Load | AccessKind::Store);
+    let is_literal = matches!(form.mode, AddressingMode::Literal(_));
+    if is_plain && !is_literal {
+        Some(form)
     } else {
-        AddressForm::Constant
+        None
     }
 }

@@ -1,11 +1,12 @@
 //! Whether an access by a pointer to a variable is one of the variable's bytes.
 
-use crate::access_form::{AddressForm, AddressParts};
+use crate::access_form::form_by_base;
 use crate::place::{NamedPlace, PlaceKind, PlaceText};
 use crate::places::NamedPlaces;
 use crate::table::PlaceTable;
+use a64_access::{AccessForm, AddressingMode};
 use a64_bits::plain;
-use address_map::{IMAGE_END, IMAGE_START, STACK_END, STACK_START};
+use common::{IMAGE_END, IMAGE_START, STACK_END, STACK_START};
 use debug_variables::{Neighbor, VariableName};
 use shadow_memory::{AccessedBytes, OriginKind, PointerOrigin, Step};
 
@@ -53,8 +54,8 @@ impl NamedPlaces {
         let index = origin.place()?;
         let place = self.table.get(index)?;
         let access = step.access?;
-        let parts = AddressParts::of(step.instr)?;
-        let strictness = self.strictness(step, parts, index);
+        let form = form_by_base(step)?;
+        let strictness = self.strictness(step, &form, index);
         let found = self.judge_bytes(place, access.bytes, strictness);
         if found.is_some() || access.second.is_none() {
             return found;
@@ -65,21 +66,26 @@ impl NamedPlaces {
     /// How an access is judged: each one of a function that was not optimized, but for those from a
     /// pointer to its frame by a constant, which is one for several variables; of another function
     /// those by an index, by a pointer that was moved, and by one that was passed to it.
-    fn strictness(&self, step: &Step<'_>, parts: AddressParts, index: usize) -> Strictness {
-        let AddressParts { base, form } = parts;
+    fn strictness(&self, step: &Step<'_>, form: &AccessForm, index: usize) -> Strictness {
+        let (base, mode) = (form.base, form.mode);
         let is_exact = self.is_exact_at(step.before.pc);
         let (is_moved, is_fresh) = (self.marks.is_moved(base), self.marks.is_fresh(base));
         let is_own = self.is_own(step, index, base);
-        let is_above = match form {
-            AddressForm::Indexed | AddressForm::Behind => true,
-            AddressForm::Plain => is_moved,
-            AddressForm::Front => is_moved || !is_own,
-            AddressForm::Constant => !is_own && self.marks.is_passed(base),
+        let is_above = match mode {
+            AddressingMode::RegisterOffset(_) | AddressingMode::PostIndexed => true,
+            AddressingMode::Offset(0) => is_moved,
+            AddressingMode::PreIndexed(_) => is_moved || !is_own,
+            _ => !is_own && self.marks.is_passed(base),
         };
-        let is_shared = form == AddressForm::Constant && self.may_be_of_top(step, index);
+        let is_at_constant = match mode {
+            AddressingMode::Offset(bytes) => bytes != 0,
+            _ => false,
+        };
+        let is_indexed = matches!(mode, AddressingMode::RegisterOffset(_));
+        let is_shared = is_at_constant && self.may_be_of_top(step, index);
         Strictness {
             is_above: (is_exact && !is_shared) || is_above,
-            is_below: is_exact && self.is_below(index, form == AddressForm::Indexed && is_fresh),
+            is_below: is_exact && self.is_below(index, is_indexed && is_fresh),
             is_lenient: !is_exact && is_own,
         }
     }

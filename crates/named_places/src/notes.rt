@@ -1,9 +1,10 @@
 //! What instructions make of pointers to variables.
 
-use crate::access_form::{AddressForm, AddressParts};
+use crate::access_form::form_by_base;
 use crate::place::PlaceKind;
 use crate::places::NamedPlaces;
 use crate::table::PAGE;
+use a64_access::{AccessForm, AddressingMode};
 use a64_bits::plain;
 use a64_instr::Instr;
 use a64_registers::Regs;
@@ -273,16 +274,16 @@ impl NamedPlaces {
 
     /// Notes a load or a store.
     fn note_access(&mut self, step: &Step<'_>, shadow: &mut Shadow) -> Result<(), AllocError> {
-        let (Some(access), Some(parts)) = (step.access, AddressParts::of(step.instr)) else {
+        let Some(form) = form_by_base(step) else {
             return Ok(());
         };
-        if parts.writes_back() && parts.base < 31 {
-            self.note_write_back(step, shadow, parts)?;
+        if form.writes_back() && form.base < 31 {
+            self.note_write_back(step, shadow, &form)?;
         }
-        if !access.bytes.is_write {
-            let is_of_frame = parts.base == STACK_POINTER || parts.base == FRAME_POINTER;
-            self.note_loaded(access.first, is_of_frame);
-            if let Some(second) = access.second {
+        if !form.is_write() {
+            let is_of_frame = form.base == STACK_POINTER || form.base == FRAME_POINTER;
+            self.note_loaded(form.first, is_of_frame);
+            if let Some(second) = form.second {
                 self.note_loaded(second, is_of_frame);
             }
         }
@@ -304,10 +305,11 @@ impl NamedPlaces {
         &mut self,
         step: &Step<'_>,
         shadow: &mut Shadow,
-        parts: AddressParts,
+        form: &AccessForm,
     ) -> Result<(), AllocError> {
-        let base = parts.base;
-        let is_first = parts.form == AddressForm::Front && !self.marks.is_moved(base);
+        let base = form.base;
+        let is_pre_indexed = matches!(form.mode, AddressingMode::PreIndexed(_));
+        let is_first = is_pre_indexed && !self.marks.is_moved(base);
         if let Some(index) = shadow.register(base).pointer().place() {
             if is_first && index != PAGE {
                 self.note_other_variable(step, shadow, base, index)?;

@@ -1,10 +1,9 @@
 //! What loads and stores do to pointers.
 
 use crate::shadow::Shadow;
+use a64_access::{AccessForm, AccessKind, LoadExtension};
 use a64_bits::plain;
-use a64_instr::Instr;
 use a64_registers::Regs;
-use address_map::GRANULE_SIZE;
 use shadow_memory::{AccessedBytes, Provenance, RegisterAccess, Step};
 use std::alloc::AllocError;
 
@@ -15,13 +14,13 @@ impl Shadow {
     /// Notes a load or a store; whether the instruction is one. A base register that is written
     /// back points where it did.
     pub(crate) fn note_access(&mut self, step: &Step<'_>) -> Result<bool, AllocError> {
-        let Some(access) = step.access else {
-            return Ok(self.note_tags(step));
+        let Some(form) = &step.form else {
+            return Ok(false);
         };
-        if access.bytes.is_write {
-            self.note_store(&access)?;
-        } else {
-            self.note_load(step, &access);
+        match &step.access {
+            Some(access) if access.bytes.is_write => self.note_store(access)?,
+            Some(access) => self.note_load(step, access),
+            None => self.note_zeros(form, step.before),
         }
         Ok(true)
     }
@@ -73,42 +72,19 @@ impl Shadow {
                 .unwrap_or(0);
             return Provenance::whole(self.by_value(number));
         }
-        if is_signed(step.instr) {
+        if is_signed(step) {
             Provenance::NONE
         } else {
             found
         }
     }
 
-    /// Notes a load or a store of tags, of which some store zeros; whether the instruction is one.
-    fn note_tags(&mut self, step: &Step<'_>) -> bool {
-        match *step.instr {
-            Instr::Ldg { .. } => true,
-            Instr::StG {
-                opc,
-                imm9,
-                mode,
-                rn,
-                ..
-            } => {
-                let granules = if mode == 1 { 0 } else { i64::from(imm9) };
-                let addr = tagged_granule(step.before, rn, granules);
-                let count = if opc >= 2 { 2 } else { 1 };
-                if opc % 2 == 1 {
-                    self.memory.clear(plain(addr), count * GRANULE_SIZE);
-                }
-                true
-            }
-            _ => false,
+    /// Notes the zeros that are stored with tags.
+    fn note_zeros(&mut self, form: &AccessForm, regs: &Regs) {
+        if matches!(form.kind, AccessKind::StoreZeros) {
+            self.memory.clear(plain(form.addr(regs)), form.len());
         }
     }
-}
-
-/// The granule that is a number of granules from the address in a register, or in SP for 31.
-fn tagged_granule(regs: &Regs, rn: u8, granules: i64) -> u64 {
-    let base = regs.x.get(usize::from(rn)).copied().unwrap_or(regs.sp);
-    let offset = u64::from_le_bytes(granules.wrapping_mul(16).to_le_bytes());
-    base.wrapping_add(offset)
 }
 
 /// A number of bytes that a register may have.
@@ -117,17 +93,7 @@ fn small_count(count: u64) -> u8 {
 }
 
 /// Whether a load extends the sign of what it loads.
-fn is_signed(instr: &Instr) -> bool {
-    match *instr {
-        Instr::LdStImm { opc, .. }
-        | Instr::LdStUnscaled { opc, .. }
-        | Instr::LdStPost { opc, .. }
-        | Instr::LdStPre { opc, .. }
-        | Instr::LdStReg { opc, .. }
-        | Instr::LdLit { opc, .. } => opc >= 2,
-        Instr::PairPost { opc, .. } | Instr::PairOff { opc, .. } | Instr::PairPre { opc, .. } => {
-            opc == 1
-        }
-        _ => false,
-    }
+fn is_signed(step: &Step<'_>) -> bool {
+    step.form
+        .is_some_and(|form| !matches!(form.extension, LoadExtension::Zero))
 }

@@ -2,11 +2,12 @@
 
 use crate::chunk_table::TracedChunk;
 use crate::shadow::{Shadow, is_in_heap};
+use a64_access::{AccessForm, AddressingMode};
 use a64_bits::plain;
-use a64_instr::Instr;
-use address_map::PAGE_SIZE;
+use a64_instr::fields::RegisterOffset;
+use common::PAGE_SIZE;
 use heap_functions::HeapFunction;
-use shadow_memory::{AccessedBytes, OriginKind, PointerOrigin, RegisterAccess, Sign};
+use shadow_memory::{AccessedBytes, OriginKind, PointerOrigin, Sign, Step};
 use std::alloc::AllocError;
 
 /// What a pointer was used for that its chunk does not allow.
@@ -51,11 +52,13 @@ impl Shadow {
     /// it did not complete, only what is known of its pointer counts.
     pub fn judge(
         &mut self,
-        instr: &Instr,
-        access: &RegisterAccess,
+        step: &Step<'_>,
         is_completed: bool,
     ) -> Result<Option<Misuse>, AllocError> {
-        let origin = self.address_origin(instr)?;
+        let (Some(form), Some(access)) = (&step.form, &step.access) else {
+            return Ok(None);
+        };
+        let origin = self.address_origin(form)?;
         if origin == PointerOrigin::STACK || !(is_completed || origin.chunk().is_some()) {
             return Ok(None);
         }
@@ -66,34 +69,16 @@ impl Shadow {
         Ok(self.judge_bytes(origin, access.bytes.next()))
     }
 
-    /// Where the pointer points by which an instruction loads or stores.
-    pub fn address_origin(&mut self, instr: &Instr) -> Result<PointerOrigin, AllocError> {
-        match *instr {
-            Instr::LdStReg {
-                size,
-                rm,
-                option,
-                s,
-                rn,
-                ..
-            } => {
-                let is_plain = option % 4 == 3 && (s == 0 || size == 0);
-                let index = if is_plain {
-                    self.pointer(rm)
-                } else {
-                    PointerOrigin::UNKNOWN
-                };
-                self.combined(self.base(rn), index, Sign::Plus)
+    /// Where the pointer points by which an instruction accesses memory.
+    pub fn address_origin(&mut self, form: &AccessForm) -> Result<PointerOrigin, AllocError> {
+        match form.mode {
+            AddressingMode::Literal(_) => Ok(PointerOrigin::UNKNOWN),
+            AddressingMode::RegisterOffset(RegisterOffset { rm, option, s }) => {
+                let is_plain = option % 4 == 3 && (s == 0 || form.bytes == 1);
+                let index = self.pointer_where(rm, is_plain);
+                self.combined(self.base(form.base), index, Sign::Plus)
             }
-            Instr::LdStImm { rn, .. }
-            | Instr::LdStUnscaled { rn, .. }
-            | Instr::LdStPost { rn, .. }
-            | Instr::LdStPre { rn, .. }
-            | Instr::PairPost { rn, .. }
-            | Instr::PairOff { rn, .. }
-            | Instr::PairPre { rn, .. }
-            | Instr::StGP { rn, .. } => Ok(self.base(rn)),
-            _ => Ok(PointerOrigin::UNKNOWN),
+            _ => Ok(self.base(form.base)),
         }
     }
 

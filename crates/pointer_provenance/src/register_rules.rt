@@ -90,7 +90,7 @@ impl Shadow {
     }
 
     /// Where the pointer in a register points, where the register enters as it is.
-    fn pointer_where(&self, n: u8, is_plain: bool) -> PointerOrigin {
+    pub(crate) fn pointer_where(&self, n: u8, is_plain: bool) -> PointerOrigin {
         if is_plain {
             self.pointer(n)
         } else {

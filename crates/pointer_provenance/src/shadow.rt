@@ -3,7 +3,7 @@
 use crate::chunk_table::{ChunkTable, TracedChunk};
 use a64_bits::plain;
 use a64_registers::Regs;
-use address_map::{PAGE_SIZE, REGIONS_START, SECONDARY_END};
+use common::{PAGE_SIZE, REGIONS_START, SECONDARY_END};
 use mte_tags::tag_of;
 use shadow_memory::{Full, MemoryShadow, PointerOrigin, PointerSums, Provenance, Sign, Step};
 use std::alloc::{AllocError, Global};

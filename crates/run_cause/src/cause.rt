@@ -4,8 +4,7 @@ use crate::evidence::{Evidence, NEAR};
 use crate::exact::ForbiddenAccess;
 use crate::violation::Violation;
 use a64_bits::plain;
-use address_map::{IMAGE_START, PAGE_SIZE, STACK_END, STACK_START};
-use arithmetic_faults::{ArithmeticFault, ArithmeticKind};
+use common::{IMAGE_START, PAGE_SIZE, STACK_END, STACK_START};
 use heap_bounds::{Block, Trespass};
 use heap_functions::HeapFunction;
 use mte_svc::{FREE, Record, Status};
@@ -15,6 +14,7 @@ use pointer_provenance::{Misuse, MisuseKind};
 use run_book::{Book, BookChunk, BookEntry, Bytes, ChunkQuery};
 use scudo_heap::HeapCall;
 use std::fmt;
+use undefined_bits::{ArithmeticFault, ArithmeticKind};
 use undefined_values::{UndefinedOrigin, UndefinedPlace};
 
 /// Up to which step a program for Linux has looked for its arguments.

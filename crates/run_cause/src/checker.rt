@@ -6,13 +6,13 @@ ghost use Rattle.std.specs.Prelude.{◌≡◌};
 use crate::exact::{Finding, ForbiddenAccess};
 use crate::terms::{CheckTerms, Silence};
 use crate::violation::Violation;
+use a64_access::AccessForm;
 use a64_bits::plain;
 use a64_decode::decode;
 use a64_instr::Instr;
 use a64_registers::Regs;
-use arithmetic_faults::ArithmeticFault;
 use check_kinds::CheckKinds;
-use heap_bounds::{MemoryAccess, Span, access_of, freed_by, made_by};
+use heap_bounds::{Span, freed_by, made_by};
 use heap_functions::HeapFunctionWatch;
 use instruction_trace::{Moment, SVC};
 use mte_backtrace::Callers;
@@ -26,7 +26,7 @@ use pointer_provenance::{ChunkChange, Misuse, Shadow, TracedChunk};
 use scudo_heap::HeapCall;
 use shadow_memory::{AccessedBytes, Full, RegisterAccess, Step};
 use std::alloc::{AllocError, Global};
-use undefined_bits::{ServiceArguments, UndefinedBits, UndefinedUse};
+use undefined_bits::{ArithmeticFault, ServiceArguments, UndefinedBits, UndefinedUse};
 
 /// Watches a tenant up to the first thing that it may not do, of the kinds that are checked.
 #[derive(Drop)]
@@ -83,10 +83,12 @@ impl<'s> Attempt<'s> {
         } else {
             None
         };
+        let form = AccessForm::of(instr);
         Attempt {
             step: Step {
                 instr,
-                access: access_of(instr, before).map(|access| of_registers(&access)),
+                form,
+                access: form.and_then(|form| RegisterAccess::of(&form, before)),
                 before,
                 after,
             },
@@ -263,10 +265,10 @@ impl<'a> Checker<'a> {
             return Ok(None);
         };
         let Some(asked) = &attempt.service else {
-            if attempt.step.access.is_none() {
+            let Some(form) = &attempt.step.form else {
                 return Ok(None);
-            }
-            let origin = self.shadow.address_origin(attempt.step.instr)?;
+            };
+            let origin = self.shadow.address_origin(form)?;
             return Ok(places.judge(&attempt.step, origin));
         };
         let (before, origin) = (attempt.step.before, self.shadow.register(0).pointer());
@@ -310,12 +312,10 @@ impl<'a> Checker<'a> {
     /// that is checked.
     fn misuse_by(&mut self, attempt: &Attempt<'_>) -> Result<Option<Misuse>, Full> {
         let is_completed = attempt.is_completed;
-        match (&attempt.service, &attempt.step.access) {
-            (Some(asked), _) => Ok(self.misuse_of(asked, attempt)),
-            (None, Some(access)) if self.kinds.provenance => {
-                Ok(self.shadow.judge(attempt.step.instr, access, is_completed)?)
-            }
-            _ => Ok(None),
+        match &attempt.service {
+            Some(asked) => Ok(self.misuse_of(asked, attempt)),
+            None if self.kinds.provenance => Ok(self.shadow.judge(&attempt.step, is_completed)?),
+            None => Ok(None),
         }
     }
 
@@ -380,20 +380,6 @@ fn note_chunk(
             let is_defined = matches!(call.call, HeapCall::Calloc { .. });
             bits.note_made(change.number, start, size, is_defined)
         }
-    }
-}
-
-/// What an instruction accesses, as it is judged.
-fn of_registers(access: &MemoryAccess) -> RegisterAccess {
-    RegisterAccess {
-        bytes: AccessedBytes {
-            addr: access.addr,
-            count: access.bytes,
-            is_write: access.is_write,
-            is_register: true,
-        },
-        first: access.first,
-        second: access.second,
     }
 }
 

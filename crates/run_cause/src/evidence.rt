@@ -2,8 +2,8 @@
 
 use a64_bits::plain;
 use a64_registers::Regs;
-use address_map::{SECONDARY_END, STACK_START};
 use circular_buffer::HeapCircularBuffer;
+use common::{SECONDARY_END, STACK_START};
 use instruction_trace::Moment;
 use mte_tags::tag_of;
 use run_book::{Book, BookChunk, ChunkQuery};

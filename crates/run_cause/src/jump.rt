@@ -2,11 +2,12 @@
 
 ghost use Rattle.std.specs.Prelude.{◌≡◌};
 
+use a64_access::{AccessForm, AccessKind};
 use a64_bits::plain;
 use a64_decode::decode;
 use a64_instr::Instr;
 use circular_buffer::HeapCircularBuffer;
-use heap_bounds::{access_of, span_of};
+use heap_bounds::span_of;
 use instruction_trace::Moment;
 use mte_backtrace::Callers;
 use mte_svc::{Status, TenantParts};
@@ -72,13 +73,15 @@ fn target_register(branch: &Moment) -> Option<u8> {
 
 /// Where the instruction of a moment loads a register from, if it does.
 fn loaded_from(moment: &Moment, register: u8) -> Option<u64> {
-    let access = access_of(&decode(moment.word?)?, &moment.regs)?;
-    if access.is_write {
-        None
-    } else if access.first == register {
-        Some(access.addr)
-    } else if access.second == Some(register) {
-        Some(access.addr.wrapping_add(access.bytes))
+    let form = AccessForm::of(&decode(moment.word?)?)?;
+    if !matches!(form.kind, AccessKind::Load) {
+        return None;
+    }
+    let addr = form.addr(&moment.regs);
+    if form.first == register {
+        Some(addr)
+    } else if form.second == Some(register) {
+        Some(addr.wrapping_add(u64::from(form.bytes)))
     } else {
         None
     }

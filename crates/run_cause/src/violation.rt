@@ -1,12 +1,11 @@
 //! What is wrong with an access, by what found it.
 
-use arithmetic_faults::{ArithmeticFault, ArithmeticKind};
 use check_kinds::CheckKind;
 use heap_bounds::Trespass;
 use named_places::{PlaceMisuse, PlaceMisuseKind};
 use pointer_provenance::{Misuse, MisuseKind};
 use std::fmt;
-use undefined_bits::{UndefinedUse, UseKind};
+use undefined_bits::{ArithmeticFault, ArithmeticKind, UndefinedUse, UseKind};
 
 /// What is wrong with an access, by what found it.
 #[derive(Clone, Copy)]

@@ -4,11 +4,10 @@ use crate::table::{OPTIONS, OptionRow};
 use crate::values::options_of;
 use clap::error::ErrorKind;
 use clap::{Arg, ArgAction, ArgMatches, Command, Error};
+use common::{Obstacle, PrintableLines, build_info};
 use mte_program::{EarlyEnd, read_words};
-use obstacle::Obstacle;
 use run_terms::Options;
 use std::alloc::Global;
-use terminal_text::PrintableLines;
 
 /// Reads the process's arguments; prints the help, or what is wrong with them.
 pub fn read_command_line(rt: &HostRuntime) -> Result<Options, EarlyEnd> {

@@ -3,8 +3,8 @@
 use crate::fault::{Fault, fault_of};
 use check_kinds::CheckKinds;
 use clap::ArgMatches;
+use common::Obstacle;
 use mte_tags::TagMode;
-use obstacle::Obstacle;
 use run_terms::{Exactness, Options, OutputOptions, Replay, RunLength, RunOptions, Traced};
 use std::alloc::{AllocError, Global};
 use tenant_terms::Terms;

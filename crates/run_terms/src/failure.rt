@@ -2,11 +2,11 @@
 
 use crate::wrong::WrongWord;
 use check_kinds::SuppressionFault;
-use mte_session::{ReadFault, ScriptError, ScriptFault, WriteFault};
-use obstacle::Obstacle;
+use common::{Obstacle, Printable};
+use mte_script::{ScriptError, ScriptFault};
+use mte_streams::{ReadFault, WriteFault};
 use std::alloc::{AllocError, AllocFailed};
 use std::{fmt, io};
-use terminal_text::Printable;
 
 /// Why a file cannot be read or written.
 #[derive(Clone, Copy)]

@@ -1,6 +1,6 @@
 -- Where the blocks of each size class lie.
 use Rattle.std.specs.Prelude.{ℕ, ◌+◌, ◌*◌}
-use Rattle.address_map.specs.declared.ranges.TheConstants.{REGIONS_START, REGION_SIZE}
+use Rattle.common.specs.declared.ranges.TheConstants.{REGIONS_START, REGION_SIZE}
 
 -- The first address of a class's region.
 abbrev pub region_of : ℕ → ℕ

@@ -6,7 +6,7 @@ ghost use Rattle.scudo_header.specs.Classes.{size_of, class_for, IsClass, IsLeas
 ghost use Rattle.scudo_header.specs.Regions.{region_of};
 
 use crate::config::{CLASSES, LARGEST_CLASS_SIZE};
-use address_map::{REGION_SIZE, REGIONS_START};
+use common::{REGION_SIZE, REGIONS_START};
 
 /// The size up to which the sizes are the multiples of 32.
 const MIDDLE_SIZE: u64 = 256;

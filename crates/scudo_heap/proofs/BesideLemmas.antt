@@ -3,8 +3,8 @@ use Rattle.std.proofs.Common.{◌≡◌, ◌≢◌, ℕ, zero, suc, ◌+◌, ◌
 use Rattle.std.proofs.lemmas.Bool.{cond-true, cond-false}
 use Rattle.std.proofs.lemmas.Bool.Decides.{nat_tests}
 use Rattle.std.specs.List.{find, list_any, range_with_len}
-use Rattle.address_map.specs.declared.limits.TheConstants.{PAGE_SIZE}
-use Rattle.address_map.specs.declared.ranges.TheConstants.{REGION_SIZE, SECONDARY_START}
+use Rattle.common.specs.declared.limits.TheConstants.{PAGE_SIZE}
+use Rattle.common.specs.declared.ranges.TheConstants.{REGION_SIZE, SECONDARY_START}
 use Rattle.mte_tags.specs.Memory.{Memory, pages_left}
 use Rattle.scudo_header.specs.Classes.{size_of, class_for}
 use Rattle.scudo_header.specs.declared.headers.Origin.{Origin}

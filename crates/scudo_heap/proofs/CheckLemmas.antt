@@ -13,8 +13,8 @@ use Rattle.scudo_header.specs.declared.headers.Header.{Header}
 use Rattle.scudo_secondary.specs.Mappings.{AreFrom, AreMappings, mapping_of, end_of}
 use Rattle.scudo_secondary.specs.declared.mappings.Mapping.{Mapping}
 use Rattle.scudo_secondary.proofs.MappingLemmas.{end_below}
-use Rattle.address_map.specs.declared.limits.TheConstants.{PAGE_SIZE}
-use Rattle.address_map.specs.declared.ranges.TheConstants.{SECONDARY_START, SECONDARY_END}
+use Rattle.common.specs.declared.limits.TheConstants.{PAGE_SIZE}
+use Rattle.common.specs.declared.ranges.TheConstants.{SECONDARY_START, SECONDARY_END}
 use Rattle.scudo_heap.specs.declared.abort.HeapAbort.TheVariants.{Misaligned, Unmapped, InvalidState}
 use Rattle.scudo_heap.specs.Heaps.{HeapState}
 use Rattle.scudo_heap.specs.Checks.{is_mapped, is_allocated, header_at, check_chunk, check_header, check_pointer}

@@ -12,8 +12,8 @@ use Rattle.mte_tags.proofs.StateLaws.{attrs-after_read, attrs-after_write, left-
 use Rattle.scudo_primary.specs.Blocks.{IsClass}
 use Rattle.scudo_heap.specs.Stacks.{ClassHeap, empty_class, empty_stacks, memory_for, class_at}
 use Rattle.scudo_heap.specs.Heaps.{HeapState, empty_heap}
-use Rattle.address_map.specs.declared.limits.TheConstants.{PAGE_SIZE, MAX_PAGES}
-use Rattle.address_map.specs.declared.ranges.TheConstants.{SECONDARY_END}
+use Rattle.common.specs.declared.limits.TheConstants.{PAGE_SIZE, MAX_PAGES}
+use Rattle.common.specs.declared.ranges.TheConstants.{SECONDARY_END}
 use Rattle.scudo_header.specs.Regions.{region_of}
 use Rattle.scudo_secondary.specs.Mappings.{pages_of}
 use Rattle.scudo_heap.specs.Served.{HeapOwnsItsPages, IsUntouched}

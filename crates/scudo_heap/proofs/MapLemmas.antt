@@ -6,8 +6,8 @@ use Rattle.scudo_secondary.proofs.PlaceLemmas.{apart_true, place-facts}
 use Rattle.std.proofs.lemmas.List.Sums.{sum_by-cons}
 use Rattle.scudo_secondary.specs.Mappings.{AreFrom, AreMappings, mapping_of, end_of, pages_of, with_mapping, is_apart, is_place}
 use Rattle.scudo_secondary.specs.declared.mappings.Mapping.{Mapping}
-use Rattle.address_map.specs.declared.limits.TheConstants.{PAGE_SIZE}
-use Rattle.address_map.specs.declared.ranges.TheConstants.{SECONDARY_START, SECONDARY_END}
+use Rattle.common.specs.declared.limits.TheConstants.{PAGE_SIZE}
+use Rattle.common.specs.declared.ranges.TheConstants.{SECONDARY_START, SECONDARY_END}
 use Rattle.scudo_heap.specs.Served.{is_inside}
 
 pub inside-low : (a : ℕ) (m : Mapping) → a < m.start → is_inside a m ≡ false

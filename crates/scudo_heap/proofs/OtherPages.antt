@@ -5,7 +5,7 @@ use Rattle.std.proofs.lemmas.Bool.Decides.{nat_tests}
 use Rattle.std.specs.Int.{to_le_bytes, w64}
 use Rattle.std.specs.List.{list_any}
 use Rattle.a64_bits.specs.Addresses.{plain}
-use Rattle.address_map.specs.declared.limits.TheConstants.{PAGE_SIZE}
+use Rattle.common.specs.declared.limits.TheConstants.{PAGE_SIZE}
 use Rattle.mte_tags.specs.Memory.{Memory, Page, page_at, attrs_at, tag_at, with_byte_cases, with_byte, with_granule_cases, with_granule, with_granules, with_new_pages, without_pages}
 use Rattle.mte_tags.specs.Accesses.{addresses, with_bytes, with_bytes_at}
 use Rattle.mte_tags.specs.RandomTags.{after_draw}

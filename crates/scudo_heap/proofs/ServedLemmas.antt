@@ -11,12 +11,12 @@ use Rattle.scudo_primary.specs.Blocks.{IsClass}
 use Rattle.scudo_primary.proofs.BlockLemmas.{size-pos, block-whole}
 use Rattle.std.proofs.Math.Nat.{le-div_iff_mul-le, div-mul-le_self}
 use Rattle.scudo_primary.specs.Blocks.{carved_count, blocks_from}
-use Rattle.address_map.specs.declared.limits.TheConstants.{MAX_PAGES}
+use Rattle.common.specs.declared.limits.TheConstants.{MAX_PAGES}
 use Rattle.scudo_heap.specs.Placing.{heap_attrs, next_page}
 use Rattle.scudo_secondary.specs.Mappings as secondary
 use Rattle.scudo_secondary.specs.Mappings.{SecondaryState}
-use Rattle.address_map.specs.declared.limits.TheConstants.{PAGE_SIZE}
-use Rattle.address_map.specs.declared.ranges.TheConstants.{REGION_SIZE}
+use Rattle.common.specs.declared.limits.TheConstants.{PAGE_SIZE}
+use Rattle.common.specs.declared.ranges.TheConstants.{REGION_SIZE}
 use Rattle.scudo_heap.specs.Stacks.{ClassHeap, StackState, class_at, with_class, pages_of, stack_of, after_pop, after_push, carved_class, after_carve}
 use Rattle.scudo_heap.specs.Heaps.{HeapState, heap_of}
 use Rattle.scudo_heap.specs.Served.{HeapOwnsItsPages, heap_page, is_inside}

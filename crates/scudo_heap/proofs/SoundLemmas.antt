@@ -1,8 +1,8 @@
 -- What the steps of the calls keep of a heap with its memory.
 use Rattle.std.proofs.Common.{◌≡◌, ◌≢◌, ℕ, ◌+◌, ◌/◌, ◌≤◌, ◌==◌, not, true, false, List, [], ◌∷◌, drop, Some, sym, ap, subst, inl, inr, arith}
 use Rattle.std.proofs.lemmas.Bool.{cases_eq}
-use Rattle.address_map.specs.declared.limits.TheConstants.{PAGE_SIZE, MAX_PAGES}
-use Rattle.address_map.specs.declared.ranges.TheConstants.{SECONDARY_START}
+use Rattle.common.specs.declared.limits.TheConstants.{PAGE_SIZE, MAX_PAGES}
+use Rattle.common.specs.declared.ranges.TheConstants.{SECONDARY_START}
 use Rattle.mte_tags.specs.Memory.{Memory, attrs_at, pages_left, with_new_pages, without_pages}
 use Rattle.mte_tags.specs.declared.generator.Rgsr.{Rgsr}
 use Rattle.scudo_primary.specs.Blocks.{IsBlock, IsClass, AreBlocks}

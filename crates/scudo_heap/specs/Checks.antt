@@ -18,7 +18,7 @@ use Rattle.scudo_primary.specs.Blocks.{number_of, carved_count}
 use Rattle.scudo_primary.specs.Pools.{is_member}
 use Rattle.scudo_secondary.specs.Mappings as secondary
 use Rattle.scudo_secondary.specs.declared.mappings.Mapping.{Mapping}
-use Rattle.address_map.specs.declared.limits.TheConstants.{PAGE_SIZE}
+use Rattle.common.specs.declared.limits.TheConstants.{PAGE_SIZE}
 use Rattle.scudo_heap.specs.declared.abort.HeapAbort.{HeapAbort}
 use Rattle.scudo_heap.specs.declared.abort.HeapAbort.TheVariants.{Misaligned, Unmapped}
 use Rattle.scudo_heap.specs.declared.abort.HeapAbort.TheVariants.{HeaderCorrupt, InvalidState}

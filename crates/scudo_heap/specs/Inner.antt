@@ -17,9 +17,9 @@ use Rattle.scudo_cache.specs.Caches.{one_stack, IsAbove, AreStacks}
 use Rattle.scudo_secondary.specs.Mappings.{SecondaryState, mapping_of}
 use Rattle.scudo_secondary.specs.Mappings as secondary
 use Rattle.scudo_secondary.specs.declared.mappings.Mapping.{Mapping}
-use Rattle.address_map.specs.declared.limits.TheConstants.{MAX_PAGES, PAGE_SIZE}
-use Rattle.address_map.specs.declared.ranges.TheConstants.{REGION_SIZE}
-use Rattle.address_map.specs.declared.ranges.TheConstants.{SECONDARY_START, SECONDARY_END}
+use Rattle.common.specs.declared.limits.TheConstants.{MAX_PAGES, PAGE_SIZE}
+use Rattle.common.specs.declared.ranges.TheConstants.{REGION_SIZE}
+use Rattle.common.specs.declared.ranges.TheConstants.{SECONDARY_START, SECONDARY_END}
 use Rattle.scudo_heap.specs.declared.chunk.Place.{Place}
 use Rattle.scudo_heap.specs.declared.request.Request.{Request}
 use Rattle.scudo_heap.specs.Allocation.{need_of}

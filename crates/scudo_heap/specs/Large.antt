@@ -7,7 +7,7 @@ use Rattle.scudo_header.specs.declared.headers.Origin.{Origin}
 use Rattle.scudo_header.specs.declared.headers.State.TheVariants.{Allocated}
 use Rattle.scudo_secondary.specs.Mappings as secondary
 use Rattle.scudo_secondary.specs.declared.mappings.Mapping.{Mapping}
-use Rattle.address_map.specs.declared.limits.TheConstants.{PAGE_SIZE}
+use Rattle.common.specs.declared.limits.TheConstants.{PAGE_SIZE}
 use Rattle.scudo_heap.specs.Heaps.{with_more, with_less}
 use Rattle.scudo_heap.specs.Chunks.{with_header}
 use Rattle.scudo_heap.specs.Placing.{World, heap_attrs}

@@ -2,8 +2,8 @@
 -- the first class's region to the end of the range of chunks with pages of their own.
 use Rattle.std.specs.Prelude.{◌≡◌, ℕ, ◌/◌, ◌≤◌, ◌<◌}
 use Rattle.mte_tags.specs.Memory.{Memory, page_at}
-use Rattle.address_map.specs.declared.limits.TheConstants.{PAGE_SIZE}
-use Rattle.address_map.specs.declared.ranges.TheConstants.{SECONDARY_END}
+use Rattle.common.specs.declared.limits.TheConstants.{PAGE_SIZE}
+use Rattle.common.specs.declared.ranges.TheConstants.{SECONDARY_END}
 use Rattle.scudo_header.specs.Regions.{region_of}
 
 -- Whether a page is in none of those ranges.

@@ -13,7 +13,7 @@ use Rattle.scudo_header.specs.Regions.{region_of}
 use Rattle.scudo_header.specs.declared.headers.Header.{Header}
 use Rattle.scudo_header.specs.declared.headers.Origin.{Origin}
 use Rattle.scudo_header.specs.declared.headers.State.TheVariants.{Available, Allocated}
-use Rattle.address_map.specs.declared.limits.TheConstants.{PAGE_SIZE}
+use Rattle.common.specs.declared.limits.TheConstants.{PAGE_SIZE}
 use Rattle.scudo_heap.specs.declared.chunk.Place.{Place}
 use Rattle.scudo_heap.specs.Stacks.{StackState, pages_of, after_pop, after_push, after_carve}
 use Rattle.scudo_heap.specs.Heaps.{HeapState}

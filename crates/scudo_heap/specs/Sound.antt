@@ -2,7 +2,7 @@
 use Rattle.std.specs.Prelude.{ℕ, ◌+◌, ◌<◌, ◌≤◌}
 use Rattle.scudo_header.specs.declared.config.TheConstants.{CLASSES}
 use Rattle.scudo_secondary.specs.Mappings.{AreMappings}
-use Rattle.address_map.specs.declared.limits.TheConstants.{MAX_PAGES}
+use Rattle.common.specs.declared.limits.TheConstants.{MAX_PAGES}
 use Rattle.scudo_heap.specs.Stacks.{StackState, AreSound, pages_of}
 use Rattle.scudo_heap.specs.Heaps.{HeapState}
 use Rattle.scudo_heap.specs.Placing.{World}

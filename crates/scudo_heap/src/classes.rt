@@ -20,7 +20,7 @@ use crate::chunk::{Chunk, Place, by_fields};
 use crate::placing::make_chunk;
 use crate::request::Request;
 use crate::stacks::Stacks;
-use address_map::PAGE_SIZE;
+use common::PAGE_SIZE;
 use mte_tags::{Attrs, Paged, Rgsr, Tagged};
 use scudo_header::{MIN_ALIGNMENT, region_start, size_of_class};
 

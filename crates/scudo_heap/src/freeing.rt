@@ -25,7 +25,7 @@ use crate::granules::{put_word, set_tags};
 use crate::parts::HeapParts;
 use crate::stacks::Stacks;
 use crate::tagging::{choose_tag, granules};
-use address_map::PAGE_SIZE;
+use common::PAGE_SIZE;
 use mte_tags::{ChunkAccess, Paged, Rgsr, Tagged};
 use scudo_header::{Header, State, pack};
 use scudo_secondary::{Mapping, Secondary};

@@ -22,7 +22,7 @@ use crate::request::Request;
 use crate::resizing::reallocate;
 use crate::stacks::Stacks;
 use a64_bits::plain;
-use address_map::MAX_PAGES;
+use common::MAX_PAGES;
 use mte_tags::{Paged, Rgsr};
 use scudo_header::{MIN_ALIGNMENT, Origin};
 use scudo_secondary::Secondary;

@@ -1,8 +1,8 @@
 //! When the condition of the calls holds, that each call keeps it, and what no call changes.
 
 ghost use Rattle.std.specs.Prelude.{◌≡◌, ◌≤◌, ◌<◌, ◌+◌, ◌/◌, ◌⊎◌, ℕ, Some, None, Bool, List};
-ghost use Rattle.address_map.specs.declared.limits.TheConstants.{PAGE_SIZE, MAX_PAGES};
-ghost use Rattle.address_map.specs.declared.ranges.TheConstants.{SECONDARY_END};
+ghost use Rattle.common.specs.declared.limits.TheConstants.{PAGE_SIZE, MAX_PAGES};
+ghost use Rattle.common.specs.declared.ranges.TheConstants.{SECONDARY_END};
 ghost use Rattle.scudo_header.specs.Regions.{region_of};
 ghost use Rattle.scudo_secondary.specs.Mappings.{pages_of};
 ghost use Rattle.mte_tags.specs.Memory.{Memory, attrs_at, pages_left, with_granules, data_attrs};

@@ -16,7 +16,7 @@ ghost use Rattle.scudo_heap.specs.Inner.{IsRequest, IsLarge, IsLow, ArePlaces};
 use crate::chunk::Chunk;
 use crate::granules::put_header;
 use crate::request::Request;
-use address_map::PAGE_SIZE;
+use common::PAGE_SIZE;
 use mte_tags::{Attrs, Paged, Tagged};
 use scudo_header::{Header, Origin, State};
 use scudo_secondary::{Mapping, Secondary};

@@ -8,7 +8,7 @@ ghost use Rattle.scudo_heap.specs.Stacks.{pages_of, stack_of, empty_stacks, afte
 ghost use Rattle.scudo_heap.specs.Stacks.{after_carve};
 ghost use Rattle.scudo_heap.specs.Stacks.{AreSound};
 
-use address_map::MAX_PAGES;
+use common::MAX_PAGES;
 use scudo_cache::Cache;
 use scudo_primary::Primary;
 use std::alloc::{AllocError, Global};

@@ -4,7 +4,7 @@ use Rattle.std.proofs.Math.Nat.{mul-mod_right, le-div_iff_mul-le, div-mul-le_sel
 use Rattle.std.proofs.lemmas.Nat.{div-add-mod', div-mul-add, mod-mul-add}
 use Rattle.scudo_header.specs.Classes.{size_of}
 use Rattle.scudo_header.specs.Regions.{region_of}
-use Rattle.address_map.specs.declared.limits.TheConstants.{PAGE_SIZE}
+use Rattle.common.specs.declared.limits.TheConstants.{PAGE_SIZE}
 use Rattle.scudo_header.proofs.ClassLemmas.{IsSize, size_of-IsSize}
 use Rattle.scudo_primary.specs.Blocks.{carved_count, block_at, number_of, IsBlock}
 use Rattle.std.specs.Prelude.{IsTrue}

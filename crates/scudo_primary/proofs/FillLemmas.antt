@@ -4,7 +4,7 @@ use Rattle.std.specs.Prelude.{vec_capacity}
 use Rattle.std.specs.declared.vec.Vec.{Vec}
 use Rattle.std.specs.declared.alloc.Global.{Global}
 use Rattle.scudo_header.specs.Regions.{region_of}
-use Rattle.address_map.specs.declared.limits.TheConstants.{PAGE_SIZE}
+use Rattle.common.specs.declared.limits.TheConstants.{PAGE_SIZE}
 use Rattle.scudo_primary.specs.Pools.{PoolState}
 use Rattle.scudo_primary.specs.Inner.{block_table, page_number, slot_of, place_of, no_entry, entry_at, list_at, class_in, capacities_in, pool_in, IsFilledUp, IsTable, IsPool}
 use Rattle.scudo_primary.specs.Blocks.{IsClass}

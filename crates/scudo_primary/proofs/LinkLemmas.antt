@@ -8,7 +8,7 @@ use Rattle.scudo_primary.specs.Batches.{max_count_of, one_less}
 use Rattle.scudo_primary.specs.Pools.{ClassState, is_member, class_after_pop, class_with_mark}
 use Rattle.scudo_primary.specs.Inner.{block_table, Each, sizes_after_push, sizes_of_marks, place_of, no_entry, entry_at, list_at, next_in, last_in, free_in, stack_from, sizes_from, marks_in, class_in, class_after_link, IsLinked, IsTable, Became}
 use Rattle.scudo_primary.specs.Blocks.{IsClass}
-use Rattle.address_map.specs.declared.limits.TheConstants.{MAX_PAGES}
+use Rattle.common.specs.declared.limits.TheConstants.{MAX_PAGES}
 use Rattle.scudo_primary.specs.declared.lists.BlockEntry.{BlockEntry}
 use Rattle.scudo_primary.specs.declared.lists.ClassList.{ClassList}
 use Rattle.scudo_primary.proofs.BlockLists.{each-block, blocks-more, blocks-rest}

@@ -6,12 +6,12 @@ use Rattle.std.specs.Vec.{with_items}
 use Rattle.scudo_header.specs.Regions.{region_of}
 use Rattle.scudo_header.specs.ByClass.{ByClass, by_class}
 use Rattle.scudo_header.proofs.ByClassLaws.{value_of-by_class, value_of-with_value, by_class-same, by_class-with_value}
-use Rattle.address_map.specs.declared.limits.TheConstants.{PAGE_SIZE}
+use Rattle.common.specs.declared.limits.TheConstants.{PAGE_SIZE}
 use Rattle.scudo_primary.specs.Blocks.{number_of, IsBlock}
 use Rattle.scudo_primary.specs.Pools.{ClassState, PoolState, empty_class, pool_by, class_at, with_class, after_pop, class_after_pop, class_with_mark, is_marked, is_member}
 use Rattle.scudo_primary.specs.Inner.{block_table, list_at, class_in, state_of, capacities_in, pool_in, follow, free_in, stack_from, marks_in, slot_of, place_of, no_entry, entry_at, IsLinked, IsTable, IsPool, Became}
 use Rattle.scudo_primary.specs.Blocks.{IsClass}
-use Rattle.address_map.specs.declared.limits.TheConstants.{MAX_PAGES}
+use Rattle.common.specs.declared.limits.TheConstants.{MAX_PAGES}
 use Rattle.scudo_primary.specs.declared.lists.BlockEntry.{BlockEntry}
 use Rattle.scudo_primary.specs.declared.lists.ClassList.{ClassList}
 use Rattle.scudo_primary.specs.declared.pool.Primary.TheInside.{Inside}

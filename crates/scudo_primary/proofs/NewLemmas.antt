@@ -10,7 +10,7 @@ use Rattle.scudo_primary.specs.Blocks.{carved_count, block_at}
 use Rattle.scudo_primary.specs.Pools.{empty_class, empty_pool}
 use Rattle.scudo_primary.specs.Inner.{capacities_in, follow, sizes_of_marks, no_list, list_at, free_in, stack_from, sizes_from, marks_in, class_in, pool_in, IsLinked, IsPool}
 use Rattle.scudo_primary.specs.Blocks.{IsClass}
-use Rattle.address_map.specs.declared.limits.TheConstants.{MAX_PAGES}
+use Rattle.common.specs.declared.limits.TheConstants.{MAX_PAGES}
 use Rattle.scudo_primary.specs.declared.lists.BlockEntry.{BlockEntry}
 use Rattle.scudo_primary.specs.declared.lists.ClassList.{ClassList}
 use Rattle.scudo_primary.specs.declared.pool.Primary.TheInside.{Inside}

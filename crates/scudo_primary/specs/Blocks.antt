@@ -6,7 +6,7 @@ use Rattle.std.specs.List.{range_with_len, list_any, IsDistinct}
 use Rattle.scudo_header.specs.Classes.{size_of}
 pub use Rattle.scudo_header.specs.Classes.{IsClass}
 use Rattle.scudo_header.specs.Regions.{region_of}
-use Rattle.address_map.specs.declared.limits.TheConstants.{PAGE_SIZE}
+use Rattle.common.specs.declared.limits.TheConstants.{PAGE_SIZE}
 
 -- How many blocks lie whole in the first pages of a class's region.
 abbrev pub carved_count : ℕ → ℕ → ℕ

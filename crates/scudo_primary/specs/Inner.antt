@@ -10,12 +10,12 @@ use Rattle.std.specs.declared.vec.Vec.{Vec}
 use Rattle.std.specs.List.{range_with_len}
 use Rattle.scudo_header.specs.Regions.{region_of}
 use Rattle.scudo_header.specs.declared.config.TheConstants.{CLASSES}
-use Rattle.address_map.specs.declared.limits.TheConstants.{PAGE_SIZE}
+use Rattle.common.specs.declared.limits.TheConstants.{PAGE_SIZE}
 use Rattle.scudo_primary.specs.Blocks.{IsClass, carved_count, block_at, number_of, AreBlocks}
 use Rattle.scudo_primary.specs.Blocks.{blocks_from}
 use Rattle.scudo_primary.specs.Batches.{max_count_of, batch_sizes}
 use Rattle.scudo_primary.specs.Pools.{ClassState, PoolState, pool_by}
-use Rattle.address_map.specs.declared.limits.TheConstants.{MAX_PAGES}
+use Rattle.common.specs.declared.limits.TheConstants.{MAX_PAGES}
 use Rattle.scudo_primary.specs.declared.lists.BlockEntry.{BlockEntry}
 use Rattle.scudo_primary.specs.declared.lists.ClassList.{ClassList}
 use Rattle.scudo_primary.specs.declared.pool.Primary.TheInside.{Inside}

@@ -12,7 +12,7 @@ ghost use Rattle.scudo_primary.specs.Pools.{class_after_pop_batch};
 ghost use Rattle.scudo_primary.specs.Pools.{class_after_push_batch};
 
 use crate::batches::max_count;
-use address_map::PAGE_SIZE;
+use common::PAGE_SIZE;
 use scudo_header::{CLASSES, MAX_COUNT, region_start, size_of_class};
 
 /// How many lists there are: one for each size class.

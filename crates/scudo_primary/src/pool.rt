@@ -15,8 +15,7 @@ use crate::lists::{
     BlockEntry, ClassList, LISTS, fill_up, link, link_batch, link_new, number_pages, place,
     set_mark, unlink, unlink_batch,
 };
-use address_map::{MAX_PAGES, PAGE_SIZE};
-use list_copy::copy_list;
+use common::{MAX_PAGES, PAGE_SIZE, copy_list};
 use scudo_header::{CLASSES, MAX_COUNT, is_multiple, region_start, size_of_class};
 use std::alloc::{AllocError, Global};
 use std::marker::Model;

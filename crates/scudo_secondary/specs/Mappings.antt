@@ -5,8 +5,8 @@ use Rattle.std.specs.Prelude.{◌&&◌, ◌||◌, nat_le, nat_lt, List, [], ◌�
 use Rattle.std.specs.Prelude.{refl}
 use Rattle.std.specs.List.{find, list_all, sum_by}
 use Rattle.std.specs.Coded.{Coded, code_by, coded×, coded_ℕ, coded_list}
-use Rattle.address_map.specs.declared.limits.TheConstants.{PAGE_SIZE}
-use Rattle.address_map.specs.declared.ranges.TheConstants.{SECONDARY_START, SECONDARY_END}
+use Rattle.common.specs.declared.limits.TheConstants.{PAGE_SIZE}
+use Rattle.common.specs.declared.ranges.TheConstants.{SECONDARY_START, SECONDARY_END}
 use Rattle.scudo_secondary.specs.declared.mappings.Mapping.{Mapping}
 
 -- The pages that all mappings together may have, and the mappings in the order of their starts.

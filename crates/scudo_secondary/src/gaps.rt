@@ -4,7 +4,7 @@ ghost use Rattle.std.specs.Prelude.{◌≡◌, ◌+◌, ◌*◌, ◌<◌, ◌≤
 ghost use Rattle.scudo_secondary.specs.Mappings.{AreMappings, place_of};
 
 use crate::mappings::Mapping;
-use address_map::{PAGE_SIZE, SECONDARY_END, SECONDARY_START};
+use common::{PAGE_SIZE, SECONDARY_END, SECONDARY_START};
 
 /// Whether pages from `start` on and one more lie below `end`.
 #[inline]

@@ -5,7 +5,7 @@ ghost use Rattle.std.specs.Prelude.{length, slice_index_or, vec_len, vec_capacit
 ghost use Rattle.std.specs.Vec.{vec_ptr};
 ghost use Rattle.scudo_secondary.specs.Mappings.{AreMappings, end_of, mapping_of, with_mapping};
 
-use address_map::PAGE_SIZE;
+use common::PAGE_SIZE;
 
 /// The pages of a chunk.
 #[derive(Clone, Copy, PartialEq, Eq)]

@@ -7,8 +7,7 @@ ghost use Rattle.scudo_secondary.specs.Mappings.{with_mapping, HasRoom, HoldsUse
 
 use crate::gaps::first_gap;
 use crate::mappings::{Mapping, index_of, insert_in_order, remove_user};
-use address_map::MAX_PAGES;
-use list_copy::copy_list;
+use common::{MAX_PAGES, copy_list};
 use std::alloc::{AllocError, Global};
 use std::marker::Model;
 

@@ -3,6 +3,7 @@
 use crate::request::{SplitRequest, Wanted};
 use clap::error::ErrorKind;
 use clap::{Arg, ArgAction, ArgGroup, ArgMatches, Command, Error, value_parser};
+use common::build_info;
 use mte_program::{EarlyEnd, read_words};
 use std::alloc::{AllocError, Global};
 

@@ -2,9 +2,9 @@
 
 use crate::positions::Positions;
 use crate::split_fault::SplitFault;
+use common::Obstacle;
 use mte_session::{Event, admission_of};
 use mte_tenant::{Admission, LedgerFacts, Refusal, Refused, accept, charge};
-use obstacle::Obstacle;
 use std::alloc::{AllocError, Global};
 
 /// A tenant that was admitted.

@@ -1,7 +1,7 @@
 //! Why a part of a session cannot be made.
 
+use common::Obstacle;
 use mte_session::{ScriptError, ScriptFault, SessionError, WriteFault};
-use obstacle::Obstacle;
 use std::alloc::{AllocError, AllocFailed};
 
 /// Why a part of a session cannot be made.

@@ -1,7 +1,7 @@
 //! The calls of a host that no program makes: frames and pages of its tenants.
 
 use crate::images::{HEADERS, HI, ILLEGAL, image};
-use address_map::{PAGE_SIZE, STACK_START};
+use common::{PAGE_SIZE, STACK_START};
 use mte_sched::{Admission, Host, NotLive, Status, Terms};
 use mte_tags::TagMode;
 use std::alloc::Global;

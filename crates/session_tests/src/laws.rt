@@ -1,10 +1,15 @@
 //! The laws, which have no code: a call brings what they say to its caller.
 
-use address_map::{limits_in_digits, ranges_in_digits};
+use common::{limits_in_digits, ranges_in_digits};
 use heap_laws::{
-    chunks_may_be_used, chunks_of_tenants_may_be_used, double_frees_abort, freed_chunks_stay_freed,
-    lifetimes_are_guarded, new_chunks_are_live, new_chunks_are_zero, odd_distances_differ,
-    other_chunks_stay, reallocations_free, reallocations_keep_bytes, tenants_take_turns,
+    careful_runs_are_sound, careful_tenants_are_sound, chunks_are_apart, chunks_are_guarded,
+    chunks_are_tagged, chunks_may_be_used, chunks_of_tenants_are_guarded,
+    chunks_of_tenants_may_be_used, double_frees_abort, freed_chunks_are_refused,
+    freed_chunks_of_tenants_are_refused, freed_chunks_stay_freed, freed_pages_are_refused,
+    freed_pages_of_tenants_are_refused, lifetimes_are_guarded, neighbours_differ,
+    new_chunks_are_live, new_chunks_are_zero, new_tags_differ, odd_distances_differ,
+    other_chunks_stay, reallocations_free, reallocations_keep_bytes, reused_tags_differ,
+    reused_tags_of_tenants_differ, tenants_take_turns,
 };
 use mte_sched::{
     behaviours_are_alone, behaviours_are_isolated, flag_is_clear, ledger_follows,
@@ -15,13 +20,6 @@ use mte_svc::{kept_calls_in_digits, services_in_digits};
 use scudo_heap::settings_in_digits;
 use session_parts::{
     accepted_alone, decisions_need_no_steps, lines_may_be_left_out, report_in_parts,
-};
-use tag_discipline::{
-    careful_runs_are_sound, careful_tenants_are_sound, chunks_are_apart, chunks_are_guarded,
-    chunks_are_tagged, chunks_of_tenants_are_guarded, freed_chunks_are_refused,
-    freed_chunks_of_tenants_are_refused, freed_pages_are_refused,
-    freed_pages_of_tenants_are_refused, neighbours_differ, new_tags_differ, reused_tags_differ,
-    reused_tags_of_tenants_differ,
 };
 
 #[test]

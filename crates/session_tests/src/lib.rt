@@ -9,6 +9,8 @@ mod doubles;
 #[cfg(test)]
 mod embedding;
 #[cfg(test)]
+mod heap_operations;
+#[cfg(test)]
 mod hosts;
 #[cfg(test)]
 mod images;

@@ -1,5 +1,8 @@
 //! What a load, a store or a service accesses.
 
+use a64_access::AccessForm;
+use a64_registers::Regs;
+
 /// The bytes that an instruction loads or stores.
 #[derive(Clone, Copy, Debug, PartialEq, Eq)]
 pub struct RegisterAccess {
@@ -9,6 +12,26 @@ pub struct RegisterAccess {
     pub first: u8,
     /// The second of a pair, whose bytes follow.
     pub second: Option<u8>,
+}
+
+impl RegisterAccess {
+    /// What an instruction of a form accesses, by the registers before it; `None` where that is
+    /// tags, or zeros with tags.
+    pub fn of(form: &AccessForm, regs: &Regs) -> Option<RegisterAccess> {
+        if !form.is_of_registers() {
+            return None;
+        }
+        Some(RegisterAccess {
+            bytes: AccessedBytes {
+                addr: form.addr(regs),
+                count: u64::from(form.bytes),
+                is_write: form.is_write(),
+                is_register: true,
+            },
+            first: form.first,
+            second: form.second,
+        })
+    }
 }
 
 /// Bytes that are accessed.

@@ -3,7 +3,7 @@
 use crate::origin::{PointerOrigin, Provenance};
 use crate::page_numbers::PageNumbers;
 use crate::shadow_page::ShadowPage;
-use address_map::{GRANULE_SIZE, PAGE_SIZE};
+use common::{GRANULE_SIZE, PAGE_SIZE};
 use std::alloc::{AllocError, Global};
 
 /// What is known of the words of a tenant's memory. A page of which nothing is known takes none.

@@ -1,6 +1,6 @@
 //! Which pages of a tenant's addresses something is kept of.
 
-use address_map::{ADDRESS_END, PAGE_SIZE};
+use common::{ADDRESS_END, PAGE_SIZE};
 use std::alloc::{AllocError, Global};
 
 /// How many pages the addresses have.

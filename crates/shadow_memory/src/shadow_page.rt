@@ -1,7 +1,7 @@
 //! What is known of the words of one page.
 
 use crate::origin::{PointerOrigin, Provenance};
-use address_map::PAGE_SIZE;
+use common::PAGE_SIZE;
 use std::alloc::{AllocError, Global};
 
 /// The bytes of a word that holds a pointer.

@@ -1,6 +1,7 @@
 //! An instruction that completed, and why no more can be noted of one.
 
 use crate::access::RegisterAccess;
+use a64_access::AccessForm;
 use a64_instr::Instr;
 use a64_registers::Regs;
 use std::alloc::AllocError;
@@ -10,7 +11,9 @@ use std::alloc::AllocError;
 pub struct Step<'a> {
     /// The instruction.
     pub instr: &'a Instr,
-    /// What it loaded or stored, if it did.
+    /// How it accessed memory, if it did.
+    pub form: Option<AccessForm>,
+    /// The registers that it loaded or stored, if it did.
     pub access: Option<RegisterAccess>,
     /// The registers before it.
     pub before: &'a Regs,

@@ -1,6 +1,6 @@
 //! The granules of a chunk, as a picture shows them.
 
-use address_map::GRANULE_SIZE;
+use common::GRANULE_SIZE;
 use heap_picture::{GRANULES, GranuleOwner, PictureRow};
 use run_book::BookChunk;
 

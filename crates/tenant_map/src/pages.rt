@@ -1,7 +1,7 @@
 //! The page map.
 
 use crate::attributes::Letters;
-use address_map::PAGE_SIZE;
+use common::PAGE_SIZE;
 use heap_bounds::RangeUse;
 use mte_flat::Flat;
 use mte_tags::{Attrs, Tagged};

@@ -4,7 +4,7 @@ use crate::extent::{Extent, ROW_SIZE};
 use crate::notes::Notes;
 use crate::pages::{MappedPages, page_map};
 use crate::selection::{CandidateRow, Window, place_of, places, row_at};
-use address_map::{GRANULE_SIZE, PAGE_SIZE};
+use common::{GRANULE_SIZE, PAGE_SIZE};
 use heap_bounds::RangeUse;
 use heap_picture::{Arrow, END, Gap, Heading, Kind, Mark, PictureLine, Spot};
 use mte_backtrace::FrameNames;

@@ -2,7 +2,7 @@
 
 use crate::extent::{Extent, ROW_SIZE, paint_all};
 use crate::pages::MappedPages;
-use address_map::{ADDRESS_END, GRANULE_SIZE, REGION_SIZE, REGIONS_START};
+use common::{ADDRESS_END, GRANULE_SIZE, REGION_SIZE, REGIONS_START};
 use heap_bounds::{Block, RangeUse};
 use heap_picture::{GRANULES, GranuleOwner, PictureGranule, PictureRow, ROWS};
 use mte_tags::{FaultKind, Tagged};

@@ -1,6 +1,6 @@
 //! The tags around an address.
 
-use address_map::GRANULE_SIZE;
+use common::GRANULE_SIZE;
 use mte_tags::Tagged;
 use std::io::Write;
 use std::{fmt, io};

@@ -1,16 +1,16 @@
 //! A tenant alone on a memory of its own.
 
 ghost use Rattle.std.specs.Prelude.{◌≡◌, ◌<◌, [], Some, false, IfOk, IfErr, IsErrOf};
-ghost use Rattle.obstacle.specs.Obstacles.{IfRefused};
+ghost use Rattle.common.specs.Obstacles.{IfRefused};
 ghost use Rattle.mte_svc.specs.Ready.{IsReady};
 
 use a64_run::OpCache;
+use common::Obstacle;
 use mte_flat::Flat;
 use mte_tenant::{
     Admission, AdmitError, Status, TenantParts, Watch, admit_alone, is_bad_reservation, slice,
     slice_watched,
 };
-use obstacle::Obstacle;
 use std::alloc::Global;
 
 /// What may watch a tenant.

@@ -1,4 +1,4 @@
-//! A run of one tenant, alone or of a session, what watches it, and how it ended.
+//! A run of one tenant, what watches it, and how it ended.
 #![tactic(auto)]
 
 mod bench;
@@ -7,10 +7,7 @@ mod line_log;
 mod lone;
 mod observer;
 mod output_stream;
-mod replay;
 mod seeds;
-mod session_course;
-mod session_replay;
 mod slices;
 mod store_watcher;
 mod survey;
@@ -19,8 +16,6 @@ mod tracer;
 pub use bench::{TenantBench, Watcher};
 pub use ending::{LastLine, REFUSED, TenantEnding};
 pub use line_log::observer_of;
-pub use lone::{LoneTenant, admission_of};
+pub use lone::{LoneTenant, admission_of, wants_watch};
 pub use observer::Observer;
-pub use replay::{Replayed, decide, replay_tenant};
-pub use session_course::{Admitted, SessionCourse};
-pub use session_replay::{SessionReplay, events_of};
+pub use store_watcher::StoreWatcher;

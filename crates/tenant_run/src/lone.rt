@@ -10,8 +10,8 @@ use crate::slices::run_slices;
 use crate::store_watcher::StoreWatcher;
 use crate::survey::Survey;
 use check_kinds::Suppressions;
+use common::Obstacle;
 use mte_tenant::{Admission, AdmitError, Terms};
-use obstacle::Obstacle;
 use run_terms::{Failure, Options};
 use std::alloc::Global;
 
@@ -48,15 +48,16 @@ pub struct LoneTenant<'x> {
 }
 
 impl<'x> LoneTenant<'x> {
-    /// A tenant of an image, under the seed of the run that is reported: of several the first under
-    /// which it does not exit. A line says how the runs under several seeds ended.
-    pub fn of(
+    /// A tenant of an image at its first instruction, under the seed of the run that is reported:
+    /// of several the first under which it does not exit. A line says how the runs under several
+    /// seeds ended.
+    pub fn admitted(
         rt: &HostRuntime,
         options: &Options,
         image: &'x [u8],
         input: &'x [u8],
         suppressions: &'x Suppressions,
-    ) -> Result<LoneTenant<'x>, Obstacle<AdmitError>> {
+    ) -> Result<(LoneTenant<'x>, TenantBench), Obstacle<AdmitError>> {
         let given = options.run.terms.seed;
         let seed = if options.run.seeds < 2 {
             given
@@ -65,15 +66,13 @@ impl<'x> LoneTenant<'x> {
             let _ = eprintln!(rt; "mte_run: {survey}");
             survey.seed(given)
         };
-        Ok(LoneTenant { image, input, seed })
+        let tenant = LoneTenant { image, input, seed };
+        let bench = tenant.bench(rt.alloc(), options)?;
+        Ok((tenant, bench))
     }
 
     /// The tenant at its first instruction.
-    pub fn bench(
-        &self,
-        alloc: Global,
-        options: &Options,
-    ) -> Result<TenantBench, Obstacle<AdmitError>> {
+    fn bench(&self, alloc: Global, options: &Options) -> Result<TenantBench, Obstacle<AdmitError>> {
         let admission = admission_of(options, self.image, self.input, self.seed);
         TenantBench::new(alloc, &admission)
     }

@@ -1,8 +1,7 @@
 //! What a tenant writes, on standard output.
 
-use mte_program::StreamSink;
-use mte_session::write_all;
 use mte_tenant::Output;
+use std::io::Write;
 
 /// Writes what a tenant has written as it comes, each byte once, whichever run of the tenant it
 /// comes from: two runs of a tenant write the same.
@@ -45,7 +44,6 @@ impl<'r> OutputStream<'r> {
             return;
         }
         self.count = bytes.len();
-        let mut out = StreamSink(rt.stdout());
-        self.has_failed = write_all(&mut out, rest).is_err();
+        self.has_failed = rt.stdout().write_all(rest).is_err();
     }
 }

@@ -2,7 +2,7 @@
 
 use crate::bench::{TenantBench, Watcher};
 use crate::output_stream::OutputStream;
-use address_map::MAX_STEPS;
+use common::MAX_STEPS;
 use run_terms::Options;
 
 /// Runs the slices that are named, or as many as the limit of steps holds.

@@ -1,2 +1,3 @@
 pub mod Maps
 pub mod Snapshots
+pub mod Held

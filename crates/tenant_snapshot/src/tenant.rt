@@ -1,7 +1,7 @@
 //! A tenant alone with a snapshot of its machine.
 
 ghost use Rattle.std.specs.Prelude.{◌≡◌, [], None, IfOk, IfErr, OnOk, OnErr, IsErrOf, false};
-ghost use Rattle.obstacle.specs.Obstacles.{IfRefused};
+ghost use Rattle.common.specs.Obstacles.{IfRefused};
 ghost use Rattle.mte_svc.specs.Ready.{IsReady};
 ghost use Rattle.mte_tenant.specs.Admissions.{start_in};
 ghost use Rattle.mte_tenant.specs.Ledger.{is_bad, admission_refusal, charge_of};
@@ -9,13 +9,13 @@ ghost use Rattle.mte_tenant.specs.Ledger.{is_bad, admission_refusal, charge_of};
 use crate::exact_watch::ExactWatch;
 use crate::run_watch::RunWatch;
 use a64_run::{Edges, OpCache};
+use common::Obstacle;
 use heap_bounds::Bounds;
 use mte_flat::{Flat, SnapshotMemory};
 use mte_svc::{Input, TenantParts};
 use mte_tenant::{
     Admission, AdmitError, admit_alone, is_bad_reservation, slice_watched, slice_with_edges,
 };
-use obstacle::Obstacle;
 use std::alloc::{AllocError, Global};
 
 /// A tenant's machine, as the definition has it, and a snapshot of it. Its table of kept

@@ -1,2 +1,4 @@
+pub mod HeapAnswers
+pub mod HeapWorlds
 pub mod Reports
 pub mod Alone

@@ -1,18 +1,18 @@
 //! A tenant alone on a memory of its own.
 
 ghost use Rattle.std.specs.Prelude.{◌≡◌, ◌<◌, Some, None, false, IfOk, IfErr, OnOk, IsErrOf};
-ghost use Rattle.obstacle.specs.Obstacles.{IfRefused};
+ghost use Rattle.common.specs.Obstacles.{IfRefused};
 ghost use Rattle.mte_svc.specs.Ready.{IsReady};
 ghost use Rattle.mte_tenant.specs.Admissions.{start_in};
 ghost use Rattle.mte_tenant.specs.Ledger.{is_bad};
 ghost use Rattle.tombolopan.specs.Alone.{refusal_alone, record_after};
 
 use a64_run::OpCache;
+use common::Obstacle;
 use mte_flat::Flat;
 use mte_tenant::{
     Admission, AdmitError, Record, TenantParts, admit_alone, is_bad_reservation, slice,
 };
-use obstacle::Obstacle;
 use std::alloc::Global;
 
 /// A tenant's machine, as the definition has it: it is made by `admit_alone` and changed by slices

@@ -5,7 +5,7 @@
 //!   `PageStore`;
 //! - `step` and `run` over any such memory, `run_cached` with a table of kept instructions
 //!   (`OpCache`);
-//! - a heap with tags: `Heap` in a memory, `HeapBench` with one of its own;
+//! - a heap with tags: `Heap` in a memory, `HeapBench` with one of its own, `answer` over any;
 //! - ELF64 images: `plan`, `load`;
 //! - a tenant alone: `Lone`, `run_alone`; with a watch: `slice_watched`; brought back to a
 //!   snapshot: `SnapshotTenant`, whose branches an `EdgeMap` counts, and whose accesses an
@@ -17,6 +17,10 @@
 #![tactic(auto)]
 
 mod alone;
+mod heap_access;
+mod heap_answer;
+mod heap_bench;
+mod heap_op;
 mod session_report;
 
 pub use a64_decode::{Decoder, decode};
@@ -25,8 +29,11 @@ pub use a64_run::{OpCache, run_cached, run_on_cache};
 pub use a64_step::{Outcome, Regs, Stop, run, step};
 pub use a64_text::{Text, TextAt};
 pub use alone::{Lone, run_alone};
+pub use common::Obstacle;
+pub use heap_answer::answer;
+pub use heap_bench::HeapBench;
 pub use heap_bounds::{Bounds, Span, Trespass};
-pub use heap_calls::{HeapAnswer, HeapBench, HeapOp};
+pub use heap_op::{HeapAnswer, HeapOp};
 pub use mte_elf::{ElfError, Plan, Segment, load, plan};
 pub use mte_flat::Flat;
 pub use mte_sched::{Host, Tenant};
@@ -43,7 +50,6 @@ pub use mte_tenant::{
     Admission, AdmitError, NotLive, Record, Refusal, Status, TenantParts, Terms, Watch,
     admit_alone, settle, slice, slice_watched,
 };
-pub use obstacle::Obstacle;
 pub use scudo_heap::{Heap, HeapAbort, HeapCall, condition_of_calls};
 pub use session_report::report;
 pub use tenant_snapshot::{

@@ -1,12 +1,12 @@
 -- What is kept of a setup, and what becomes of a run, by cases of the handle.
 use Rattle.std.proofs.Common.{◌≡◌, ℕ, [], sym, subst, false, Option, None, Some}
-use Rattle.obstacle.specs.declared.Obstacle.TheVariants.{OutOfMemory}
+use Rattle.common.specs.declared.obstacle.Obstacle.TheVariants.{OutOfMemory}
 use Rattle.mte_tenant.specs.Ledger.{admission_refusal, charge_of, facts_of, is_bad}
 use Rattle.mte_tenant.proofs.Refusals.{each_passed}
 use Rattle.tenant_snapshot.specs.Maps.{is_map_length}
 use Rattle.tenant_snapshot.specs.declared.tenant.SnapshotTenant.{SnapshotTenant}
 use Rattle.tombolopan.specs.Alone.{refusal_alone}
-use Rattle.call_reports.specs.declared.codes.TheConstants.{OUT_OF_MEMORY, NO_REFUSAL}
+use Rattle.c_reports.specs.declared.codes.TheConstants.{OUT_OF_MEMORY, NO_REFUSAL}
 use Rattle.tombolopan_c.specs.LoneTenants.{lent_start, without_tenant}
 use Rattle.tombolopan_c.specs.LentFuzz.{HasSaved, HasRun, HasAnswered, saved_of}
 use Rattle.tombolopan_c.specs.declared.alone_end.AloneEnd.{AloneEnd}

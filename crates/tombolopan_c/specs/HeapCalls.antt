@@ -1,7 +1,7 @@
 -- A heap's calls as an array: what each means, and what is entered of its answer.
 use Rattle.std.specs.Prelude.{ℕ, zero, suc, ◌%◌, ◌==◌, ◌&&◌, Bool, not, nat_lt, nat_le}
 use Rattle.std.specs.Prelude.{List, slice_index_or, Option, Some, None, if◌then◌else◌}
-use Rattle.address_map.specs.declared.limits.TheConstants.{MAX_PAGES}
+use Rattle.common.specs.declared.limits.TheConstants.{MAX_PAGES}
 use Rattle.mte_tags.specs.Memory.{no_pages}
 use Rattle.mte_tags.specs.declared.generator.Rgsr.{Rgsr}
 use Rattle.mte_tags.specs.declared.state.TagMode.{TagMode}
@@ -10,18 +10,18 @@ use Rattle.scudo_heap.specs.Placing.{World, world_of}
 use Rattle.scudo_heap.specs.declared.abort.HeapAbort.{HeapAbort}
 use Rattle.scudo_heap.specs.declared.abort.HeapAbort.TheVariants as abort
 use Rattle.scudo_heap.specs.declared.call.HeapCall.TheVariants as heap
-use Rattle.heap_calls.specs.Answers.{after_operation}
-use Rattle.heap_calls.specs.declared.op.HeapOp.{HeapOp}
-use Rattle.heap_calls.specs.declared.op.HeapOp.TheVariants as op
-use Rattle.heap_calls.specs.declared.op.HeapAnswer.{HeapAnswer}
-use Rattle.heap_calls.specs.declared.op.HeapAnswer.TheVariants as answer
-use Rattle.call_reports.specs.Faults.{no_fault, report_of}
+use Rattle.tombolopan.specs.HeapAnswers.{after_operation}
+use Rattle.tombolopan.specs.declared.heap_op.HeapOp.{HeapOp}
+use Rattle.tombolopan.specs.declared.heap_op.HeapOp.TheVariants as op
+use Rattle.tombolopan.specs.declared.heap_op.HeapAnswer.{HeapAnswer}
+use Rattle.tombolopan.specs.declared.heap_op.HeapAnswer.TheVariants as answer
+use Rattle.c_reports.specs.Faults.{no_fault, report_of}
 use Rattle.tombolopan_c.specs.LentPages.{mode_for}
-use Rattle.call_reports.specs.declared.codes.TheConstants.{OK, FAULT, ABORT, BAD_ARGUMENT}
-use Rattle.call_reports.specs.declared.codes.TheConstants.{MISALIGNED, UNMAPPED, HEADER_CORRUPT}
-use Rattle.call_reports.specs.declared.codes.TheConstants.{INVALID_STATE, NOT_A_BLOCK, ALREADY_FREE}
-use Rattle.call_reports.specs.declared.codes.TheConstants.{MALLOC, FREE, CALLOC, REALLOC, MEMALIGN}
-use Rattle.call_reports.specs.declared.codes.TheConstants.{USABLE_SIZE, LOAD, STORE, LOAD_TAG}
+use Rattle.c_reports.specs.declared.codes.TheConstants.{OK, FAULT, ABORT, BAD_ARGUMENT}
+use Rattle.c_reports.specs.declared.codes.TheConstants.{MISALIGNED, UNMAPPED, HEADER_CORRUPT}
+use Rattle.c_reports.specs.declared.codes.TheConstants.{INVALID_STATE, NOT_A_BLOCK, ALREADY_FREE}
+use Rattle.c_reports.specs.declared.codes.TheConstants.{MALLOC, FREE, CALLOC, REALLOC, MEMALIGN}
+use Rattle.c_reports.specs.declared.codes.TheConstants.{USABLE_SIZE, LOAD, STORE, LOAD_TAG}
 use Rattle.tombolopan_c.specs.declared.lent_heap.HeapSetup.{HeapSetup}
 use Rattle.tombolopan_c.specs.declared.lent_heap.LentHeapCall.{LentHeapCall}
 

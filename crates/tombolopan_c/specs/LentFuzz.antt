@@ -1,9 +1,9 @@
 -- A machine that is kept between calls: its setup, and its runs.
 use Rattle.std.specs.Prelude.{◌≡◌, ◌⊎◌, ℕ, Bool, true, false, not, Option, Some, None}
 use Rattle.std.specs.Prelude.{if◌then◌else◌}
-use Rattle.obstacle.specs.Obstacles.{IfRefused}
-use Rattle.obstacle.specs.declared.Obstacle.{Obstacle}
-use Rattle.obstacle.specs.declared.Obstacle.TheVariants as obstacle
+use Rattle.common.specs.Obstacles.{IfRefused}
+use Rattle.common.specs.declared.obstacle.Obstacle.{Obstacle}
+use Rattle.common.specs.declared.obstacle.Obstacle.TheVariants as obstacle
 use Rattle.mte_tenant.specs.declared.admission.AdmitError.{AdmitError}
 use Rattle.mte_tenant.specs.Ledger.{is_bad}
 use Rattle.mte_tenant.specs.Machines.{Machine, machine_of, start_of}
@@ -14,7 +14,7 @@ use Rattle.tenant_snapshot.specs.Snapshots.{with_input}
 use Rattle.tenant_snapshot.specs.declared.exact_watch.ExactFinding.{ExactFinding}
 use Rattle.tenant_snapshot.specs.declared.tenant.SnapshotTenant.{SnapshotTenant}
 use Rattle.tombolopan.specs.Alone.{after_slices, refusal_alone}
-use Rattle.call_reports.specs.declared.codes.TheConstants as code
+use Rattle.c_reports.specs.declared.codes.TheConstants as code
 use Rattle.tombolopan_c.specs.LoneTenants.{lent_start, end_without, told_end, without_tenant}
 use Rattle.tombolopan_c.specs.declared.alone_end.AloneEnd.{AloneEnd}
 use Rattle.tombolopan_c.specs.declared.fuzz_answer.FuzzAnswer.{FuzzAnswer}

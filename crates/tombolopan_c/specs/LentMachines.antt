@@ -2,18 +2,18 @@
 -- it.
 use Rattle.std.specs.Prelude.{◌≡◌, ℕ, ◌<◌, List, length, slice_index_or, Some, None}
 use Rattle.std.specs.Prelude.{Result, Ok, Err, false}
-use Rattle.obstacle.specs.Obstacles.{IfRefused}
-use Rattle.obstacle.specs.declared.Obstacle.{Obstacle}
-use Rattle.obstacle.specs.declared.Obstacle.TheVariants as obstacle
+use Rattle.common.specs.Obstacles.{IfRefused}
+use Rattle.common.specs.declared.obstacle.Obstacle.{Obstacle}
+use Rattle.common.specs.declared.obstacle.Obstacle.TheVariants as obstacle
 use Rattle.a64_registers.specs.declared.registers.Regs.{Regs}
 use Rattle.mte_tenant.specs.declared.admission.AdmitError.{AdmitError}
 use Rattle.mte_tenant.specs.Ledger.{is_bad}
 use Rattle.mte_tenant.specs.Machines.{Machine, start_of}
 use Rattle.tombolopan.specs.Alone.{refusal_alone}
-use Rattle.machine_acts.specs.Machines.{machine_before, act_done}
-use Rattle.machine_acts.specs.Pages.{IsPageMap}
-use Rattle.machine_acts.specs.declared.act.MachineAct.{MachineAct}
-use Rattle.machine_acts.specs.declared.pages.PageEntry.{PageEntry}
+use Rattle.c_reports.specs.Machines.{machine_before, act_done}
+use Rattle.c_reports.specs.Pages.{IsPageMap}
+use Rattle.c_reports.specs.declared.act.MachineAct.{MachineAct}
+use Rattle.c_reports.specs.declared.pages.PageEntry.{PageEntry}
 use Rattle.tombolopan_c.specs.LentBuffers.{filled}
 use Rattle.tombolopan_c.specs.LoneTenants.{Buffers, lent_start, end_without, record_end}
 use Rattle.tombolopan_c.specs.LoneTenants.{buffers_after}

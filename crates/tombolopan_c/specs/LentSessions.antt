@@ -2,7 +2,7 @@
 -- end.
 use Rattle.std.specs.Prelude.{◌≡◌, ℕ, ◌==◌, ◌&&◌, Bool, not, nat_le, List, length, Ok, Err}
 use Rattle.std.specs.Prelude.{Result, if◌then◌else◌}
-use Rattle.address_map.specs.declared.limits.TheConstants.{MAX_FRAMES}
+use Rattle.common.specs.declared.limits.TheConstants.{MAX_FRAMES}
 use Rattle.mte_script.specs.declared.error.ScriptFault.{ScriptFault}
 use Rattle.mte_script.specs.declared.error.ScriptFault.TheVariants as fault
 use Rattle.mte_session.specs.declared.session.SessionError.{SessionError}
@@ -10,9 +10,9 @@ use Rattle.mte_session.specs.declared.session.SessionError.TheVariants.{Script, 
 use Rattle.mte_session.specs.Outcomes.{Input}
 use Rattle.tombolopan.specs.Reports.{IsReport, FailsBy}
 use Rattle.tombolopan_c.specs.LentBuffers.{lent_contents, filled}
-use Rattle.call_reports.specs.declared.codes.TheConstants.{OK, NO_ROOM, OUT_OF_MEMORY, SCRIPT}
-use Rattle.call_reports.specs.declared.codes.TheConstants.{SYNTAX, BAD_NUMBER, NO_SUCH_FILE}
-use Rattle.call_reports.specs.declared.codes.TheConstants.{TOO_MANY_EVENTS}
+use Rattle.c_reports.specs.declared.codes.TheConstants.{OK, NO_ROOM, OUT_OF_MEMORY, SCRIPT}
+use Rattle.c_reports.specs.declared.codes.TheConstants.{SYNTAX, BAD_NUMBER, NO_SUCH_FILE}
+use Rattle.c_reports.specs.declared.codes.TheConstants.{TOO_MANY_EVENTS}
 use Rattle.tombolopan_c.specs.declared.lent_bytes.LentBytes.{LentBytes}
 use Rattle.tombolopan_c.specs.declared.session_end.SessionEnd.{SessionEnd}
 

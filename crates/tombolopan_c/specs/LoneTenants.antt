@@ -1,9 +1,9 @@
 -- A tenant alone, of terms that the caller lends: its slices, and what is told of it.
 use Rattle.std.specs.Prelude.{◌≡◌, ℕ, ◌==◌, ◌&&◌, not, nat_le, List, map, length}
 use Rattle.std.specs.Prelude.{Some, None, Result, Ok, Err, false, if◌then◌else◌}
-use Rattle.obstacle.specs.Obstacles.{IfRefused}
-use Rattle.obstacle.specs.declared.Obstacle.{Obstacle}
-use Rattle.obstacle.specs.declared.Obstacle.TheVariants as obstacle
+use Rattle.common.specs.Obstacles.{IfRefused}
+use Rattle.common.specs.declared.obstacle.Obstacle.{Obstacle}
+use Rattle.common.specs.declared.obstacle.Obstacle.TheVariants as obstacle
 use Rattle.mte_elf.specs.declared.error.ElfError.{ElfError}
 use Rattle.mte_elf.specs.declared.error.ElfError.TheVariants as image
 use Rattle.scudo_heap.specs.Calls.{arguments_of}
@@ -17,11 +17,11 @@ use Rattle.mte_tenant.specs.declared.admission.AdmitError.TheVariants as refusal
 use Rattle.mte_tenant.specs.Ledger.{is_bad}
 use Rattle.mte_tenant.specs.Machines.{Start}
 use Rattle.tombolopan.specs.Alone.{refusal_alone, record_after}
-use Rattle.call_reports.specs.Faults.{no_fault, report_of}
+use Rattle.c_reports.specs.Faults.{no_fault, report_of}
 use Rattle.tombolopan_c.specs.HeapCalls.{abort_code}
 use Rattle.tombolopan_c.specs.LentBuffers.{filled}
 use Rattle.tombolopan_c.specs.LentPages.{mode_for}
-use Rattle.call_reports.specs.declared.codes.TheConstants as code
+use Rattle.c_reports.specs.declared.codes.TheConstants as code
 use Rattle.tombolopan_c.specs.declared.alone_end.AloneEnd.{AloneEnd}
 use Rattle.tombolopan_c.specs.declared.kept_calls.KeptCall.{KeptCall}
 use Rattle.tombolopan_c.specs.declared.lent_terms.LentTerms.{LentTerms}

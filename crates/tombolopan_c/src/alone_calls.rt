@@ -7,7 +7,7 @@ use crate::alone_end::AloneEnd;
 use crate::kept_calls::{KeptCall, told_calls};
 use crate::lent_bytes::copy_to;
 use crate::lent_terms::LentTerms;
-use call_reports::{NO_ROOM, OK};
+use c_reports::{NO_ROOM, OK};
 use mte_tenant::Record;
 use std::alloc::Global;
 use tombolopan::run_alone;

@@ -5,14 +5,14 @@ ghost use Rattle.tombolopan_c.specs.LoneTenants.{image_code, refusal_code, end_w
 ghost use Rattle.tombolopan_c.specs.LoneTenants.{without_tenant};
 
 use crate::status_report::StatusReport;
-use call_reports::{
+use c_reports::{
     BAD_HEADERS, BAD_RESERVATION, DUPLICATE, INTERPRETER, NO_ENTRY, NO_FRAMES, NO_REFUSAL,
     NOT_AARCH64, NOT_ELF64, NOT_EXEC, OUT_OF_MEMORY, OVERLAP, REFUSED, RESERVATION_TOO_SMALL,
     SEGMENT_RANGE, SHORT, TOO_MANY_LIVE,
 };
+use common::Obstacle;
 use mte_elf::ElfError;
 use mte_tenant::{AdmitError, Record};
-use obstacle::Obstacle;
 
 /// How a tenant alone ended.
 #[repr(C)]

@@ -2,7 +2,7 @@
 
 ghost use Rattle.std.specs.Prelude.{◌≡◌, length, drop};
 
-use build_info::copy_text;
+use common::build_info::copy_text;
 
 /// Copies as much as a buffer holds of lines with the version, the commit, whether files differ
 /// from it, the toolchain's sum, and whether all is proved; answers how many bytes they have.

@@ -2,12 +2,12 @@
 
 ghost use Rattle.std.specs.Prelude.{◌≡◌, ◌≢◌, ◌⊎◌, ℕ, ◌<◌, length, slice_index_or, true, false};
 ghost use Rattle.tombolopan_c.specs.HeapCalls.{is_setup, after_heap_call, start_of, call_made};
-ghost use Rattle.call_reports.specs.declared.codes.TheConstants.{OK, BAD_ARGUMENT, OUT_OF_MEMORY};
+ghost use Rattle.c_reports.specs.declared.codes.TheConstants.{OK, BAD_ARGUMENT, OUT_OF_MEMORY};
 
 use crate::lent_heap::{HeapSetup, LentHeapCall};
-use call_reports::{BAD_ARGUMENT, OK, OUT_OF_MEMORY};
-use heap_calls::HeapBench;
+use c_reports::{BAD_ARGUMENT, OK, OUT_OF_MEMORY};
 use std::alloc::Global;
+use tombolopan::HeapBench;
 
 /// Makes a call, where its operation is one, and returns it with its answer.
 pub(crate) fn make(bench: &mut HeapBench, call: &LentHeapCall) -> LentHeapCall

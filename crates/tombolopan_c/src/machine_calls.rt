@@ -3,8 +3,8 @@
 ghost use Rattle.std.specs.Prelude.{◌≡◌, ◌≢◌, ◌≤◌, ◌<◌, ◌⊎◌, length, None, false};
 ghost use Rattle.mte_tenant.specs.Ledger.{is_bad};
 ghost use Rattle.tombolopan.specs.Alone.{refusal_alone};
-ghost use Rattle.call_reports.specs.declared.codes.TheConstants.{OK, NO_ROOM, REFUSED};
-ghost use Rattle.call_reports.specs.declared.codes.TheConstants.{OUT_OF_MEMORY};
+ghost use Rattle.c_reports.specs.declared.codes.TheConstants.{OK, NO_ROOM, REFUSED};
+ghost use Rattle.c_reports.specs.declared.codes.TheConstants.{OUT_OF_MEMORY};
 ghost use Rattle.tombolopan_c.specs.LentRegisters.{regs_of};
 ghost use Rattle.tombolopan_c.specs.LentMachines.{HasActed, HasPages, AreAnswered};
 ghost use Rattle.tombolopan_c.specs.LoneTenants.{lent_start};
@@ -15,9 +15,8 @@ use crate::kept_calls::KeptCall;
 use crate::lent_bytes::copy_to;
 use crate::lent_regs::LentRegs;
 use crate::lent_terms::LentTerms;
-use call_reports::{NO_ROOM, OK, OUT_OF_MEMORY, REFUSED};
-use machine_acts::{ActedMachine, MachineAct, PageEntry, page_map};
-use obstacle::Obstacle;
+use c_reports::{ActedMachine, MachineAct, NO_ROOM, OK, OUT_OF_MEMORY, PageEntry, REFUSED, page_map};
+use common::Obstacle;
 use std::alloc::Global;
 
 /// How a tenant's machine ended.

@@ -4,17 +4,16 @@ ghost use Rattle.std.specs.Prelude.{◌≡◌, ◌≢◌, ◌≤◌, ◌<◌, �
 ghost use Rattle.std.specs.Prelude.{Err, IfOk, IfErr, OnOk, OnErr};
 ghost use Rattle.tombolopan_c.specs.HeapCalls.{is_setup, start_of};
 ghost use Rattle.tombolopan_c.specs.HeapReplays.{step_made, replayed, first_bad, HasHeapPages};
-ghost use Rattle.call_reports.specs.declared.codes.TheConstants.{OK, BAD_ARGUMENT, OUT_OF_MEMORY};
-ghost use Rattle.call_reports.specs.declared.codes.TheConstants.{NO_ROOM};
+ghost use Rattle.c_reports.specs.declared.codes.TheConstants.{OK, BAD_ARGUMENT, OUT_OF_MEMORY};
+ghost use Rattle.c_reports.specs.declared.codes.TheConstants.{NO_ROOM};
 
 use crate::heap_lists::make;
 use crate::lent_bytes::copy_to;
 use crate::lent_heap::HeapSetup;
 use crate::lent_step::{HeapStep, find_bad};
-use call_reports::{BAD_ARGUMENT, NO_ROOM, OK, OUT_OF_MEMORY};
-use heap_calls::HeapBench;
-use machine_acts::{PageEntry, page_map};
+use c_reports::{BAD_ARGUMENT, NO_ROOM, OK, OUT_OF_MEMORY, PageEntry, page_map};
 use std::alloc::Global;
+use tombolopan::HeapBench;
 
 /// Makes the call of a step of a list, and returns the step with its answer.
 #[inline(always)]

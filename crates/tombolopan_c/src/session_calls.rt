@@ -2,12 +2,12 @@
 
 ghost use Rattle.std.specs.Prelude.{◌≡◌, true, false};
 ghost use Rattle.tombolopan_c.specs.LentSessions.{lent_input, is_frames, HasEnded, without_report};
-ghost use Rattle.call_reports.specs.declared.codes.TheConstants.{BAD_ARGUMENT};
+ghost use Rattle.c_reports.specs.declared.codes.TheConstants.{BAD_ARGUMENT};
 
 use crate::lent_bytes::{LentBytes, copy_files, copy_to};
 use crate::session_end::SessionEnd;
-use address_map::MAX_FRAMES;
-use call_reports::{BAD_ARGUMENT, OUT_OF_MEMORY};
+use c_reports::{BAD_ARGUMENT, OUT_OF_MEMORY};
+use common::MAX_FRAMES;
 use mte_session::SessionError;
 use std::alloc::Global;
 

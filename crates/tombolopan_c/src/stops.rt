@@ -5,7 +5,7 @@ ghost use Rattle.tombolopan_c.specs.RunsUntil.{until_report};
 ghost use Rattle.tombolopan_c.specs.Stops.{stop_report};
 
 use a64_step::{Outcome, Stop};
-use call_reports::{BREAKPOINT, FAULT, FaultReport, ILLEGAL, OK, STOPPED, SVC};
+use c_reports::{BREAKPOINT, FAULT, FaultReport, ILLEGAL, OK, STOPPED, SVC};
 
 /// How a step or a run ended.
 #[repr(C)]

@@ -1,7 +1,9 @@
 //! Whether something depends on undefined bits: a branch, an address, a jump, a service.
 
 use crate::state::{UndefinedBits, number_in};
+use a64_access::{AccessForm, AddressingMode};
 use a64_instr::Instr;
+use a64_instr::fields::RegisterOffset;
 use a64_registers::operands::truncate;
 use shadow_memory::Step;
 use undefined_values::UndefinedOrigin;
@@ -60,7 +62,7 @@ impl UndefinedBits {
                 self.judge_bits(rt, bit, UseKind::Branch)
             }
             Instr::BranchReg { rn, .. } => self.judge_bits(rn, u64::MAX, UseKind::Jump),
-            _ => self.judge_address(step.instr),
+            _ => self.judge_address(step.form.as_ref()?),
         }
     }
 
@@ -85,31 +87,18 @@ impl UndefinedBits {
     }
 
     /// Whether the address that an instruction accesses is undefined.
-    fn judge_address(&self, instr: &Instr) -> Option<UndefinedUse> {
-        match *instr {
-            Instr::LdStReg { rm, option, rn, .. } => {
-                let mask = if option % 4 == 3 {
-                    u64::MAX
-                } else {
-                    0xffff_ffff
-                };
-                let index = self.judge_bits(rm, mask, UseKind::Address);
-                if index.is_some() {
-                    return index;
-                }
-                self.judge_bits(rn, u64::MAX, UseKind::Address)
+    fn judge_address(&self, form: &AccessForm) -> Option<UndefinedUse> {
+        if let AddressingMode::RegisterOffset(RegisterOffset { rm, option, .. }) = form.mode {
+            let mask = if option % 4 == 3 {
+                u64::MAX
+            } else {
+                0xffff_ffff
+            };
+            let index = self.judge_bits(rm, mask, UseKind::Address);
+            if index.is_some() {
+                return index;
             }
-            Instr::LdStImm { rn, .. }
-            | Instr::LdStUnscaled { rn, .. }
-            | Instr::LdStPost { rn, .. }
-            | Instr::LdStPre { rn, .. }
-            | Instr::PairPost { rn, .. }
-            | Instr::PairOff { rn, .. }
-            | Instr::PairPre { rn, .. }
-            | Instr::Ldg { rn, .. }
-            | Instr::StG { rn, .. }
-            | Instr::StGP { rn, .. } => self.judge_bits(rn, u64::MAX, UseKind::Address),
-            _ => None,
         }
+        self.judge_bits(form.base, u64::MAX, UseKind::Address)
     }
 }

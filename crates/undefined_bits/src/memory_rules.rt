@@ -1,32 +1,23 @@
 //! What loads and stores do to undefined bits.
 
-use crate::state::{UndefinedBits, number_in};
+use crate::state::UndefinedBits;
+use a64_access::{AccessForm, AccessKind, LoadExtension};
 use a64_bits::{plain, sign_extend};
-use a64_instr::Instr;
-use address_map::GRANULE_SIZE;
+use a64_registers::Regs;
 use shadow_memory::{AccessedBytes, RegisterAccess, Step};
 use std::alloc::AllocError;
 use undefined_values::UndefinedValue;
 
-/// How a loaded value is extended.
-#[derive(Clone, Copy, PartialEq, Eq)]
-enum Extension {
-    /// By zeros.
-    Zeros,
-    /// By the sign, to 64 bits or to 32.
-    Sign(u8),
-}
-
 impl UndefinedBits {
     /// Notes a load or a store; whether the instruction is one.
     pub(crate) fn note_access(&mut self, step: &Step<'_>) -> Result<bool, AllocError> {
-        let Some(access) = step.access else {
-            return self.note_tags(step);
+        let Some(form) = &step.form else {
+            return Ok(false);
         };
-        if access.bytes.is_write {
-            self.note_store(&access)?;
-        } else {
-            self.note_load(step, &access);
+        match &step.access {
+            Some(access) if access.bytes.is_write => self.note_store(access)?,
+            Some(access) => self.note_load(access, form.extension),
+            None => self.note_zeros(form, step.before)?,
         }
         Ok(true)
     }
@@ -48,8 +39,7 @@ impl UndefinedBits {
     }
 
     /// Notes a load of one register or two.
-    fn note_load(&mut self, step: &Step<'_>, access: &RegisterAccess) {
-        let extension = extension_of(step.instr);
+    fn note_load(&mut self, access: &RegisterAccess, extension: LoadExtension) {
         let first = self.loaded(access.bytes, extension);
         if let Some(register) = access.second {
             let second = self.loaded(access.bytes.next(), extension);
@@ -59,60 +49,27 @@ impl UndefinedBits {
     }
 
     /// The undefined bits of the bytes that a register was loaded with.
-    fn loaded(&self, bytes: AccessedBytes, extension: Extension) -> UndefinedValue {
+    fn loaded(&self, bytes: AccessedBytes, extension: LoadExtension) -> UndefinedValue {
         let count = small_count(bytes.count);
         let found = self.memory.load(plain(bytes.addr), count);
         if found.is_defined() {
             return found;
         }
-        match extension {
-            Extension::Zeros => found,
-            Extension::Sign(size) => {
-                let bits = extend_signed(found.bits, count);
-                let bits = if size == 32 { bits & 0xffff_ffff } else { bits };
-                UndefinedValue::of(bits, found.origin)
-            }
-        }
-    }
-
-    /// Notes a load or a store of tags, of which some store zeros; whether the instruction is one.
-    fn note_tags(&mut self, step: &Step<'_>) -> Result<bool, AllocError> {
-        match *step.instr {
-            Instr::Ldg { .. } => Ok(true),
-            Instr::StG {
-                opc,
-                imm9,
-                mode,
-                rn,
-                ..
-            } => {
-                if opc % 2 == 1 {
-                    let granules = if mode == 1 { 0 } else { i64::from(imm9) };
-                    self.clear_granules(step, rn, granules, if opc >= 2 { 2 } else { 1 })?;
-                }
-                Ok(true)
-            }
-            _ => Ok(false),
-        }
-    }
-
-    /// Notes that zeros are stored in some granules, which are a number of granules from the
-    /// address in a register, or in SP for 31.
-    fn clear_granules(
-        &mut self,
-        step: &Step<'_>,
-        rn: u8,
-        granules: i64,
-        count: u64,
-    ) -> Result<(), AllocError> {
-        let base = if rn == 31 {
-            step.before.sp
-        } else {
-            number_in(step.before, rn)
+        let bits = match extension {
+            LoadExtension::Zero => return found,
+            LoadExtension::Sign64 => extend_signed(found.bits, count),
+            LoadExtension::Sign32 => extend_signed(found.bits, count) & 0xffff_ffff,
         };
-        let offset = u64::from_le_bytes(granules.wrapping_mul(16).to_le_bytes());
-        let start = plain(base.wrapping_add(offset));
-        let end = start.saturating_add(count.saturating_mul(GRANULE_SIZE));
+        UndefinedValue::of(bits, found.origin)
+    }
+
+    /// Notes the zeros that are stored with tags.
+    fn note_zeros(&mut self, form: &AccessForm, regs: &Regs) -> Result<(), AllocError> {
+        if !matches!(form.kind, AccessKind::StoreZeros) {
+            return Ok(());
+        }
+        let start = plain(form.addr(regs));
+        let end = start.saturating_add(form.len());
         self.memory.fill(start, end, UndefinedValue::DEFINED)
     }
 }
@@ -129,25 +86,5 @@ fn extend_signed(bits: u64, bytes: u8) -> u64 {
         2 => sign_extend(bits, 16),
         4 => sign_extend(bits, 32),
         _ => bits,
-    }
-}
-
-/// How a load extends what it loads.
-fn extension_of(instr: &Instr) -> Extension {
-    match *instr {
-        Instr::LdStImm { opc, .. }
-        | Instr::LdStUnscaled { opc, .. }
-        | Instr::LdStPost { opc, .. }
-        | Instr::LdStPre { opc, .. }
-        | Instr::LdStReg { opc, .. } => match opc {
-            2 => Extension::Sign(64),
-            3 => Extension::Sign(32),
-            _ => Extension::Zeros,
-        },
-        Instr::LdLit { opc: 2, .. }
-        | Instr::PairPost { opc: 1, .. }
-        | Instr::PairOff { opc: 1, .. }
-        | Instr::PairPre { opc: 1, .. } => Extension::Sign(64),
-        _ => Extension::Zeros,
     }
 }

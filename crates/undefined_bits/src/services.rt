@@ -3,7 +3,7 @@
 use crate::judgement::{UndefinedUse, UseKind};
 use crate::state::UndefinedBits;
 use a64_bits::plain;
-use address_map::GRANULE_SIZE;
+use common::GRANULE_SIZE;
 use shadow_memory::{AccessedBytes, Full};
 use undefined_values::{UndefinedOrigin, UndefinedValue};
 

@@ -2,7 +2,7 @@
 
 use a64_registers::Regs;
 use a64_registers::operands::truncate;
-use address_map::{STACK_END, STACK_START};
+use common::{STACK_END, STACK_START};
 use shadow_memory::{Full, Step};
 use std::alloc::{AllocError, Global};
 use undefined_values::{BitMemory, BitOperand, FlagState, UndefinedOrigin, UndefinedValue};

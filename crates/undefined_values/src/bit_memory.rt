@@ -2,7 +2,7 @@
 
 use crate::bit_page::{BitPage, ones};
 use crate::origin::UndefinedValue;
-use address_map::PAGE_SIZE;
+use common::PAGE_SIZE;
 use shadow_memory::PageNumbers;
 use std::alloc::{AllocError, Global};
 

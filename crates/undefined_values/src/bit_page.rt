@@ -1,7 +1,7 @@
 //! The undefined bits of one page.
 
 use crate::origin::{UndefinedOrigin, UndefinedValue};
-use address_map::PAGE_SIZE;
+use common::PAGE_SIZE;
 use std::alloc::{AllocError, Global};
 
 /// The bytes of a word.

@@ -1,6 +1,6 @@
 //! A copy of a list.
 
-use list_copy::copy_list;
+use common::copy_list;
 use std::test::Fail;
 
 #[test]

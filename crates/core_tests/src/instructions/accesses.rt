@@ -1,11 +1,12 @@
 //! The accesses of instructions.
 
+use a64_access::AccessForm;
 use a64_asm::Instr;
 use a64_decode::decode;
 use a64_registers::Regs;
 use std::test::Fail;
 use traced_run::{
-    ACCESS_READ, ACCESS_READ_TAG, ACCESS_WRITE, ACCESS_WRITE_TAG, access_of,
+    ACCESS_READ, ACCESS_READ_TAG, ACCESS_WRITE, ACCESS_WRITE_TAG, InstructionAccess, access_of,
     steps_without_access_keep_memory,
 };
 
@@ -58,4 +59,46 @@ fn accesses_of_instructions(rt: HostRuntime) -> Result<(), Fail> {
     assert!(rt; none.is_none());
     steps_without_access_keep_memory();
     Ok(())
+}
+
+/// A word of loads and stores (bits 27 to 25 are 100), which differs for each number.
+fn drawn_word(number: u32) -> u32 {
+    let mixed = number.wrapping_mul(0x9E37_79B1);
+    let mixed = (mixed ^ mixed >> 15).wrapping_mul(0x85EB_CA77);
+    (mixed & 0xF1FF_FFFF) | 0x0800_0000
+}
+
+/// Whether a form says what an access does.
+fn is_of_form(access: &InstructionAccess, form: &AccessForm, regs: &Regs) -> bool {
+    let addr = form.addr(regs);
+    // An access to tags is said to begin with their granule.
+    let addr = if form.is_of_registers() { addr } else { addr - addr % 16 };
+    let is_write = access.kind & (ACCESS_WRITE | ACCESS_WRITE_TAG) != 0;
+    access.addr == addr
+        && u64::from(access.size) == form.len()
+        && is_write == form.is_write()
+        && access.first == form.first
+        && access.second == form.second
+}
+
+#[test]
+fn forms_of_accesses(rt: HostRuntime) {
+    let mut regs = registers();
+    let mut value = 1u64;
+    for x in regs.x.iter_mut() {
+        value = value.wrapping_mul(0x9E37_79B9_7F4A_7C15);
+        *x = value;
+    }
+    for number in 1..20_000u32 {
+        let word = drawn_word(number);
+        let Some(instr) = decode(word) else {
+            continue;
+        };
+        let agrees = match (access_of(&instr, &regs), AccessForm::of(&instr)) {
+            (Some(access), Some(form)) => is_of_form(&access, &form, &regs),
+            (None, None) => true,
+            _ => false,
+        };
+        assert!(rt; agrees, "{word:#x}");
+    }
 }

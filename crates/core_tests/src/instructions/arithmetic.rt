@@ -2,8 +2,8 @@
 
 use a64_instr::Instr;
 use a64_registers::Regs;
-use arithmetic_faults::{ArithmeticFault, ArithmeticKind};
 use std::test::Fail;
+use undefined_bits::{ArithmeticFault, ArithmeticKind};
 
 #[test]
 fn operands_are_judged(rt: HostRuntime) -> Result<(), Fail> {

@@ -1,6 +1,6 @@
 //! The text of a word in a caller's buffer.
 
-use word_text::{TextError, write_text};
+use a64_text::{TextError, write_text};
 
 #[test]
 fn writes_a_text_and_a_zero(rt: HostRuntime) {

@@ -1,10 +1,10 @@
 //! Images of worked values, their refusals, and what they make of a memory.
 
 use crate::memory::calls::{MapCall, Value, answers};
+use common::Obstacle;
 use mte_elf::{ElfError, load, loading_keeps_memories_whole, plan};
 use mte_flat::Flat;
 use mte_tags::{Paged, TagMode, Tagged};
-use obstacle::Obstacle;
 use std::alloc::{AllocError, Global};
 use std::test::Fail;
 

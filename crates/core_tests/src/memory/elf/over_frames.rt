@@ -7,13 +7,13 @@ ghost use Rattle.mte_elf.specs.Images.{refusal_of, pages_of};
 
 use super::{EXECUTABLE, image, text};
 use crate::memory::space::{PAGES, SYNC, has_room, pool_of, two_quotas};
+use common::Obstacle;
 use mte_elf::{ElfError, Plan, load, plan};
 use mte_flat::Flat;
 use mte_frames::FramePool;
 use mte_space::{RememberedPages, Space, Tenancy, pages_of_a_space};
 use mte_tags::{Attrs, Paged, TagMode, Tagged};
 use mte_translate::{Table, Tlb};
-use obstacle::Obstacle;
 use std::alloc::Global;
 use std::test::Fail;
 

@@ -1,5 +1,5 @@
 use Rattle.std.proofs.Common.{◌≡◌, ◌+◌, ◌*◌, ◌/◌, ap, ◌∙◌, arith}
-use Rattle.address_map.specs.declared.limits.TheConstants.{PAGE_SIZE}
+use Rattle.common.specs.declared.limits.TheConstants.{PAGE_SIZE}
 use Rattle.mte_tags.specs.Memory.{attrs_at}
 use Rattle.mte_tags.proofs.PageLaws.{ArePages-attrs}
 use Rattle.scudo_heap.specs.Heaps.{with_less}

@@ -1,6 +1,6 @@
 use Rattle.std.proofs.Common.{◌+◌, ◌∙◌, sym, ap, arith, cond, Some, None}
-use Rattle.address_map.specs.declared.limits.TheConstants.{PAGE_SIZE}
-use Rattle.address_map.specs.declared.ranges.TheConstants.{SECONDARY_START}
+use Rattle.common.specs.declared.limits.TheConstants.{PAGE_SIZE}
+use Rattle.common.specs.declared.ranges.TheConstants.{SECONDARY_START}
 use Rattle.scudo_secondary.specs.Mappings.{AreMappings}
 use Rattle.scudo_secondary.proofs.PlaceLemmas.{passed, gap_here, gap_later, gap_at_end, gap_from}
 use Rattle.scudo_secondary.proofs.gaps.first_gap.Goals as goal

@@ -1,6 +1,6 @@
 use Rattle.std.proofs.Common.{◌≡◌, ◌+◌, drop}
-use Rattle.address_map.specs.declared.limits.TheConstants.{PAGE_SIZE}
-use Rattle.address_map.specs.declared.ranges.TheConstants.{SECONDARY_START}
+use Rattle.common.specs.declared.limits.TheConstants.{PAGE_SIZE}
+use Rattle.common.specs.declared.ranges.TheConstants.{SECONDARY_START}
 use Rattle.scudo_secondary.specs.Mappings.{AreFrom}
 use Rattle.scudo_secondary.proofs.PlaceLemmas.{gap_from}
 use Rattle.scudo_secondary.proofs.gaps.first_gap.Given as goal

@@ -1,5 +1,5 @@
 use Rattle.std.proofs.Common.{◌*◌, ◌/◌, ap, arith}
-use Rattle.address_map.specs.declared.limits.TheConstants.{PAGE_SIZE}
+use Rattle.common.specs.declared.limits.TheConstants.{PAGE_SIZE}
 use Rattle.scudo_primary.specs.Inner.{list_at}
 use Rattle.scudo_primary.proofs.FillLemmas.{filled-pool}
 use Rattle.scudo_primary.proofs.WidenLemmas.{filled-ready, ready-wide, old-below, carve-bounds, carve-all, carve-end, carve-invariant, carve-view}

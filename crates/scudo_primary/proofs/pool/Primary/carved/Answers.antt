@@ -1,6 +1,6 @@
 use Rattle.std.proofs.Common.{◌*◌, ◌/◌, arith, ap, sym, ◌∙◌}
 use Rattle.scudo_header.specs.Classes.{size_of}
-use Rattle.address_map.specs.declared.limits.TheConstants.{PAGE_SIZE}
+use Rattle.common.specs.declared.limits.TheConstants.{PAGE_SIZE}
 use Rattle.scudo_primary.specs.Inner.{list_at}
 use Rattle.scudo_primary.proofs.ModelLemmas.{pages-few, pages-value}
 use Rattle.scudo_primary.proofs.pool.Primary.carved.Goals as goal

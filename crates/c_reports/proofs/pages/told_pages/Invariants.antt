@@ -1,0 +1,6 @@
+use Rattle.std.proofs.Common.{◌≡◌, map, take}
+use Rattle.c_reports.specs.Pages.{page_told}
+use Rattle.c_reports.proofs.pages.told_pages.Given as goal
+
+abbrev pub invariant-loop-page : goal.invariant-loop-page
+invariant-loop-page l = l.entries.items ≡ map page_told (take l.page-index l.pages)

@@ -1,0 +1,4 @@
+pub mod Faults
+pub mod Acts
+pub mod Machines
+pub mod Pages

@@ -1,8 +1,0 @@
-use Rattle.std.proofs.Common.{sym, subst}
-use Rattle.scudo_heap.specs.Served.{HeapOwnsItsPages}
-use Rattle.scudo_heap.proofs.FirstLemmas.{served-read}
-use Rattle.heap_calls.proofs.access.load.Goals as goal
-
-pub returns-in-Ok-clause-served : goal.returns-in-Ok-clause-served
-returns-in-Ok-clause-served g c =
-    λ h s. subst (λ t. HeapOwnsItsPages t h) (sym c.in-Ok.ensures.memory) (served-read _ c.args.addr 8 _ h s)

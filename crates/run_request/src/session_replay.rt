@@ -1,0 +1,124 @@
+//! A session of which one tenant is replayed.
+
+use crate::replay::{Replayed, replay_tenant};
+use mte_program::StreamSink;
+use mte_sched::Host;
+use mte_session::{Event, Sink, parse_script};
+use run_terms::{Failure, Options, Replay};
+use std::alloc::Global;
+use std::io::sink;
+use tenant_run::{Observer, StoreWatcher, Watcher, wants_watch};
+
+/// A session of which one tenant is replayed.
+#[derive(Clone, Copy)]
+pub struct SessionReplay<'a, 'x> {
+    /// Which tenant, and the frames of the host.
+    pub replay: &'a Replay,
+    /// The events of the script.
+    pub events: &'x [Event],
+    /// The files that they name by numbers.
+    pub files: &'x [Vec<u8>],
+}
+
+impl<'a, 'x> SessionReplay<'a, 'x> {
+    /// Runs what the session does to the tenant, as a tenant alone is run; `None` where the session
+    /// never admits it.
+    pub fn run(
+        &self,
+        rt: &HostRuntime,
+        options: &Options,
+        observer: &mut Observer<'_>,
+    ) -> Result<Option<Replayed>, Failure<'a>> {
+        observer.is_watching = observer.needs_each_step();
+        let found = self.first_run(rt, options, observer)?;
+        let found = self.watched(rt.alloc(), options, found, observer)?;
+        if let Some(found) = &found {
+            self.find_store(rt.alloc(), found, observer)?;
+        }
+        Ok(found)
+    }
+
+    /// The tenant after a run that writes the lines of its refused events, unless its output is to
+    /// be raw.
+    fn first_run(
+        &self,
+        rt: &HostRuntime,
+        options: &Options,
+        observer: &mut Observer<'_>,
+    ) -> Result<Option<Replayed>, Failure<'a>> {
+        if options.output.is_raw {
+            self.replayed(rt.alloc(), observer, &mut StreamSink(sink()))
+        } else {
+            self.replayed(rt.alloc(), observer, &mut StreamSink(rt.stdout()))
+        }
+    }
+
+    /// The same tenant, which a second run watched if its end is explained by what that remembers.
+    fn watched(
+        &self,
+        alloc: Global,
+        options: &Options,
+        found: Option<Replayed>,
+        observer: &mut Observer<'_>,
+    ) -> Result<Option<Replayed>, Failure<'a>> {
+        let is_wanted = match &found {
+            Some(found) => !observer.is_watching && wants_watch(&found.bench, options),
+            None => false,
+        };
+        if !is_wanted {
+            return Ok(found);
+        }
+        observer.is_watching = true;
+        self.replayed(alloc, observer, &mut StreamSink(sink()))
+    }
+
+    /// Finds what wrote the target last of the jump to no code that ended the tenant, if one did,
+    /// by one more run.
+    fn find_store(
+        &self,
+        alloc: Global,
+        found: &Replayed,
+        observer: &mut Observer<'_>,
+    ) -> Result<(), Failure<'a>> {
+        let Some(load) = observer.target_load(&found.bench.parts.history.status) else {
+            return Ok(());
+        };
+        let mut watcher = StoreWatcher::new(load);
+        let _again = self.replayed(alloc, &mut watcher, &mut StreamSink(sink()))?;
+        observer.store = watcher.found();
+        Ok(())
+    }
+
+    /// The tenant after all that the session does to it; `None` where it never admits it.
+    fn replayed<O: Watcher, W: Sink>(
+        &self,
+        alloc: Global,
+        watcher: &mut O,
+        out: &mut W,
+    ) -> Result<Option<Replayed>, Failure<'a>> {
+        let Ok(mut host) = Host::new(alloc, self.replay.frames) else {
+            return Err(Failure::Memory);
+        };
+        replay_tenant(
+            alloc,
+            &mut host,
+            self.replay.id,
+            self.events,
+            self.files,
+            watcher,
+            out,
+        )
+    }
+}
+
+/// The events of a script, or its first faulty line.
+pub fn events_of<'a>(
+    alloc: Global,
+    script: &[u8],
+    files: &[Vec<u8>],
+) -> Result<Vec<Event>, Failure<'a>> {
+    match parse_script(alloc, script, files) {
+        Ok(events) => Ok(events),
+        Err(obstacle) => Err(Failure::of_script(&obstacle, script, files.len())),
+    }
+}
