@@ -286,7 +286,8 @@ def test_commands(built: Built, part: Part) -> None:
     if re.search(r"^rustc ", part.text, re.M):
         rust_program("rustc", 85)
     folder = copy_files(built.folder / "copy", *COPIED)
-    prefix = installed.prefix(built.shared) if "PREFIX" in part.text else built.folder / "nowhere"
+    is_installed = re.search(r"PREFIX|pkg-config", part.text)
+    prefix = installed.prefix(built.shared) if is_installed else built.folder / "nowhere"
     copy = copy_with_programs(folder, str(prefix), built.host, built.alone, built.disassemble)
     prepare(copy, part, built)
     result = copy.run(part)
@@ -295,7 +296,7 @@ def test_commands(built: Built, part: Part) -> None:
             f"{part.place}: {command}: status {status}\n{result.ran.output}{result.ran.errors}")
     written = re.findall(r"write `(breakpoint [^`]*)`", part.before)
     lines = result.ran.output.splitlines()
-    assert not written or (set(lines) == set(written) and len(lines) >= 3), lines
+    assert not written or set(lines) == set(written), lines
 
 
 # Forms of commands, and options.

@@ -438,7 +438,7 @@ SERVICES: list[tuple[Sequence[int], str, str]] = [
      "call free 0x000000003d0012c0 0x0000000000000000 = 0x0000000000000000\n"),
 ]
 
-# The services by their numbers in x8, docs/HOST.md.
+# The services by their numbers in x8, docs/TENANTS.md.
 EXIT, WRITE, READ, MALLOC, FREE, CALLOC, REALLOC, MEMALIGN = 0, 1, 2, 3, 4, 5, 6, 7
 USABLE_SIZE, YIELD, STEPS_LEFT, PAGES_LEFT = 8, 9, 10, 11
 # What a service answers that failed, and the largest number.

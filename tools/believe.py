@@ -84,8 +84,8 @@ def tell(repository: Repository, options: argparse.Namespace) -> list[str]:
     for line in printed.explained(repository, function, options.clause, given):
         print(line)
     if listed:
-        print(f"\nit rests on {pages.rests_on(options.root, function.crate)}"
-              f"\n\nwhat it does not say: {listed.limits}")
+        print(f"\nit rests on {pages.rests_on(options.root, function.crate)} {PAGE} has under "
+              f"\"What all rest on\"\n\nwhat it does not say: {listed.limits}")
     return []
 
 

@@ -9,8 +9,8 @@ wrong use and without it: with it, `--check` has to name the family's cause, and
 wrong use (or of a use behind it) has to be in the stack; without it, it has to say nothing. PROGRAM
 is crates/mte_run/out/mte_run. WORD is a family, as 121. Of each STEP programs one is taken, and
 compiled at -O0 alone; --list only prints the programs' titles. Printed is a table by families, and
-each program that is not as it should be; --write puts the table into docs/project/CHECKED.md. Status 1:
-a program is accused without the bug, or one of a sample is not told.
+each program that is not as it should be; --write puts the table into docs/project/CHECKED.md.
+Status 1: a program is accused without the bug, or one of a sample is not told.
 """
 
 import argparse

@@ -8,8 +8,8 @@ where it has one, and built by ../libc/tenant-cc with a small program that reach
 PROGRAM (crates/mte_run/out/mte_run) has to tell the cause, with the place in its stack; and of the
 source with the correction, where there is one, nothing. FOLDER keeps sources and what is built (a
 temporary folder). A table is printed; --write puts it into docs/project/CHECKED.md, and --check
-compares it with the page's. Status 1: something else was told. Status 3: a source was not fetched. Needed
-(Debian): clang, lld, apt, and the network; and the C library of ../libc/build.py.
+compares it with the page's. Status 1: something else was told. Status 3: a source was not fetched.
+Needed (Debian): clang, lld, apt, and the network; and the C library of ../libc/build.py.
 """
 import argparse
 import pathlib

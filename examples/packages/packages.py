@@ -12,9 +12,9 @@ is another one after the build is named, and the package doesn't count then.
 
 A line says what came of each; FOLDER (out, beside this script) keeps sources, copies and results.
 `--write` writes what came of all into docs/project/PACKAGES.md. The exit status is 1 where a
-package does something else than packages.toml says. In its lines are CC, CXX, CFLAGS, AR, RANLIB, CONFIGURE
-(./configure, with --host for tenants), CMAKE, SOURCES (the folder of all sources), PROGRAMS (that
-of the programs beside this script) and RUN, by which programs run.
+package does something else than packages.toml says. In its lines are CC, CXX, CFLAGS, AR, RANLIB,
+CONFIGURE (./configure, with --host for tenants), CMAKE, SOURCES (the folder of all sources),
+PROGRAMS (that of the programs beside this script) and RUN, by which programs run.
 Needed: what build.py --c++ makes, mte_run, and Debian's clang, llvm, lld, g++, make, cmake; for
 some packages autoconf, automake, libtool, bison, perl, tcl, python3-six and unicode-data too.
 """

@@ -46,8 +46,8 @@ PAGE = """<!-- Written by examples/real/programs.py. Do not edit. -->
 `examples/real/programs.py` fetches the sources of programs from Debian (their archives, without \
 Debian's changes), builds each by `examples/libc/tenant-cc`, and runs it. What it writes as a \
 tenant is what the same source writes on this machine, byte for byte, by each compiler that is \
-named, and each of twenty tenants in one session has the lines of one alone (status, steps, output \
-and heap calls). Steps and times are those of the compiler that is named first. Seconds are user \
+named. Each of twenty tenants in one session has the lines of one alone (status, steps, output and \
+heap calls). Steps and times are those of the compiler that is named first. Seconds are user \
 time, the least of three runs (of the twenty tenants: one run); `mte_host` runs the tenant and the \
 session, and qemu-aarch64 the same source built for AArch64 Linux by gcc, with registers of \
 floating point.

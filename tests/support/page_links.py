@@ -22,7 +22,9 @@ SUFFIXES = (".antt", ".c", ".edit", ".forms", ".h", ".md", ".py", ".rows", ".rs"
 # A word of capitals alone in a path is the reader's.
 READERS = re.compile(r"(?:^|/)[A-Z][A-Z_]*(?=[./]|$)(?!\.md$)")
 # Files of others that pages name.
-FOREIGN = {"size_class_map.h": "Scudo", "chunk.h": "Scudo", "math.h": "the C library"}
+FOREIGN = {**dict.fromkeys(("chunk.h", "combined.h", "local_cache.h", "secondary.h",
+                            "size_class_map.h"), "Scudo"),
+           "THEOREMS.md": "a package, by tools/deb.sh"}
 # The page of what changed names files as they were called then.
 HISTORY = "CHANGELOG.md"
 

@@ -9,11 +9,18 @@ from tests.support.page_links import prose
 COUNTED = re.compile(r"<!-- count: (\w+) -->([\d,]+)")
 # A list's mark, a heading's, a quotation's.
 MARK = re.compile(r"^(?:[-*>] |\d+\. |#+ )")
+WRITTEN = re.compile(r"<!-- Written by [^>]*: [^>]*-->.*?<!-- (?:to here\.|End of )[^>]*-->", re.S)
+
+
+def without_written(text: str) -> str:
+    """A text without what tools write between their marks."""
+    return WRITTEN.sub("", text)
 
 
 def units(page: str) -> Iterator[str]:
     """The paragraphs, items, headings and cells of a page."""
-    for part in re.split(r"\n\s*\n|\n(?=\s*(?:[-*] |\d+\. |\|))", prose(page)):
+    text = without_written(prose(page))
+    for part in re.split(r"\n\s*\n|\n(?=\s*(?:[-*] |\d+\. |\|))", text):
         text = re.sub(r"<!--.*?-->", "", part, flags=re.S).strip()
         if text.startswith("|"):
             yield from (it.strip() for it in re.split(r"(?<!\\)\|", text) if it.strip(" -\n"))
@@ -22,11 +29,11 @@ def units(page: str) -> Iterator[str]:
 
 
 def sentences(page: str) -> Iterator[list[str]]:
-    """The sentences of a page, as words; code is one word. A colon ends one, as a full stop does."""
+    """The sentences of a page, as words; code is one. A colon ends one, as a full stop does."""
     for unit in units(page):
         text = re.sub(r"`[^`]*`", "code", unit)
         text = re.sub(r"!?\[([^\]]*)\]\([^)]*\)", r"\1", text)
-        for part in re.split(r"(?<=[.?!:])[\"*)_]*\s+(?=[^a-z]|[a-z]+\b)", text):
+        for part in re.split(r"(?<=[.?!:])[\"*)_]*\s+", text):
             words = [it for it in part.split() if re.search(r"\w", it)]
             if words:
                 yield words

@@ -153,10 +153,10 @@ def left_of(repository: Repository, page: Page, theorem: Theorem, names: set[Nam
 
 
 def rests_on(root: pathlib.Path, crate: str) -> str:
-    """What a theorem of a crate rests on, as the end of a sentence."""
+    """What a theorem of a crate rests on, as a part of a sentence."""
     ported = ", ".join(f"`{it}`" for it in kit_crates(read_crates(root), crate))
     return (f"the proof of `{crate}` and of the crates below it, on the statements of the kit's "
-            f"{ported}, and on what is under *What all rest on*.")
+            f"{ported}, and on what")
 
 
 def section(root: pathlib.Path, repository: Repository, page: Page,
@@ -173,7 +173,7 @@ def section(root: pathlib.Path, repository: Repository, page: Page,
     yield from file_rows(repository, reading, True)
     yield from items_of(reading)
     yield ""
-    yield f"**It rests on** {rests_on(root, function.crate)}"
+    yield f"**It rests on** {rests_on(root, function.crate)} is under *What all rest on*."
     yield from ("", f"**What it does not say.** {theorem.limits}", "")
 
 
