@@ -40,7 +40,7 @@ echo "mark.py $1 $(basename "$2")" >>"$TRIED"
 LIBC = """#!/usr/bin/env bash
 here=$(dirname "$0")
 echo build.py >>"$TRIED"
-mkdir -p "$here/out/lib"
+mkdir -p "$here"/out/{include,lib,objects,sources}
 touch "$here/out/lib/libc.a"
 """
 INSTALL = """#!/usr/bin/env bash
