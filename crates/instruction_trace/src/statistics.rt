@@ -144,6 +144,5 @@ fn index_of(call: &HeapCall) -> usize {
 
 /// How the instruction of a moment loads or stores registers, if it does.
 fn form_at(moment: &Moment) -> Option<AccessForm> {
-    AccessForm::of(&decode(moment.word?)?)
-        .filter(|form| form.is_of_registers())
+    AccessForm::of(&decode(moment.word?)?).filter(|form| form.is_of_registers())
 }
