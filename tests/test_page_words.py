@@ -110,7 +110,7 @@ COUNTS: dict[str, Callable[[], int]] = {
     "isolation_definitions": lambda: definitions("behaviours_are_isolated"),
     "library_sources": lambda: len(files(r"examples/libc/src/\w+\.[cS]")),
     "planted_bugs": lambda: len(checking.page_table(source("docs/project/CHECKED.md"))) - 3,
-    "programs": lambda: len(files(r"examples/programs/\w+\.c")),
+    "programs": lambda: len(files(r"examples/libc/tests/programs/\w+\.c")),
     "rows": lambda: len(table.read_rows()),
     "store_calls": store_calls,
     "suite_mutants": suite_mutants,
