@@ -1,4 +1,4 @@
-"""What tags do against a hostile program: strategies on the library's heap, and docs/ATTACKS.md."""
+"""Strategies of a hostile program on the library's heap, compared with theory; docs/ATTACKS.md."""
 
 import math
 import pathlib
@@ -21,7 +21,7 @@ LAWS = ("chunks_are_guarded", "odd_distances_differ", "freed_chunks_are_refused"
 
 
 def attack(shared: pathlib.Path, *words: str, script: pathlib.Path = ALLOC / "attacks.py") -> Ran:
-    """What the script says."""
+    """A run of the script."""
     return run([sys.executable, script, *words], extra={"TOMBOLOPAN": str(shared_object(shared))})
 
 
@@ -62,13 +62,13 @@ def test_the_page_has_the_table(shared: pathlib.Path) -> None:
     for text, cells in rows.items():
         for found, expected in map(numbers_of, cells[:-1]):
             error = math.sqrt(expected * (SEEDS - expected) / SEEDS)
-            assert abs(found - expected) <= ERRORS * error + 1, text
+            assert abs(found - expected) <= (ERRORS * error + 1 if error else 0), text
     by_law = {it[-1].strip("`"): it[0] for it in rows.values() if it[-1].startswith("`")}
     assert by_law == dict.fromkeys(LAWS, "0 (0)")
     assert all(f"`{it}`" in read_page("docs/PROVED.md") for it in LAWS)
 
 
-def test_theory_is_what_is_counted() -> None:
+def test_theory_and_counts() -> None:
     """Where at most four tags are drawn, all states of the generator have each four offsets once:
     theory is what is counted over them."""
     attacks, margins = rows_of(written("attacks.py")), rows_of(written("margins.py"))
@@ -80,7 +80,7 @@ def test_theory_is_what_is_counted() -> None:
         assert abs(numbers_of(attacks[text][0])[1] - counted) <= 0.55, text
 
 
-def test_what_the_readme_says() -> None:
+def test_the_sentence_of_the_readme() -> None:
     """Of 16 chunks two have one tag in every seed."""
     said = "has two chunks of one tag among 16 in every seed"
     assert said in re.sub(r"\s+", " ", read_page("README.md"))
@@ -91,7 +91,7 @@ def test_what_the_readme_says() -> None:
     ("tag_model.py", "self.seed >> 5", "self.seed >> 4", "the model is not the heap under the"),
     ("tag_theory.py", "return rest(states)", "return 0.4", "another of 8 chunks: "),
 ])
-def test_what_is_wrong_is_told(
+def test_a_difference_is_reported(
     shared: pathlib.Path, tmp_path: pathlib.Path, file: str, right: str, wrong: str, said: str
 ) -> None:
     """A model that is not the heap, and a theory that is not met."""

@@ -7,8 +7,9 @@ A strategy is a function of a heap that makes chunks, may look at tags, and make
 access; it succeeds if this completes. It is run over N seeds (400) on the library's heap, and on a
 model of its tags with 3 bits, and without odd and even tags in turn; with the heap's own numbers
 the model has to give the heap's pointers. A cell is in how many runs it succeeds, and in brackets
-how many tag_theory.py expects, with the standard error. Status 1 where a cell is more than 3 of
-these away. `--write` writes the table into docs/ATTACKS.md. TOMBOLOPAN names the library.
+how many tag_theory.py expects, with the standard error. Status 1 where a cell is farther away than
+3 of these and a run, or at all where it is certain. `--write` writes the table into
+docs/ATTACKS.md. TOMBOLOPAN names the library.
 """
 from __future__ import annotations
 
@@ -37,10 +38,10 @@ HEAP, OTHERS = Numbers(), (Numbers(bits=3), Numbers(odd_and_even=False))
 
 
 class Heap(Protocol):
-    """What a strategy uses."""
+    """The calls that a strategy may make."""
 
     def malloc(self, size: int) -> int:
-        """The pointer to a new chunk, its tag in bits 59 to 56."""
+        """The pointer to a new chunk of 1 to 48 bytes, its tag in bits 59 to 56."""
 
     def free(self, pointer: int) -> None:
         """Frees a chunk."""
@@ -65,7 +66,7 @@ class LibraryHeap:
     pointers: list[int] = field(default_factory=list)
 
     def ask(self, op: int, first: int) -> tb.HeapAnswer:
-        """What a call answers after those that are entered."""
+        """The answer of a call after those that are entered."""
         heap = tb.Heap(pages=16, rgsr_seed=self.state & 0xFFFF, rgsr_tag=self.state >> 16)
         return heap.replay([*self.steps, (op, first, 0)])[-1]
 
@@ -202,10 +203,10 @@ def rows() -> Iterator[Row]:
 
 
 def state_of(run: int) -> int:
-    """The state of the generator of a run, from 0 on: the low 20 bits of SplitMix64's output, as
-    `mte_run --seeds` takes them."""
+    """The state of the generator of a run, from 1 on: the low 20 bits of SplitMix64 of its
+    number."""
     mask = (1 << 64) - 1
-    word = (run + 1) * 0x9E3779B97F4A7C15 & mask
+    word = run * 0x9E3779B97F4A7C15 & mask
     word = (word ^ word >> 30) * 0xBF58476D1CE4E5B9 & mask
     word = (word ^ word >> 27) * 0x94D049BB133111EB & mask
     return (word ^ word >> 31) & 0xFFFFF
@@ -244,13 +245,15 @@ class Cell:
     @property
     def is_as_expected(self) -> bool:
         """Whether the number is near what theory expects, or nothing is expected."""
-        return self.chance is None or \
-            abs(self.found - self.runs * self.chance) <= ERRORS * self.error + 1e-6
+        if self.chance is None:
+            return True
+        most = 0.001 if self.error < 0.001 else ERRORS * self.error + 1
+        return abs(self.found - self.runs * self.chance) <= most
 
 
 def cells_of(row: Row, seeds: int) -> list[Cell]:
     """The cells of a row: of the heap, and of the other numbers."""
-    states = [state_of(run) for run in range(seeds)]
+    states = [state_of(run) for run in range(1, seeds + 1)]
     counts = [sum(on_the_heap(row.strategy, it) for it in states)]
     counts += [sum(row.strategy(ModelHeap.of(numbers, it)) for it in states) for numbers in OTHERS]
     return [Cell(found, seeds, None if row.theory is None else row.theory(numbers))
