@@ -27,10 +27,10 @@ RUNS = (1, 2, 4)
 Counts = dict[tuple[str, int, int], int]
 # What laws say, before what is counted; docs/PROVED.md has them.
 ALWAYS = (
-    ("the granule before a live chunk, or after it", "chunks_are_guarded"),
+    ("the granule before its live chunk, or after it", "chunks_are_guarded"),
     ("a live chunk of the class, an odd number of blocks away", "odd_distances_differ"),
     ("a freed chunk, until its block is taken", "freed_chunks_are_refused"),
-    ("the pages that a freed chunk had, until they are mapped again", "freed_pages_are_refused"),
+    ("the own pages of a freed chunk, until they are mapped again", "freed_pages_are_refused"),
     ("a second free, while its block is free and its header stays", "double_frees_abort"),
 )
 # What is counted: of several counts the table has the least.
