@@ -1,21 +1,20 @@
-"""What mte_run tells, byte for byte: each act of the tenants of tests/images, and each option.
+"""What mte_run tells of the tenants of tests/images: how each act ends, and byte for byte one
+report of each kind.
 
-The stored texts are what the program told; test_explanations_beside_tools.py holds the same output
-against other tools. WRITE_EXPECTED=1 stores them anew.
+Of all acts and builds test_report_lines.py compares forms, order and parts of the lines, and
+test_explanations_beside_tools.py their values with other tools. WRITE_EXPECTED=1 stores the texts.
 """
 
 import hashlib
 import pathlib
-from collections.abc import Iterator
 
 import pytest
 
 from tests.images.build import Build, make
-from tests.support.acts import (
-    ACTS, BUILDS, FORGOTTEN, OPTION_BUILDS, PRIMARY, Act, acts_of, primary,
-)
+from tests.support.acts import ACTS, BUILDS, FORGOTTEN, PRIMARY, Act, acts_of, primary
 from tests.support.expected import compare
 from tests.support.places import IMAGES
+from tests.support.report_lines import parts_of
 from tests.support.running import Ran, run
 from tests.support.told import explain, input_file, read_told
 from tests.support.tools import need
@@ -24,9 +23,28 @@ SOURCES = sorted(PRIMARY)
 IMAGE_BUILDS = [
     (source, build) for source in SOURCES for build in BUILDS if build in primary(source).builds
 ]
+# An act of each kind of end and of cause, with options and a build: the whole report is stored.
+REPORTS = (
+    ("chunks", "a", "", "clang-O0"), ("chunks", "f", "--last 3", "gcc-O2"),
+    ("chunks", "s", "--last 3", "gcc-O0"), ("chunks", "M", "--last 3", "clang-O2"),
+    ("chunks", "n", "--last 0", "clang-O0"), ("chunks", "t", "--last 0", "gcc-O2"),
+    ("chunks", "v", "--last 0", "gcc-O0"), ("chunks", "g", "--last 3", "clang-O2"),
+    ("chunks", "k", "--last 0", "gcc-O2"), ("chunks", "h", "--last 0", "clang-O2"),
+    ("chunks", "y", "--exact --last 3", "gcc-O0"), ("chunks", "l", "--leaks", "clang-O2"),
+    ("stack", "a", "--last 0", "gcc-O2"), ("stack", "d", "--last 3", "clang-O0"),
+    ("stack", "f", "--last 0", "gcc-O0"), ("places", "c", "--last 0", "gcc-O0"),
+    ("places", "p", "--last 3", "clang-O2"), ("words", "f", "", "clang-O2"),
+    ("words", "A", "--last 0", "gcc-O2"), ("words", "T", "--last 3", "gcc-O0"),
+    ("names", "n", "--last 0", "gcc-O2"), ("many", "k", "--last 0", "clang-O2"),
+    ("services", "a", "--async --last 3", "gcc-O2"),
+    ("services", "w", "--steps 2000 --last 3", "clang-O0"), ("services", "e131", "", "gcc-O0"),
+    ("services", "s", "--slices 40,0,1048576 --services --last 3", "clang-O2"),
+    ("services", "o", "--out 25", "gcc-O2"), ("sums", "d", "--last 0", "clang-O2"),
+    ("objects", "o", "--last 3", "clang-O2"), ("pairs", "x", "", "gcc-O2"),
+)
 # What is told on request, in one run: a text, and below it the file of --json.
 REQUESTED = (
-    "--statistics", "--leaks", "--calls", "9", "--last", "20", "--services", "--trace=1-6",
+    "--statistics", "--leaks", "--calls", "9", "--last", "3", "--services", "--trace=1-6",
     "--map", "text",
 )
 
@@ -43,20 +61,17 @@ def titled(act: Act, build: str, *options: str) -> str:
     return " ".join(words)
 
 
-def in_turn(source: str) -> Iterator[tuple[Act, str]]:
-    """Each act of a tenant, by one of its builds after the other."""
-    for number, act in enumerate(acts_of(source)):
-        yield act, act.builds[number % len(act.builds)]
-
-
 @pytest.mark.parametrize("source", SOURCES)
-def test_each_act_is_told_as_stored(
+def test_a_report_of_each_kind_is_as_stored(
     alone: pathlib.Path, shared: pathlib.Path, source: str
 ) -> None:
-    """The whole text on standard error, the output and the status of each act."""
-    runs = [(titled(act, build), explain(alone, act, build, shared))
-            for act, build in in_turn(source)]
-    compare(f"explanations/{source}.txt", "".join(shown(title, ran) for title, ran in runs))
+    """The whole text on standard error, the output and the status."""
+    told = ""
+    for name, text, options, build in REPORTS:
+        if name == source:
+            act = Act(name, text, 0, options=tuple(options.split()))
+            told += shown(titled(act, build), explain(alone, act, build, shared))
+    compare(f"explanations/{source}.txt", told)
 
 
 @pytest.mark.parametrize("act", [*ACTS, FORGOTTEN], ids=lambda act: f"{act.source} {act.name}")
@@ -94,7 +109,7 @@ def test_sources_still_make_such_images(
         check_act(act, build, explain(alone, act, build, tmp_path, images=tmp_path))
 
 
-@pytest.mark.parametrize("source, build", [it for it in IMAGE_BUILDS if it[1] in OPTION_BUILDS])
+@pytest.mark.parametrize("source, build", [("chunks", "gcc-O2"), ("places", "clang-O0")])
 def test_what_is_told_on_request_is_as_stored(
     alone: pathlib.Path, shared: pathlib.Path, tmp_path: pathlib.Path, source: str, build: str
 ) -> None:
@@ -105,62 +120,7 @@ def test_what_is_told_on_request_is_as_stored(
     compare(f"explanations/requested/{source}.{build}.txt", shown(title, ran) + json.read_text())
 
 
-# What each option does, where it does something: the tenant's input, a build and the options.
-OPTIONS = (
-    ("chunks", "f", "gcc-O2", "--last 0"),
-    ("chunks", "f", "gcc-O2", "--last 1"),
-    ("chunks", "f", "clang-O0", "--last 100 --calls 3"),
-    ("chunks", "f", "clang-O0", "--calls 65536 --last 0"),
-    ("chunks", "s", "gcc-O0", "--seed ff --last 0"),
-    ("chunks", "s", "gcc-O0", "--seed 0x10 --last 0"),
-    ("chunks", "s", "gcc-O0", "--seed FFFFFFFFFFFFFFFF --last 0"),
-    ("chunks", "s", "gcc-O0", "--seed 0 --last 0 --statistics"),
-    ("chunks", "l", "clang-O2", "--leaks"),
-    ("chunks", "l", "clang-O2", "--leaks --statistics --map text"),
-    ("chunks", "m", "clang-O2", "--leaks"),
-    ("chunks", "f", "clang-O2", "--async --last 0"),
-    ("chunks", "p", "clang-O2", "--async --exact --last 0"),
-    ("chunks", "q", "clang-O0", "--exact --map text --last 2"),
-    ("many", "x", "clang-O2", "--seeds 4 --last 0"),
-    ("many", "x", "clang-O2", "--seed 0e3cb6225c186a21 --seeds 1 --last 0"),
-    ("many", "x", "clang-O2", "--seed 0e3cb6225c186a21 --seeds 6 --last 0"),
-    ("many", "x", "gcc-O0", "--seed 0e3cb6225c186a21 --seeds 20 --last 0"),
-    ("chunks", "q", "gcc-O2", "--seeds 3 --last 0"),
-    ("chunks", "q", "gcc-O2", "--exact --seeds 3 --last 0"),
-    ("services", "o", "gcc-O2", "--out 0"),
-    ("services", "o", "gcc-O2", "--out 25"),
-    ("services", "o", "gcc-O2", "--out 30"),
-    ("services", "o", "gcc-O2", "--out 65536 --services"),
-    ("services", "s", "clang-O2", "--pages 4096 --services"),
-    ("services", "s", "clang-O2", "--pages 2049 --services"),
-    ("services", "s", "clang-O2", "--pages 9 --services"),
-    ("services", "s", "clang-O2", "--pages 6 --last 0"),
-    ("services", "s", "clang-O2", "--slices 40,0,1048576 --services"),
-    ("services", "s", "clang-O2", "--slices 40,10 --last 0"),
-    ("services", "w", "clang-O0", "--steps 1 --last 0"),
-    ("services", "w", "clang-O0", "--steps 1048577 --slices 1048576,1048576 --last 2"),
-    ("services", "a", "gcc-O0", "--trace=60- --last 0"),
-    ("services", "a", "gcc-O0", "--trace=-3 --last 0"),
-    ("services", "a", "gcc-O0", "--trace=70-75 --services --last 0"),
-    ("services", "a", "gcc-O0", "--async --trace=70- --services --last 0"),
-)
-
-
-@pytest.mark.parametrize("source", sorted({row[0] for row in OPTIONS}))
-def test_each_option_does_as_stored(
-    alone: pathlib.Path, shared: pathlib.Path, source: str
-) -> None:
-    """The whole text, output and status under options of docs/MTE_RUN.md."""
-    told = ""
-    for name, text, build, options in OPTIONS:
-        if name == source:
-            act = Act(name, text, 0)
-            words = options.split()
-            told += shown(titled(act, build, *words), explain(alone, act, build, shared, *words))
-    compare(f"explanations/options/{source}.txt", told)
-
-
-PICTURES = (("chunks", "f", "gcc-O2"), ("stack", "d", "clang-O0"), ("chunks", "g", "clang-O2"))
+PICTURES = (("services", "a", "gcc-O2"), ("stack", "d", "clang-O0"))
 
 
 @pytest.mark.parametrize("source, text, build", PICTURES)
@@ -168,7 +128,7 @@ def test_pictures_are_as_stored(
     alone: pathlib.Path, shared: pathlib.Path, tmp_path: pathlib.Path, source: str, text: str,
     build: str,
 ) -> None:
-    """The picture in a file, and the same behind the output."""
+    """The picture in a file, and the same after the output."""
     act, picture = Act(source, text, 0), tmp_path / "heap.svg"
     ran = explain(alone, act, build, shared, "--map", str(picture))
     drawn = picture.read_text(encoding="utf-8")
@@ -177,7 +137,7 @@ def test_pictures_are_as_stored(
 
 
 def test_a_picture_follows_the_output(alone: pathlib.Path, shared: pathlib.Path) -> None:
-    """`--map -` writes behind what the tenant wrote, also where it exits."""
+    """`--map -` writes after what the tenant wrote, also where it exits."""
     ran = explain(alone, Act("services", "cwords", 0), "gcc-O0", shared, "--map", "-")
     assert ran.output.startswith("words<svg ") and ran.output.endswith("</svg>\n")
 
@@ -242,7 +202,7 @@ def session(tmp_path: pathlib.Path) -> list[str]:
     return [str(script), *SCRIPT_IMAGES, *inputs]
 
 
-@pytest.mark.parametrize("number", [7, 8, 9, 10, 11, 12])
+@pytest.mark.parametrize("number", [9, 11, 12])
 def test_tenants_of_a_session_are_told_as_stored(
     alone: pathlib.Path, session: list[str], number: int
 ) -> None:
@@ -253,6 +213,36 @@ def test_tenants_of_a_session_are_told_as_stored(
     ran = run([str(alone), *words], cwd=IMAGES)
     text = f"status {ran.status}\n{ran.output}{ran.errors}"
     compare(f"explanations/session/tenant-{number}.txt", text)
+
+
+# The same tenants by the options of a run alone.
+ALONE = (
+    (7, "chunks.clang-O0", "s", "--pages 64 --out 100 --slices 60,1048576"),
+    (8, "services.gcc-O2", "o", "--seed ff --pages 16 --out 15"),
+    (9, "stack.clang-O2", "c", "--pages 8 --out 10 --slices 40"),
+    (10, "services.gcc-O2", "a", "--async --pages 16 --out 9"),
+)
+
+
+@pytest.mark.parametrize("number, name, text, options", ALONE)
+def test_tenants_of_a_session_are_told_as_alone(
+    alone: pathlib.Path, session: list[str], tmp_path: pathlib.Path, number: int, name: str,
+    text: str, options: str,
+) -> None:
+    """All lines but the title of the heap, which names the session."""
+    script, *files = session
+    asked = ["--map", "text", "--leaks", "--statistics", "--last", "5"]
+    words = ["--script", script, str(number), "--frames", "400", *asked, *files]
+    there = run([str(alone), *words], cwd=IMAGES)
+    source, build = name.split(".")
+    here = explain(alone, Act(source, text, 0, options=tuple(options.split())), build, tmp_path,
+                   *asked)
+    parts, wanted = parts_of(there.errors), parts_of(here.errors)
+    titles = (parts["map"].pop(0), wanted["map"].pop(0))
+    assert (there.status, parts) == (here.status, wanted)
+    seed = "0" * 14 + ("ff" if number == 8 else "01")
+    assert titles[0].replace(f"tenant {number} of {pathlib.Path(script).name}", f"{name}.elf") \
+        + f", seed {seed}" == titles[1]
 
 
 @pytest.mark.parametrize("number", [7, 8, 9, 10])
@@ -275,6 +265,6 @@ def own_lines(report: str, number: int) -> str:
         line for line in report.splitlines() if line.startswith("refused ")
         and events[int(line.split()[1]) - 1].split()[1] == str(number)
     ]
-    _, _, behind = report.partition(f"tenant {number}\n")
-    lines, _, _ = behind.partition("end\n")
+    _, _, rest = report.partition(f"tenant {number}\n")
+    lines, _, _ = rest.partition("end\n")
     return "".join(f"{line}\n" for line in refused) + f"tenant {number}\n{lines}end\n"

@@ -654,7 +654,7 @@ def images_of(folder: pathlib.Path, names: Sequence[str]) -> list[str]:
 def test_mutated_packets(alone: pathlib.Path, tmp_path: pathlib.Path) -> None:
     """Mutated streams end no front by a signal, and each packet that is whole is answered."""
     images = images_of(tmp_path, ["use_after_free", "lru"])
-    ran = run([sys.executable, GDB_EXAMPLES / "mutate.py", alone, "60", "64", *images],
+    ran = run([sys.executable, GDB_EXAMPLES / "mutate_packets.py", alone, "60", "64", *images],
               cwd=tmp_path)
     assert ran.status == 0, ran.output
 

@@ -1,10 +1,12 @@
 #!/usr/bin/env python3
-"""The border to C: its numbers are written once, and its structs and calls compared.
+"""The border to C: its numbers are written once, and its structs and calls in the header and in
+the package of Python, which are compared; those of Rust are written from the header.
 
     border.py --check    exit with 1 where the header, tombolopan.rs, the package of Python or
                          docs/C.md says something else than the crate tombolopan_c, or the
                          header does not compile as C99, C11 and C++17
-    border.py --write    write what tools/border_to_c/codes.toml has into these files
+    border.py --write    write what tools/border_to_c/codes.toml has into these files, and the
+                         structs and calls of the header into tombolopan.rs
     border.py --root DIR --check    the same in another copy of the repository
 
 Proofs name the fields of a struct and the arguments of a call; in which order they stand is in no
@@ -34,7 +36,8 @@ def write(root: pathlib.Path) -> None:
     for part in written.PARTS:
         path = root / part.path
         text = path.read_text(encoding="utf-8")
-        new = written.replaced(part, text, known)
+        header = (root / written.HEADER).read_text(encoding="utf-8")
+        new = written.replaced(part, text, known, header)
         if new != text:
             path.write_text(new, encoding="utf-8")
             print(f"wrote {part.name} of {part.path}")

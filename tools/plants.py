@@ -37,7 +37,8 @@ SUITES = {
     "mte_run": [
         "tests/test_causes.py", "tests/test_explanations.py", "tests/test_run_statuses.py",
         "tests/test_checks.py", "tests/test_gdb.py", "tests/test_run_files.py",
-        "tests/test_sarif.py", "tests/test_explanations_beside_tools.py",
+        "tests/test_sarif.py", "tests/test_report_lines.py",
+        "tests/test_explanations_beside_tools.py",
         "tests/test_explanations_in_gdb.py",
     ],
     "mte_host": ["tests/test_host.py"],

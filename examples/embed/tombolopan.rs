@@ -205,6 +205,8 @@ pub fn trespass_name(kind: u32) -> &'static str {
 
 // End of what tools/border.py writes.
 
+// Written by tools/border.py: the structs
+
 /// A place for a page.
 #[repr(C)]
 #[derive(Clone, Copy)]
@@ -216,9 +218,9 @@ pub struct Page {
     pub tags: [u8; 256],
 }
 
-/// The tag mode and its flag.
+/// The tag mode and the flag (SCTLR_EL1.TCF0 and TFSRE0_EL1.TF0); any number but 0 sets either.
 #[repr(C)]
-#[derive(Clone, Copy, Default)]
+#[derive(Clone, Copy, Debug, Default, PartialEq, Eq)]
 pub struct TagState {
     pub asynchronous: u32,
     pub pending: u32,
@@ -226,7 +228,7 @@ pub struct TagState {
 
 /// The registers of a core.
 #[repr(C)]
-#[derive(Clone, Copy, Default)]
+#[derive(Clone, Copy, Debug, Default, PartialEq, Eq)]
 pub struct Regs {
     pub x: [u64; 31],
     pub sp: u64,
@@ -236,9 +238,9 @@ pub struct Regs {
     pub rgsr_tag: u16,
 }
 
-/// A fault, or zero in all fields.
+/// A fault, or zero in all fields where there is none.
 #[repr(C)]
-#[derive(Clone, Copy, Debug, Default)]
+#[derive(Clone, Copy, Debug, Default, PartialEq, Eq)]
 pub struct Fault {
     pub addr: u64,
     pub kind: u32,
@@ -247,19 +249,9 @@ pub struct Fault {
     pub mem_tag: u32,
 }
 
-impl std::fmt::Display for Fault {
-    /// `TagCheck: a write at 0x20020, pointer tag 5, memory tag 0`
-    fn fmt(&self, f: &mut std::fmt::Formatter<'_>) -> std::fmt::Result {
-        let (kind, what) =
-            (fault_kind_name(self.kind), if self.write == 0 { "read" } else { "write" });
-        let Fault { addr, ptr_tag, mem_tag, .. } = self;
-        write!(f, "{kind}: a {what} at {addr:#x}, pointer tag {ptr_tag}, memory tag {mem_tag}")
-    }
-}
-
 /// How a step or a run ended.
 #[repr(C)]
-#[derive(Clone, Copy, Debug, Default)]
+#[derive(Clone, Copy, Debug, Default, PartialEq, Eq)]
 pub struct Stop {
     pub left: u64,
     pub code: u32,
@@ -267,43 +259,9 @@ pub struct Stop {
     pub fault: Fault,
 }
 
-/// An access of an instruction to memory, as `Memory::trace` enters it.
-#[derive(Clone, Copy, Debug, Default, PartialEq, Eq)]
-pub struct Access {
-    /// The address of the instruction.
-    pub pc: u64,
-    /// The address that was used, its tag in bits 59 to 56.
-    pub addr: u64,
-    /// The first 16 bytes there after it, the lowest first; 0 beyond `size`.
-    pub value: [u64; 2],
-    /// The instruction.
-    pub word: u32,
-    /// How many bytes: 1 to 16; of LDG and STG the granule's 16, of ST2G 32.
-    pub size: u32,
-    pub write: bool,
-    /// The allocation tag of the granule that holds `addr`, after it.
-    pub mem_tag: u32,
-}
-
-/// How many bytes a load or a store of the profile accesses, by its word: 1 to 16, of LDG, STG and
-/// STZG 16, of ST2G and STZ2G 32. Of other words it says nothing.
-pub fn access_size(word: u32) -> u32 {
-    let bit = |n: u32| word >> n & 1 != 0;
-    if word >> 24 == 0xd9 {
-        return if bit(23) { 32 } else { 16 };
-    }
-    match word >> 27 & 7 {
-        5 if bit(31) || (bit(30) && !bit(22)) => 16,
-        5 => 8,
-        3 if bit(30) => 8,
-        3 => 4,
-        _ => 1 << (word >> 30),
-    }
-}
-
 /// What a heap and its memory begin with.
 #[repr(C)]
-#[derive(Clone, Copy)]
+#[derive(Clone, Copy, Debug, Default, PartialEq, Eq)]
 pub struct HeapSetup {
     pub cookie: u32,
     pub pages: u32,
@@ -312,9 +270,9 @@ pub struct HeapSetup {
     pub rgsr_tag: u16,
 }
 
-/// A call of a heap, or an access to its memory.
+/// A call of a heap or an access to its memory. op, first and second are read, the rest written.
 #[repr(C)]
-#[derive(Clone, Copy, Default)]
+#[derive(Clone, Copy, Debug, Default, PartialEq, Eq)]
 pub struct HeapCall {
     pub op: u32,
     pub code: u32,
@@ -324,53 +282,16 @@ pub struct HeapCall {
     pub fault: Fault,
 }
 
-/// A heap call whose arguments may be answers of earlier ones: `first_of` and `second_of` are 0, or
-/// the number of an earlier call, from 1 on, whose answer is added to the argument.
+/// Some bytes, which are only read.
 #[repr(C)]
-#[derive(Clone, Copy, Default)]
-pub struct HeapStep {
-    pub call: HeapCall,
-    pub first_of: u32,
-    pub second_of: u32,
-}
-
-/// An instruction that was fetched and attempted: how many steps of the run were before it.
-#[repr(C)]
-#[derive(Clone, Copy, Debug, Default, PartialEq, Eq)]
-pub struct TracedInstruction {
-    pub step: u64,
-    pub pc: u64,
-    pub word: u32,
-    pub unused: u32,
-}
-
-/// An access that was completed; `kind` is a sum of `TB_ACCESS_READ` to `TB_ACCESS_WRITE_TAG`.
-#[repr(C)]
-#[derive(Clone, Copy, Debug, Default, PartialEq, Eq)]
-pub struct TracedAccess {
-    pub step: u64,
-    pub pc: u64,
-    pub addr: u64,
-    pub value: [u64; 2],
-    pub size: u32,
-    pub kind: u32,
-}
-
-/// How a traced run ended.
-#[repr(C)]
-#[derive(Clone, Copy, Debug, Default)]
-pub struct TraceReport {
-    pub steps: u64,
-    pub instructions: u64,
-    pub accesses: u64,
-    pub code: u32,
-    pub number: u32,
-    pub fault: Fault,
+struct Bytes {
+    bytes: *const u8,
+    length: usize,
 }
 
 /// How a session ended.
 #[repr(C)]
-#[derive(Clone, Copy, Debug, Default)]
+#[derive(Clone, Copy, Debug, Default, PartialEq, Eq)]
 pub struct SessionEnd {
     pub length: u64,
     pub line: u64,
@@ -378,9 +299,25 @@ pub struct SessionEnd {
     pub fault: u32,
 }
 
-/// A tenant's status, or zero in all fields.
+/// What a tenant alone is admitted with, and its slices.
 #[repr(C)]
-#[derive(Clone, Copy, Debug, Default)]
+struct RawTerms {
+    image: *const u8,
+    image_length: usize,
+    input: *const u8,
+    input_length: usize,
+    slices: *const u32,
+    slice_count: usize,
+    seed: u64,
+    pages: u32,
+    room: u32,
+    asynchronous: u32,
+    unused: u32,
+}
+
+/// A tenant's status, or zero in all fields where there is no tenant.
+#[repr(C)]
+#[derive(Clone, Copy, Debug, Default, PartialEq, Eq)]
 pub struct Status {
     pub status: u32,
     pub number: u32,
@@ -391,7 +328,7 @@ pub struct Status {
 
 /// A heap call of a tenant.
 #[repr(C)]
-#[derive(Clone, Copy, Debug, Default)]
+#[derive(Clone, Copy, Debug, Default, PartialEq, Eq)]
 pub struct KeptCall {
     pub service: u64,
     pub first: u64,
@@ -401,7 +338,7 @@ pub struct KeptCall {
 
 /// How a tenant alone ended.
 #[repr(C)]
-#[derive(Clone, Copy, Debug, Default)]
+#[derive(Clone, Copy, Debug, Default, PartialEq, Eq)]
 pub struct AloneEnd {
     pub steps: u64,
     pub output: u64,
@@ -412,12 +349,16 @@ pub struct AloneEnd {
     pub refusal: u32,
 }
 
-/// A machine that is kept between calls.
+/// A tenant's machine that is kept between calls, or none where `machine` is null: {0} at first.
+/// What `machine` points to is the library's. It is neither read nor copied, and it is changed by
+/// tb_fuzz_new and tb_fuzz_free alone. A machine is used by the thread that made it; any number of
+/// threads may have machines of their own.
 #[repr(C)]
 struct RawFuzz {
     machine: *mut u8,
 }
 
+/// What a run of such a machine begins with.
 #[repr(C)]
 struct RawFuzzInput {
     input: *const u8,
@@ -444,9 +385,32 @@ pub struct FuzzFinding {
     pub unused: u32,
 }
 
-/// Something that is done to a machine between its slices, or a slice.
+/// A heap call in a list, whose arguments may be the answers of earlier ones: `first_of` and
+/// `second_of` are 0, or the number of an earlier call of the list, from 1 on, whose answer is
+/// added to call.first or call.second, modulo 2^64.
 #[repr(C)]
-#[derive(Clone, Copy, Debug, Default)]
+#[derive(Clone, Copy, Debug, Default, PartialEq, Eq)]
+pub struct HeapStep {
+    pub call: HeapCall,
+    pub first_of: u32,
+    pub second_of: u32,
+}
+
+/// A chunk that is live behind heap calls.
+#[repr(C)]
+#[derive(Clone, Copy, Debug, Default, PartialEq, Eq)]
+pub struct LiveChunk {
+    pub address: u64,
+    pub size: u64,
+    pub call: u64,
+    pub tag: u32,
+    pub unused: u32,
+}
+
+/// Something that is done to a machine between its slices, or a slice. act, number, addr and value
+/// are read, the rest is written.
+#[repr(C)]
+#[derive(Clone, Copy, Debug, Default, PartialEq, Eq)]
 pub struct MachineAct {
     pub act: u32,
     pub number: u32,
@@ -460,53 +424,22 @@ pub struct MachineAct {
 
 /// How a tenant's machine ended.
 #[repr(C)]
-#[derive(Clone, Copy, Default)]
+#[derive(Clone, Copy, Debug, Default, PartialEq, Eq)]
 pub struct MachineEnd {
     pub alone: AloneEnd,
     pub regs: Regs,
 }
 
-/// A chunk that is live behind heap calls.
-#[repr(C)]
-#[derive(Clone, Copy, Debug, Default)]
-pub struct LiveChunk {
-    pub address: u64,
-    pub size: u64,
-    pub call: u64,
-    pub tag: u32,
-    pub unused: u32,
-}
-
 /// A page that is mapped.
 #[repr(C)]
-#[derive(Clone, Copy, Debug, Default)]
+#[derive(Clone, Copy, Debug, Default, PartialEq, Eq)]
 pub struct PageEntry {
     pub number: u64,
     pub attrs: u32,
     pub unused: u32,
 }
 
-#[repr(C)]
-struct Bytes {
-    bytes: *const u8,
-    length: usize,
-}
-
-#[repr(C)]
-struct RawTerms {
-    image: *const u8,
-    image_length: usize,
-    input: *const u8,
-    input_length: usize,
-    slices: *const u32,
-    slice_count: usize,
-    seed: u64,
-    pages: u32,
-    room: u32,
-    asynchronous: u32,
-    unused: u32,
-}
-
+/// What is asked of tb_run_traced. Each range has its last address in it; none may be empty.
 #[repr(C)]
 struct RawTraceRequest {
     stops: *const u64,
@@ -520,17 +453,69 @@ struct RawTraceRequest {
     unused: u32,
 }
 
-const _: () = assert!(size_of::<HeapStep>() == 64 && size_of::<RawTraceRequest>() == 64);
-const _: () = assert!(size_of::<TracedInstruction>() == 24 && size_of::<TracedAccess>() == 48);
-const _: () = assert!(size_of::<TraceReport>() == 56);
-const _: () = assert!(size_of::<Page>() == 4368 && size_of::<Regs>() == 272);
-const _: () = assert!(size_of::<Stop>() == 40 && size_of::<HeapCall>() == 56);
-const _: () = assert!(size_of::<Bytes>() == 16 && size_of::<SessionEnd>() == 24);
-const _: () = assert!(size_of::<RawTerms>() == 72 && size_of::<AloneEnd>() == 88);
-const _: () = assert!(size_of::<MachineAct>() == 64 && size_of::<PageEntry>() == 16);
-const _: () = assert!(size_of::<MachineEnd>() == 360);
-const _: () = assert!(size_of::<RawFuzz>() == 8 && size_of::<RawFuzzInput>() == 40);
+/// An instruction that was fetched and attempted, as tb_run_traced enters it.
+#[repr(C)]
+#[derive(Clone, Copy, Debug, Default, PartialEq, Eq)]
+pub struct TracedInstruction {
+    pub step: u64,
+    pub pc: u64,
+    pub word: u32,
+    pub unused: u32,
+}
+
+/// An access of an instruction to memory that was completed, as tb_run_traced enters it.
+#[repr(C)]
+#[derive(Clone, Copy, Debug, Default, PartialEq, Eq)]
+pub struct TracedAccess {
+    pub step: u64,
+    pub pc: u64,
+    pub addr: u64,
+    pub value: [u64; 2],
+    pub size: u32,
+    pub kind: u32,
+}
+
+/// How a traced run ended.
+#[repr(C)]
+#[derive(Clone, Copy, Debug, Default, PartialEq, Eq)]
+pub struct TraceReport {
+    pub steps: u64,
+    pub instructions: u64,
+    pub accesses: u64,
+    pub code: u32,
+    pub number: u32,
+    pub fault: Fault,
+}
+
+const _: () = assert!(size_of::<Page>() == 4368);
+const _: () = assert!(size_of::<TagState>() == 8);
+const _: () = assert!(size_of::<Regs>() == 272);
+const _: () = assert!(size_of::<Fault>() == 24);
+const _: () = assert!(size_of::<Stop>() == 40);
+const _: () = assert!(size_of::<HeapSetup>() == 16);
+const _: () = assert!(size_of::<HeapCall>() == 56);
+const _: () = assert!(size_of::<Bytes>() == 16);
+const _: () = assert!(size_of::<SessionEnd>() == 24);
+const _: () = assert!(size_of::<RawTerms>() == 72);
+const _: () = assert!(size_of::<Status>() == 48);
+const _: () = assert!(size_of::<KeptCall>() == 32);
+const _: () = assert!(size_of::<AloneEnd>() == 88);
+const _: () = assert!(size_of::<RawFuzz>() == 8);
+const _: () = assert!(size_of::<RawFuzzInput>() == 40);
 const _: () = assert!(size_of::<FuzzFinding>() == 56);
+const _: () = assert!(size_of::<HeapStep>() == 64);
+const _: () = assert!(size_of::<LiveChunk>() == 32);
+const _: () = assert!(size_of::<MachineAct>() == 64);
+const _: () = assert!(size_of::<MachineEnd>() == 360);
+const _: () = assert!(size_of::<PageEntry>() == 16);
+const _: () = assert!(size_of::<RawTraceRequest>() == 64);
+const _: () = assert!(size_of::<TracedInstruction>() == 24);
+const _: () = assert!(size_of::<TracedAccess>() == 48);
+const _: () = assert!(size_of::<TraceReport>() == 56);
+
+// End of what tools/border.py writes.
+
+// Written by tools/border.py: the calls
 
 unsafe extern "C" {
     safe fn tb_version() -> u32;
@@ -698,6 +683,52 @@ unsafe extern "C" {
         end: *mut TraceReport,
     ) -> u32;
     fn tb_disassemble(word: u32, pc: u64, text: *mut u8, room: usize) -> u32;
+}
+
+// End of what tools/border.py writes.
+
+impl std::fmt::Display for Fault {
+    /// `TagCheck: a write at 0x20020, pointer tag 5, memory tag 0`
+    fn fmt(&self, f: &mut std::fmt::Formatter<'_>) -> std::fmt::Result {
+        let (kind, what) =
+            (fault_kind_name(self.kind), if self.write == 0 { "read" } else { "write" });
+        let Fault { addr, ptr_tag, mem_tag, .. } = self;
+        write!(f, "{kind}: a {what} at {addr:#x}, pointer tag {ptr_tag}, memory tag {mem_tag}")
+    }
+}
+
+/// An access of an instruction to memory, as `Memory::trace` enters it.
+#[derive(Clone, Copy, Debug, Default, PartialEq, Eq)]
+pub struct Access {
+    /// The address of the instruction.
+    pub pc: u64,
+    /// The address that was used, its tag in bits 59 to 56.
+    pub addr: u64,
+    /// The first 16 bytes there after it, the lowest first; 0 beyond `size`.
+    pub value: [u64; 2],
+    /// The instruction.
+    pub word: u32,
+    /// How many bytes: 1 to 16; of LDG and STG the granule's 16, of ST2G 32.
+    pub size: u32,
+    pub write: bool,
+    /// The allocation tag of the granule that holds `addr`, after it.
+    pub mem_tag: u32,
+}
+
+/// How many bytes a load or a store of the profile accesses, by its word: 1 to 16, of LDG, STG and
+/// STZG 16, of ST2G and STZ2G 32. Of other words it says nothing.
+pub fn access_size(word: u32) -> u32 {
+    let bit = |n: u32| word >> n & 1 != 0;
+    if word >> 24 == 0xd9 {
+        return if bit(23) { 32 } else { 16 };
+    }
+    match word >> 27 & 7 {
+        5 if bit(31) || (bit(30) && !bit(22)) => 16,
+        5 => 8,
+        3 if bit(30) => 8,
+        3 => 4,
+        _ => 1 << (word >> 30),
+    }
 }
 
 // In each call below no pointer is null, since none of a slice, a vector or a reference is; each

@@ -10,8 +10,7 @@ from dataclasses import dataclass
 from tests.support.places import IMAGES
 
 BUILDS = ("clang-O0", "clang-O2", "gcc-O0", "gcc-O2")
-# Those by which a tenant's whole text is stored, and those by which what the options tell is.
-TEXT_BUILDS = ("clang-O2", "gcc-O0")
+# Those by which what the options tell is compared.
 OPTION_BUILDS = ("clang-O0", "gcc-O2")
 
 FAULT, ASYNC, ABORT, ILLEGAL, BREAKPOINT, LIMIT, NOT_ENDED, REFUSED, EXACT = range(129, 138)
@@ -65,6 +64,10 @@ CHUNKS = (
     Act("chunks", "s", FAULT, TAGS + "read of 1 byte",
         "[MTE]: Use After Free by a stale pointer, 5 bytes into a 48-byte allocation", TABLE,
         "16, free("),
+    *(Act("chunks", "s", FAULT, TAGS + "read of 1 byte",
+          "[MTE]: Use After Free by a stale pointer, 5 bytes into a 48-byte allocation", TABLE,
+          "16, free(", options=("--seed", seed))
+      for seed in ("00000000000000ff", "0000000000000010", "ffffffffffffffff", "0" * 16)),
     Act("chunks", "L", FAULT, HOLE + "write of 1 byte",
         "[MTE]: " + OVER + "700 bytes right of a 200000-byte allocation", "14, malloc(200000)"),
     Act("chunks", "M", FAULT, HOLE + "read of 1 byte",
@@ -119,6 +122,10 @@ CHUNKS = (
     Act("chunks", "z", EXACT, "exact: a write of 1 byte",
         "[exact]: " + OVER + "4 bytes right of a 30-byte allocation", "6, realloc(",
         options=("--exact",)),
+    Act("chunks", "p", EXACT, "exact: a read of 1 byte",
+        "[exact]: " + OVER + "0 bytes right of a 30-byte allocation", "6, realloc(",
+        options=("--async", "--exact")),
+    Act("chunks", "f", ASYNC, "an access before 0x", options=("--async",)),
     # What no tag finds, and the reads that --exact=writes lets pass.
     Act("chunks", "q", 0),
     Act("chunks", "x", 0),
@@ -218,7 +225,17 @@ SERVICES = (
     Act("services", "e131", 131),
     Act("services", "o", 30),
     Act("services", "o", 15, options=("--out", "15")),
+    Act("services", "o", 0, options=("--out", "0")),
+    Act("services", "o", 25, options=("--out", "25")),
+    Act("services", "o", 30, options=("--out", "65536")),
     Act("services", "s", 0),
+    Act("services", "s", 0, options=("--pages", "2049")),
+    Act("services", "s", 0, options=("--pages", "9")),
+    Act("services", "s", NOT_ENDED, "still running after its slices",
+        options=("--slices", "40,0,1048576")),
+    Act("services", "s", NOT_ENDED, "still running after its slices",
+        options=("--slices", "40,10")),
+    Act("services", "w", LIMIT, "the limit of 1 steps is reached", options=("--steps", "1")),
     Act("services", "s", 0, options=("--pages", "4096", "--slices", "1000,700,5000")),
     Act("services", "w", LIMIT, "the limit of 2000 steps is reached", options=("--steps", "2000")),
     Act("services", "w", NOT_ENDED, "still running after its slices",

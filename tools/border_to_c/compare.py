@@ -176,15 +176,17 @@ def version_names(read_file: Read, tables: Tables) -> Iterator[str]:
 
 
 def written_parts(read_file: Read, tables: Tables) -> Iterator[str]:
-    """Parts that are not what the tables give."""
+    """Parts that are not what the tables and the header give."""
+    text = read_file(written.HEADER)
     for part in written.PARTS:
         inside = written.halves(part, read_file(part.path))[1].split("\n")
-        wanted = written.wanted(part, tables).split("\n")
+        wanted = written.wanted(part, tables, text).split("\n")
+        source = written.HEADER if part.name in ("the structs", "the calls") else SOURCE
         for left, right in zip(wanted, inside):
             if left != right:
-                yield f"{part.path}: `{right}` is not what {SOURCE} gives (border.py --write)"
+                yield f"{part.path}: `{right}` is not what {source} gives (border.py --write)"
         if len(wanted) != len(inside):
-            yield f"{part.path}: {part.name} are not what {SOURCE} gives (border.py --write)"
+            yield f"{part.path}: {part.name} are not what {source} gives (border.py --write)"
 
 
 def bound_numbers(c: Border, rust: Border, python: Border, tables: Tables) -> Iterator[str]:

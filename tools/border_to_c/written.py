@@ -1,10 +1,12 @@
-"""What is written from the tables into the header, the bindings and the page, between marks."""
+"""What is written from the tables and the header into the header, the bindings and the page,
+between marks."""
 
 import re
 import textwrap
 from collections.abc import Callable
 from dataclasses import dataclass
 
+from . import rust
 from .shapes import BorderError
 from .tables import Enum, Tables
 
@@ -14,17 +16,23 @@ BEGIN, END = "Written by tools/border.py: {}", "End of what tools/border.py writ
 
 @dataclass(frozen=True)
 class Part:
-    """A part of a file: how its marks begin and end, its name, and its text."""
+    """A part of a file: how its marks begin and end, its name, and its text by the tables and by
+    the text of the header."""
 
     path: str
     mark: tuple[str, str]
     name: str
-    text: Callable[[Tables], str]
+    text: Callable[[Tables, str], str]
 
     def marks(self) -> tuple[str, str]:
         """The lines around the part."""
         before, after = self.mark
         return f"{before}{BEGIN.format(self.name)}{after}\n", f"{before}{END}{after}\n"
+
+
+def by_tables(text: Callable[[Tables], str]) -> Callable[[Tables, str], str]:
+    """A text that needs no header."""
+    return lambda tables, _: text(tables)
 
 
 def c_enum(it: Enum) -> str:
@@ -154,18 +162,20 @@ PYTHON_FILE = "examples/embed/tombolopan/abi.py"
 PYTHON_ENUMS = "examples/embed/tombolopan/enums.py"
 PAGE_FILE = "docs/C.md"
 PARTS = [
-    Part(HEADER, C, "the numbers", c_enums),
-    Part(HEADER, C, "the texts", c_functions),
-    Part(RUST_FILE, RUST, "the numbers", rust_constants),
-    Part(RUST_FILE, RUST, "the texts", rust_functions),
-    Part(PYTHON_FILE, PYTHON, "the numbers and texts", python_tables),
-    Part(PYTHON_ENUMS, PYTHON, "the enums", python_enums),
-    Part(PAGE_FILE, PAGE, "the numbers", page_table),
+    Part(HEADER, C, "the numbers", by_tables(c_enums)),
+    Part(HEADER, C, "the texts", by_tables(c_functions)),
+    Part(RUST_FILE, RUST, "the numbers", by_tables(rust_constants)),
+    Part(RUST_FILE, RUST, "the texts", by_tables(rust_functions)),
+    Part(RUST_FILE, RUST, "the structs", rust.structs),
+    Part(RUST_FILE, RUST, "the calls", rust.calls),
+    Part(PYTHON_FILE, PYTHON, "the numbers and texts", by_tables(python_tables)),
+    Part(PYTHON_ENUMS, PYTHON, "the enums", by_tables(python_enums)),
+    Part(PAGE_FILE, PAGE, "the numbers", by_tables(page_table)),
 ]
 
 
 def halves(part: Part, text: str) -> tuple[str, str, str]:
-    """What stands in front of a part, in it and behind it, without its marks."""
+    """What stands in front of a part, in it and after it, without its marks."""
     begin, end = part.marks()
     if text.count(begin) != 1 or end not in text.partition(begin)[2]:
         raise BorderError(f"{part.path}: the marks of {part.name} are not there, each once")
@@ -174,14 +184,14 @@ def halves(part: Part, text: str) -> tuple[str, str, str]:
     return before, inside, after
 
 
-def wanted(part: Part, tables: Tables) -> str:
+def wanted(part: Part, tables: Tables, header: str) -> str:
     """What stands between the marks; lines of a page need an empty line around a table."""
-    text = part.text(tables)
+    text = part.text(tables, header)
     return f"\n{text}\n"
 
 
-def replaced(part: Part, text: str, tables: Tables) -> str:
-    """The text of a file with the part as the tables give it."""
+def replaced(part: Part, text: str, tables: Tables, header: str) -> str:
+    """The text of a file with the part as the tables and the header give it."""
     before, _, after = halves(part, text)
     begin, end = part.marks()
-    return before + begin + wanted(part, tables) + end + after
+    return before + begin + wanted(part, tables, header) + end + after

@@ -3,7 +3,7 @@
 ended or that took longer than a minute, or one of whose packets was not answered, is kept in the
 folder `mutated` and told.
 
-    mutate.py PROGRAM COUNT SEED IMAGE...       PROGRAM is mte_run
+    mutate_packets.py PROGRAM COUNT SEED IMAGE...       PROGRAM is mte_run
 """
 
 import collections
