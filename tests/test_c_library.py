@@ -21,7 +21,7 @@ from tests.support.running import run
 from tests.support.told import UNSEEN
 from tests.support.tools import need
 
-PROGRAMS = sorted((EXAMPLES / "programs").glob("*.c"))
+PROGRAMS = sorted((EXAMPLES / "libc" / "tests" / "programs").glob("*.c"))
 TESTS = sorted((EXAMPLES / "libc" / "tests").glob("*.c*"))
 # By both compilers at all levels; each other one by clang at -O2 and by gcc at -O0.
 THOROUGH = {"json_pretty", "word_count", "runtime"}
@@ -77,7 +77,7 @@ def library() -> pathlib.Path:
 def test_a_program_does_what_it_does_natively(
     alone: pathlib.Path, library: pathlib.Path, tmp_path: pathlib.Path, case: Case
 ) -> None:
-    """Output and exit status of the programs of examples/programs over their inputs."""
+    """Output and exit status of the programs of examples/libc/tests/programs over their inputs."""
     image = case.compiled(library, tmp_path)
     data = case.source.with_suffix(".txt")
     program = native(case.source, tmp_path / "native", "-O2", "-Wall", "-Wextra")

@@ -120,7 +120,7 @@ COUNTS: dict[str, Callable[[], int]] = {
     "packages": lambda: packages()[0],
     "packages_as_natively": lambda: packages()[1],
     "planted_bugs": lambda: len(checking.page_table(source("docs/project/CHECKED.md"))) - 3,
-    "programs": lambda: len(files(r"examples/programs/\w+\.c")),
+    "programs": lambda: len(files(r"examples/libc/tests/programs/\w+\.c")),
     "rows": lambda: len(table.read_rows()),
     "store_calls": store_calls,
     "suite_mutants": suite_mutants,

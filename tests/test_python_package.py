@@ -406,6 +406,19 @@ def test_samples(shared: pathlib.Path, name: str) -> None:
     compare(f"embedding/{name}.txt", ran.output)
 
 
+def test_speeds(shared: pathlib.Path) -> None:
+    """Each figure of speed.py is written; how great it is, is not compared."""
+    it = in_python(shared, EMBED / "speed.py")
+    ran = run([*it.words, "4", "20000"], extra=it.extra)
+    assert (ran.status, ran.errors) == (0, "")
+    first, *rest = ran.output.splitlines()
+    assert re.fullmatch(r"a run over 4 pages: [0-9.]+ times that over 4", first)
+    assert [re.sub(r"[0-9.]+", "N", line) for line in rest] == [
+        f"{what}: N million a second" for what in (
+            "accesses, iterated", "instructions, iterated", "accesses, by a callback",
+            "heap calls, from a list of Python", "heap calls, tb_heap_replay alone")]
+
+
 def test_types(tmp_path: pathlib.Path) -> None:
     """A program is checked against the hints of the package, and a wrong one is told."""
     need("mypy")

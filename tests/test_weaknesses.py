@@ -13,7 +13,7 @@ from tests.support.running import Word, run
 from tests.support.tools import give_up, need
 
 PAGE = (ROOT / "docs" / "project" / "CHECKED.md").read_text(encoding="utf-8")
-LIBRARIES = ("CVE-2023-53154", "CVE-2023-33460", "CVE-2014-2525")
+LIBRARIES = ("CVE-2023-53154", "CVE-2023-33460", "CVE-2014-2525", "bzip2", "expat")
 
 
 def test_a_sample_is_told(alone: pathlib.Path) -> None:

@@ -1,10 +1,12 @@
 #!/usr/bin/env python3
-"""Runs known weaknesses of libraries by `mte_run --check`, and says what it tells of each.
+"""Runs known weaknesses of libraries, and planted ones, by `mte_run --check`, and says what it
+tells of each.
 
     cves.py [--run PROGRAM] [--work FOLDER] [--only NAME] [--write | --check]
 
 For each entry of cves.toml the source of a package is fetched from Debian, its correction undone
-where it has one, and built by ../libc/tenant-cc with a small program that reaches the weakness.
+where it has one, or a bug planted, and built by ../libc/tenant-cc, a library with a small program
+that reaches the weakness.
 PROGRAM (crates/mte_run/out/mte_run) has to tell the cause, with the place in its stack; and of the
 source with the correction, where there is one, nothing. FOLDER keeps sources and what is built (a
 temporary folder). A table is printed; --write puts it into docs/project/CHECKED.md, and --check
@@ -15,17 +17,18 @@ import argparse
 import pathlib
 import re
 import shutil
+import struct
 import subprocess
 import sys
 import tempfile
 import tomllib
+import zlib
 from typing import Any, NamedTuple
 
 HERE = pathlib.Path(__file__).resolve().parent
 ROOT = HERE.parents[1]
-sys.path[:0] = [str(HERE.parent), str(HERE.parent / "real")]
+sys.path.insert(0, str(HERE.parent))
 import debian_source  # noqa: E402
-import program_list  # noqa: E402
 
 PAGE = ROOT / "docs" / "project" / "CHECKED.md"
 TENANT_CC = HERE.parent / "libc" / "tenant-cc"
@@ -41,6 +44,35 @@ class Told(NamedTuple):
     stack: str
 
 
+def gzip_with_extra_field() -> bytes:
+    """A gzip file whose header has an extra field of 96 bytes (RFC 1952)."""
+    text, extra = b"expanded\n", bytes(range(96))
+    packed = zlib.compressobj(9, zlib.DEFLATED, -15)
+    body = packed.compress(text) + packed.flush()
+    head = bytes([0x1F, 0x8B, 8, 4, 0, 0, 0, 0, 0, 255]) + struct.pack("<H", len(extra)) + extra
+    return head + body + struct.pack("<II", zlib.crc32(text), len(text))
+
+
+def many_attributes() -> bytes:
+    """An element of XML with 40 attributes."""
+    names = " ".join(f"a{number}='{number}'" for number in range(40))
+    return f"<list><item {names}/></list>\n".encode()
+
+
+INPUTS = {"gzip": gzip_with_extra_field, "attributes": many_attributes}
+
+
+def input_of(entry: Entry, source: pathlib.Path) -> bytes:
+    """What the tenant of an entry reads."""
+    if "input" in entry:
+        return INPUTS[entry["input"]]()
+    if "given" in entry:
+        return (source / entry["given"]).read_bytes()
+    if "own" in entry:
+        return (HERE / entry["own"]).read_bytes()
+    return str(entry.get("text", "")).encode()
+
+
 def version(folder: pathlib.Path, package: str) -> str:
     """The version of the source, by the name of its archive."""
     archive = debian_source.archives_of(folder, package)[0].name
@@ -50,7 +82,8 @@ def version(folder: pathlib.Path, package: str) -> str:
 def build(entry: Entry, source: pathlib.Path, image: pathlib.Path) -> None:
     """Builds the program of an entry over a source."""
     part = entry.get("folder", ".")
-    flags = [it.format(source=source) for it in entry.get("flags", [])]
+    flags = [it.format(source=source, root=ROOT) for it in entry.get("flags", [])]
+    flags += [f"--arguments={entry['arguments']}", "--stack=262144"] if "arguments" in entry else []
     headers = image.parent / "headers"
     for name, folder in entry.get("headers", {}).items():
         headers.mkdir(exist_ok=True)
@@ -58,18 +91,18 @@ def build(entry: Entry, source: pathlib.Path, image: pathlib.Path) -> None:
         (headers / name).symlink_to(source / folder)
         flags.append(f"-I{headers}")
     files = [str(source / part / f"{name}.c") for name in entry["files"]]
-    words = [str(TENANT_CC), "-O0", "-g", "-w", "-fno-builtin", *flags, f"-I{source / part}",
-             str(HERE / entry["driver"]), *files, "-o", str(image)]
+    files += [str(HERE / entry["driver"])] if "driver" in entry else []
+    words = [str(TENANT_CC), entry.get("level", "-O0"), "-g", "-w", "-fno-builtin", *flags,
+             f"-I{source / part}", *files, "-o", str(image)]
     built = subprocess.run(words, capture_output=True, text=True, check=False)
     if built.returncode:
         sys.exit(f"cves.py: {image.name} was not built: {built.stderr[-2000:]}")
 
 
-def told_of(run: pathlib.Path, entry: Entry, image: pathlib.Path) -> Told:
+def told_of(run: pathlib.Path, entry: Entry, image: pathlib.Path, source: pathlib.Path) -> Told:
     """What is told of a tenant."""
     given = image.parent / "input"
-    is_gzip = entry.get("input") == "gzip"
-    given.write_bytes(program_list.gzip_with_extra_field(None) if is_gzip else b"")
+    given.write_bytes(input_of(entry, source))
     words = [str(run), "--check", "--steps", "100000000", "--input", str(given), str(image)]
     ran = subprocess.run(words, capture_output=True, timeout=300, check=False)
     text = ran.stderr.decode(errors="replace")
@@ -97,12 +130,12 @@ def judged(run: pathlib.Path, name: str, entry: Entry, folder: pathlib.Path) -> 
     is_right = True
     how = "as it is"
     if "file" in entry:
-        how = "correction undone"
+        how = "planted" if entry.get("planted") else "correction undone"
         build(entry, source, made / "corrected.elf")
-        is_right = told_of(run, entry, made / "corrected.elf").cause == NOTHING
+        is_right = told_of(run, entry, made / "corrected.elf", source).cause == NOTHING
         source = with_wrong(entry, source, made / "source")
     build(entry, source, made / "tenant.elf")
-    told = told_of(run, entry, made / "tenant.elf")
+    told = told_of(run, entry, made / "tenant.elf", source)
     place = place_in(told.stack, entry["place"])
     number = version(folder, entry["package"])
     cause = re.sub(r" at 0x[0-9a-f]+.*", "", told.cause)

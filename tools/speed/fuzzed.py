@@ -121,7 +121,7 @@ def real(options: argparse.Namespace, work: pathlib.Path) -> None:
     sources = real_programs.fetch_sources([options.real], options.work or work / "source")
     if options.real not in sources:
         leave("there is no source")
-    builder = real_programs.Builder("clang", None, sources, work)
+    builder = real_programs.Builder(None, sources, work)
     options.image = builder.tenant(options.real)
     run = real_programs.PROGRAMS[options.real].short if options.bytes is None else (
         1, options.bytes)

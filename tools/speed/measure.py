@@ -2,8 +2,7 @@
 """How long a step of a tenant takes.
 
     measure.py [--ir] [--qemu] [--unicorn] [--rounds N] HOST...
-    measure.py --real [--ir] [--scudo] [--native] [--compiler clang|gcc] [--only NAME]
-               [--work FOLDER] [--rounds N] HOST...
+    measure.py --real [--ir] [--scudo] [--native] [--only NAME] [--work FOLDER] [--rounds N] HOST...
 
 Each HOST is a built mte_host. All of them run the same tenants in turns, N times (5), and each
 workload's line has the best user time of each in nanoseconds a step, the time of a start with a
@@ -193,7 +192,6 @@ def arguments() -> argparse.Namespace:
     parser.add_argument("--real", action="store_true")
     parser.add_argument("--scudo", action="store_true")
     parser.add_argument("--native", action="store_true")
-    parser.add_argument("--compiler", choices=real_programs.COMPILERS, default="clang")
     parser.add_argument("--only", choices=real_programs.PROGRAMS)
     return parse_hosts(parser)
 

@@ -14,11 +14,10 @@ whole run less the best of a start, a run over next to nothing: a program on Scu
 tenth of a second, one under memcheck for half a second. Each run writes a sum of what it made,
 which has to be that of the same program on this machine. `--ir` has the instructions alone.
 
-One compiler builds all, with -O2. A tenant has no registers of floating point and SIMD
+clang builds all, with -O2. A tenant has no registers of floating point and SIMD
 (-mgeneral-regs-only); its C library is real/strings.c and real/tenant_libc.c, and Lua's numbers
-with a fraction are computed by compiler-rt and real/tenant_math.c (gcc refuses them, so with it
-there is no Lua), libtommath's divisions of 128 bits by real/tenant_division.c. The Linux programs
-have all registers and Debian's glibc.
+with a fraction are computed by compiler-rt and real/tenant_math.c, libtommath's divisions of 128
+bits by real/tenant_division.c. The Linux programs have all registers and Debian's glibc.
 
 Sources come by apt-get from where apt's own configuration says, and stay in FOLDER, outside the
 repository, for the next time (a temporary folder): 14 MB, and for Lua and `--scudo`
@@ -40,10 +39,7 @@ sys.path.insert(0, str(HERE.parents[1] / "examples"))
 import debian_source  # noqa: E402
 
 TOOLS = {**scudo.TOOLS, "ld.lld": "lld", "valgrind": "valgrind"}
-COMPILERS = {
-    "clang": ["clang", "--target=aarch64-linux-gnu", *scudo.HEADERS],
-    "gcc": ["aarch64-linux-gnu-gcc"],
-}
+CLANG = ["clang", "--target=aarch64-linux-gnu", *scudo.HEADERS]
 COMMON = ["-O2", "-w", "-DNDEBUG", "-ffp-contract=off"]
 TENANT = ["-mgeneral-regs-only", "-ffunction-sections", "-D__NO_CTYPE"]
 LIBRARY = ["-ffreestanding", "-fno-builtin"]
@@ -152,12 +148,10 @@ PROGRAMS = {
 
 
 class Builder:
-    """Builds a program's forms in a folder, by a compiler; `libraries` is compiler-rt's, if it is
-    there."""
+    """Builds a program's forms in a folder; `libraries` is compiler-rt's, if it is there."""
 
-    def __init__(self, compiler: str, libraries: Optional[Path], sources: dict[str, Path],
-                 work: Path) -> None:
-        self.compiler, self.libraries, self.work = COMPILERS[compiler], libraries, work
+    def __init__(self, libraries: Optional[Path], sources: dict[str, Path], work: Path) -> None:
+        self.libraries, self.work = libraries, work
         self.folder = sources
 
     def compile(self, command: list[str], files: list[Path], kind: str) -> list[Path]:
@@ -178,16 +172,16 @@ class Builder:
 
     def tenant(self, name: str) -> Path:
         files, flags = self.parts(name)
-        objects = self.compile([*self.compiler, *TENANT, *flags], files, "tenant")
+        objects = self.compile([*CLANG, *TENANT, *flags], files, "tenant")
         library = [REAL / "strings.c", REAL / "tenant_libc.c"]
         if name == "lua":
             library += [REAL / "tenant_math.c"]
             assert self.libraries, "without compiler-rt Lua is left out"
             builtins = [self.libraries / "builtins" / f"{file}.c" for file in FRACTIONS.split()]
-            objects += self.compile([*self.compiler, *TENANT], builtins, "tenant")
+            objects += self.compile([*CLANG, *TENANT], builtins, "tenant")
         if name == "libtommath":
             library += [REAL / "tenant_division.c"]
-        objects += self.compile([*self.compiler, *TENANT, *LIBRARY], library, "tenant")
+        objects += self.compile([*CLANG, *TENANT, *LIBRARY], library, "tenant")
         image = self.work / f"{name}.elf"
         run_tool(["ld.lld", "-static", "--gc-sections", "-o", image, *objects])
         return image
@@ -195,12 +189,12 @@ class Builder:
     def linux(self, name: str) -> Path:
         files, flags = self.parts(name)
         program = self.work / f"{name}.linux"
-        scudo.link(self.compile([*self.compiler, *flags], files, "linux"), program)
+        scudo.link(self.compile([*CLANG, *flags], files, "linux"), program)
         return program
 
     def on_scudo(self, name: str, heap: list[Path]) -> Path:
         files, flags = self.parts(name)
-        objects = self.compile([*self.compiler, *flags, *HEAP], files, "scudo")
+        objects = self.compile([*CLANG, *flags, *HEAP], files, "scudo")
         program = self.work / f"{name}.scudo"
         scudo.link([*objects, *heap], program)
         return program
@@ -342,17 +336,13 @@ def measure(options: Namespace, work: Path) -> None:
     need_tools(TOOLS)
     folder = (options.work or work / "source").resolve()
     names = [options.only] if options.only else list(PROGRAMS)
-    if options.compiler == "gcc" and "lua" in names:
-        print("measure.py: without lua: gcc refuses numbers with a fraction with "
-              "-mgeneral-regs-only", file=sys.stderr)
-        names.remove("lua")
     libraries = scudo.fetch(folder) if options.scudo or "lua" in names else None
     if libraries is None and "lua" in names:
         print("measure.py: without lua: it needs compiler-rt", file=sys.stderr)
         names.remove("lua")
     heap = scudo.build(libraries, work) if options.scudo and libraries else []
     sources = fetch_sources(names, folder)
-    print(f"{version(COMPILERS[options.compiler][0])}; {version('qemu-aarch64')}", flush=True)
-    builder = Builder(options.compiler, libraries, sources, work)
+    print(f"{version(CLANG[0])}; {version('qemu-aarch64')}", flush=True)
+    builder = Builder(libraries, sources, work)
     for name in sources:
         measure_program(name, builder, heap, options, work)

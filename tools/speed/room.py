@@ -12,10 +12,7 @@ For each built mte_host, one line a figure:
   one that comes after 4,000 others;
 - slice: those of a slice of one step, by the number of live, running tenants that have it in turns;
 - rounds: those of a round of a loop with heap calls, or with a service that does nothing;
-- start: those of the session of examples/hi.script, from start to end;
-- loads: those of a round of two loads from two pages, of different hashes in the lookaside buffer
-  or of one, with few or with 64 other translations;
-- refusals: how often a session with 10 and with 10,000 refused events allocates.
+- start: those of the session of examples/hi.script, from start to end.
 
 A figure in instructions is the difference of two sessions under callgrind; that of start is a whole
 session's. Where the two differ in lines of the script, the reading of these lines is in it. Needed:
@@ -40,15 +37,9 @@ Figures = Iterator[tuple[str, str]]  # each with its name
 
 EXAMPLES = HERE.parents[1] / "examples"
 HI = EXAMPLES / "hi.elf"
-ROUNDS = 20_000
-STEPS_A_ROUND = 6
 BRANCH_TO_ITSELF = 0x14000000
 SVC, MOVE, ADD = 0xD4000001, 0xAA0103E2, 0x91000421  # svc #0; mov x2, x1; add x1, x1, #1
 MALLOC, FREE, CALLOC, REALLOC, MEMALIGN, USABLE_SIZE, NO_SERVICE = 3, 4, 5, 6, 7, 8, 99
-CODE, FIRST, OTHERS = 0x10000, 0x14000, 0x800000
-# Page numbers with the sums 20 and 20 + 3 + 1 of their digits to the base 256 and 1024: one hash,
-# and two.
-SAME_HASH, OTHER_HASH = 0x413000, 0x415000
 
 
 def admit(number: int, pages: int, room: int = 16) -> str:
@@ -66,10 +57,9 @@ class Sessions:
         (self.folder / "script").write_text(script)
         return [self.host, "--frames", str(frames), self.folder / "script", image_file]
 
-    def run(self, command: list[Word], may_refuse: bool = False,
-            ) -> subprocess.CompletedProcess[str]:
+    def run(self, command: list[Word]) -> subprocess.CompletedProcess[str]:
         ran = subprocess.run(command, capture_output=True, text=True, check=True)
-        if "refused" in ran.stdout and not may_refuse:
+        if "refused" in ran.stdout:
             sys.exit(f"an event was refused: {ran.stdout[:200]}")
         return ran
 
@@ -77,10 +67,6 @@ class Sessions:
         tool: list[Word] = ["valgrind", "--tool=callgrind", "--callgrind-out-file=/dev/null"]
         ran = self.run([*tool, *self.command(script, frames, image_file)])
         return number_in(r"Collected : (\d+)", ran.stderr)
-
-    def allocations(self, script: str, frames: int) -> int:
-        ran = self.run(["valgrind", *self.command(script, frames)], may_refuse=True)
-        return number_in(r"total heap usage: ([\d,]+) allocs", ran.stderr)
 
     def peak(self, script: str, frames: int) -> int:
         """The most resident memory, in KiB. (What wait4 tells of a child would count this program's
@@ -203,43 +189,9 @@ def start_cost(sessions: Sessions) -> Figures:
     yield "hi.script", f"{sessions.instructions(script, 64)} instructions"
 
 
-def two_loads(other: int, touched: int) -> bytes:
-    """Loads from FIRST and from `other` for ever, after one from each of `touched` other pages."""
-    words = constant(0, FIRST) + constant(1, other) + constant(7, OTHERS)
-    words += [0xD2800000 | 64 << 5 | 8]
-    if touched:
-        # ldr x9, [x7]; add x7, x7, #4096; sub x8, x8, #1; cbnz x8, back
-        words += [0xF94000E9, 0x914004E7, 0xD1000508, 0xB5000000 | (-3 & 0x7FFFF) << 5 | 8]
-    # ldr x2, [x0]; ldr x3, [x1]; add x4, x4, x2; add x5, x5, x3; sub x6, x6, #1; b back
-    words += [0xF9400002, 0xF9400023, 0x8B020084, 0x8B0300A5, 0xD10004C6,
-              0x14000000 | (-5 & 0x3FFFFFF)]
-    return image(words, [(FIRST, 4096), (other, 4096), (OTHERS, 64 * 4096)])
-
-
-def load_costs(sessions: Sessions) -> Figures:
-    path = sessions.folder / "loads"
-    for name, other, touched in (
-        ("different hashes", OTHER_HASH, 0), ("one hash", SAME_HASH, 0),
-        ("different hashes, 64 stand", OTHER_HASH, 64), ("one hash, 64 stand", SAME_HASH, 64),
-    ):
-        path.write_bytes(two_loads(other, touched))
-        slice_of = f"slice 1 {STEPS_A_ROUND * ROUNDS}\n"
-        costs = [sessions.instructions(admit(1, 200) + slice_of * slices, 401, path)
-                 for slices in (1, 3)]
-        yield name, f"{(costs[1] - costs[0]) / (2 * ROUNDS):.0f} instructions"
-
-
-def refusal_counts(sessions: Sessions) -> Figures:
-    kinds = {"slices": "slice 7 1\n", "stops": "stop 7\n", "admissions": admit(1, 5)}
-    for kind, line in kinds.items():
-        counts = [sessions.allocations(admit(1, 5) + line * events, 11)
-                  for events in (10, 9999)]
-        yield kind, f"{counts[0]} allocations with 10, {counts[1]} with 9999"
-
-
 FIGURES: dict[str, Callable[[Sessions], Figures]] = {
     "peak": peaks, "admission": admission_costs, "slice": slice_costs,
-    "rounds": round_costs, "start": start_cost, "loads": load_costs, "refusals": refusal_counts,
+    "rounds": round_costs, "start": start_cost,
 }
 
 
