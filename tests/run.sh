@@ -66,9 +66,9 @@ if [[ ${1:-} == --suite ]]; then
     exit
 fi
 # What needs no program takes seconds, and comes first: written files, the border to C, what
-# theorems reach, the list of crates, style.
+# theorems reach, the list of crates, the sentences and numbers of pages, style.
 first=(tests/test_style.py tests/test_border.py tests/test_isa.py tests/test_believe.py
-    tests/test_crates.py)
+    tests/test_crates.py tests/test_page_words.py)
 run_cases first "${first[@]}"
 save
 rt ci | tee "$logs/proofs"

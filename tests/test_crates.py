@@ -90,6 +90,35 @@ def test_first_sentences(tmp_path: pathlib.Path) -> None:
         assert crates.sentence_of(tmp_path) == wanted
 
 
+def named_in(page: str, sentence: str) -> set[str]:
+    """The crates that a page names in a sentence."""
+    text = (ROOT / "docs" / "project" / page).read_text(encoding="utf-8")
+    found = re.search(sentence, text)
+    assert found, f"{page} does not say: {sentence}"
+    return set(re.findall(r"`(\w+)`", found[1]))
+
+
+def crates_with(pattern: str) -> set[str]:
+    """The crates whose code has a pattern."""
+    names = [it for it in tracked_files() if re.fullmatch(r"crates/\w+/src/.*\.rt", it)]
+    return {it.split("/")[1] for it in names
+            if re.search(pattern, (ROOT / it).read_text(encoding="utf-8"))}
+
+
+def test_what_pages_say_of_crates() -> None:
+    """Which crates have raw pointers, which depend on clap, and which programs have contracts."""
+    pointers = named_in("ARCHITECTURE.md", r"\*\*Only (.*) have raw pointers\*\*")
+    assert pointers == crates_with(r"\*(?:mut|const) \w|\bunsafe \{")
+    below = {it.partition(":")[0].split()[0]: it.partition(":")[2].split()
+             for it in LIST.splitlines() if it and not it.startswith("#")}
+    clap = named_in("DECISIONS.md", r"\*\*Only command lines depend on `clap`\*\*: (.*?)\.")
+    assert clap == {name for name, names in below.items() if "clap" in names}
+    programs = {it.split("/")[1] for it in tracked_files()
+                if re.fullmatch(r"crates/\w+/src/main\.rt", it)}
+    with_contracts = named_in("ARCHITECTURE.md", r"Of the programs only (.*) has contracts")
+    assert with_contracts == programs & crates_with(r"\n\s+ensures\b")
+
+
 def test_ported_crates() -> None:
     """docs/PROVED.md has each library of the kit that a crate depends on, but those of std."""
     listed = {name for names in sections().values() for name in names}

@@ -233,16 +233,16 @@ def test_the_page_has_the_margins(shared: pathlib.Path) -> None:
     the same, and no state counts against one."""
     ran = margins(shared, "--states", "40000")
     assert (ran.status, ran.errors) == (0, "")
-    page = re.search(r"margins\.py: -->\n(.*?)<!-- to here", read_page("docs/ALLOCATORS.md"), re.S)
+    page = re.search(r"margins\.py: -->\n(.*?)<!-- to here", read_page("docs/ATTACKS.md"), re.S)
     assert page
     wanted, found = cells_of(page[1]), cells_of(ran.output)
-    assert list(found) == list(wanted) and len(found) == 18
+    assert list(found) == list(wanted) and len(found) == 11
     for name, cells in found.items():
         assert cells[-1] == wanted[name][-1]
         for one, other in zip(cells[:-1], wanted[name]):
             assert abs(float(one) - float(other)) < 0.01, name
     laws = set(re.findall(r"`(\w+)`", page[1]))
-    assert len(laws) == 4 and all(f"`{it}`" in read_page("docs/PROVED.md") for it in laws)
+    assert len(laws) == 5 and all(f"`{it}`" in read_page("docs/PROVED.md") for it in laws)
 
 
 def test_margins_of_wrong_words(shared: pathlib.Path) -> None:

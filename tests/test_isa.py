@@ -3,6 +3,7 @@ tells of words. Nothing that was built is needed."""
 
 import re
 import sys
+import textwrap
 
 import pytest
 from a64 import calls, dispatch, forms, table
@@ -64,6 +65,14 @@ def test_a_word_is_explained(word: str, told: str) -> None:
     """A word with a form, a refused one, one whose mask is worked out, one with a rare form, one
     without a form or a row."""
     assert isa("--why", word) == Ran(0, told.encode(), b"")
+
+
+def test_the_page_shows_a_row() -> None:
+    """The row of docs/project/ADDING_AN_INSTRUCTION.md is that of the data."""
+    page = (ROOT / "docs" / "project" / "ADDING_AN_INSTRUCTION.md").read_text(encoding="utf-8")
+    shown = re.findall(r"^ {7}(StGP .*\n(?: {11}.*\n)+)", page, re.M)
+    rows = (ROOT / "isa" / "a64.rows").read_text(encoding="utf-8")
+    assert len(shown) == 1 and textwrap.dedent("       " + shown[0]) in rows
 
 
 def test_the_page_counts_the_forms() -> None:

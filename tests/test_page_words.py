@@ -60,6 +60,14 @@ def definitions(theorem: str) -> int:
     return int(found[1])
 
 
+def packages() -> tuple[int, int]:
+    """How many packages were built as tenants, and how many of them write what they write
+    natively."""
+    rows = re.findall(r"^\| \S+ \| \S+ \| C.* \| .* \| (yes|no: .*) \|$",
+                      source("docs/project/PACKAGES.md"), re.M)
+    return len(rows), rows.count("yes")
+
+
 def suite_mutants() -> int:
     """How many mutants tools/plants.py plants."""
     return sum(len(tomllib.loads(source(it))) for it in files(r"tools/wrong_bodies/\w+\.toml"))
@@ -109,6 +117,8 @@ COUNTS: dict[str, Callable[[], int]] = {
     "found_exact": lambda: found_by(2),
     "isolation_definitions": lambda: definitions("behaviours_are_isolated"),
     "library_sources": lambda: len(files(r"examples/libc/src/\w+\.[cS]")),
+    "packages": lambda: packages()[0],
+    "packages_as_natively": lambda: packages()[1],
     "planted_bugs": lambda: len(checking.page_table(source("docs/project/CHECKED.md"))) - 3,
     "programs": lambda: len(files(r"examples/libc/tests/programs/\w+\.c")),
     "rows": lambda: len(table.read_rows()),
@@ -145,6 +155,27 @@ def test_numbers(page: str) -> None:
 def test_numbers_are_used() -> None:
     """Each count is of a number on some page."""
     assert {name for page in pages() for name, _ in counted(page)} == COUNTS.keys()
+
+
+def column(heads: str, name: str) -> dict[str, float]:
+    """The numbers of a column of a table of docs/SPEED.md, by the first cells of its rows."""
+    table_of = re.search(rf"^\| {heads} \|.*\n\|-.*\n((?:\|.*\n)+)", source("docs/SPEED.md"), re.M)
+    assert table_of, heads
+    names = [it.strip() for it in table_of[0].split("\n")[0].strip("|").split("|")]
+    rows = [[it.strip() for it in row.strip("|").split("|")] for row in table_of[1].splitlines()]
+    return {row[0]: float(row[names.index(name)]) for row in rows}
+
+
+def test_ratios() -> None:
+    """How much longer a tenant takes, and what a step takes, is so in the tables of SPEED."""
+    own = column("Program", "Host")
+    for other, form in (("AddressSanitizer", ".0f"), ("memcheck", ".1f")):
+        factors = [own[it] / seconds for it, seconds in column("Program", other).items()]
+        said = f"{min(factors):{form}} to {max(factors):{form}} times"
+        assert said in source("docs/SPEED.md") and said in source("README.md"), said
+    steps = [it for name, it in column("Workload", "Today").items() if "slices" not in name]
+    said = f"{min(steps):.0f} to {max(steps):.0f} instructions"
+    assert said in source("docs/TENANTS.md") and said in source("CHANGELOG.md"), said
 
 
 def test_files_of_tests_are_on_the_page() -> None:

@@ -4,7 +4,7 @@ one run.
 
     beside_scudo.py
 
-Writes the table of docs/ALLOCATORS.md. Scudo is that of Debian's libclang-rt-14-dev, natively on
+Writes the tables of docs/ALLOCATORS.md. Scudo is that of Debian's libclang-rt-14-dev, natively on
 x86-64, where it has no tags; ours is the library (TOMBOLOPAN names it). Status 1
 where a row is not as this file says: the same in both, or not.
 """
@@ -36,9 +36,9 @@ def classes(value: str) -> str:
 
 
 def header(value: str) -> str:
-    """A header's fields, but for the offset, which depends on where the block lies."""
-    names = ("class", "state", "origin", "size or unused bytes")
-    return ", ".join(f"{name} {it}" for name, it in zip(names, value.split()))
+    """A header's class, state, origin, and size or unused bytes. Its offset depends on where the
+    block lies."""
+    return ", ".join(value.split()[:4])
 
 
 def order(value: str) -> str:
@@ -101,13 +101,13 @@ ROWS = [
     Row("checksum of all headers", "checksum"),
     *(Row(f"{count} chunks of {size} bytes freed, and allocated again", f"reuse_{size}_{count}",
           True, order) for size, count in ((24, 3), (72, 28), (136, 64), (600, 64))),
-    Row("the same with a quarantine (`quarantine_size_kb=256`)", "reuse_quarantine", False, order,
-        "no quarantine"),
+    Row("freed chunks allocated again, with `quarantine_size_kb=256`", "reuse_quarantine", False,
+        order, "no quarantine"),
     Row("blocks that were never used", "fresh", False, fresh),
     Row("bytes of a freed chunk, in the next one", "left_of_freed", False, last_word),
     Row("the same with `zero_contents=1`", "left_of_freed_zeroing", False, last_word,
         "none, always"),
-    Row("bytes that are not 0 behind calloc", "left_in_calloc"),
+    Row("bytes that are not 0 after calloc", "left_in_calloc"),
     Row("usable size of a request", "usable", True, entries_but()),
     Row("memalign of 1, 2, 8 .. 4096", "alignments", True,
         entry("1", "2", "8", "16", "32", "64", "1024", "4096")),
@@ -129,36 +129,39 @@ ROWS = [
 ]
 
 
-def line_of(row: Row, theirs: Facts, ours: Facts) -> tuple[str, bool]:
-    """A line of the table, and whether it is as the row says."""
+def cells_of(row: Row, theirs: Facts, ours: Facts) -> tuple[str, str, bool]:
+    """What both have of a row, and whether it is the same."""
     them = row.shown(theirs[row.fact])
     us = row.ours or row.shown(ours[row.fact])
     is_same = not row.ours and them == us
     if row.shown in (classes, order):
         is_same = not row.ours and theirs[row.fact] == ours[row.fact]
-    return f"| {row.text} | {them} | {us} | {'same' if is_same else 'other'} |", \
-        is_same == row.is_same
+    return them, us, is_same
 
 
 def main() -> int:
-    """Measures both, and writes the table."""
+    """Measures both, and writes the tables: of what is the same, and of the rest."""
     if len(sys.argv) != 1:
         print(__doc__, file=sys.stderr)
         return 2
     theirs, ours = facts_of_scudo(), facts_of_ours()
-    print("| What | LLVM's Scudo | The profile | |\n|---|---|---|---|")
+    same = "| What | Both |\n|---|---|\n"
+    other = "| What | LLVM's Scudo | The profile |\n|---|---|---|\n"
     status = 0
     for row in ROWS:
-        line, is_right = line_of(row, theirs, ours)
-        print(line)
-        if not is_right:
+        them, us, is_same = cells_of(row, theirs, ours)
+        if is_same:
+            same += f"| {row.text} | {them} |\n"
+        else:
+            other += f"| {row.text} | {them} | {us} |\n"
+        if is_same != row.is_same:
             print(f"beside_scudo.py: {row.text}: {theirs[row.fact]} and "
                   f"{ours.get(row.fact, row.ours)}", file=sys.stderr)
             status = 1
     sizes = list(zip(theirs["classes"].split(), ours["classes"].split()))
-    print(f"\n{sum(a == b for a, b in sizes)} of {len(sizes)} sizes of blocks, and the first "
-          f"request that gets each, are the same; so are {sum(row.is_same for row in ROWS)} of "
-          f"{len(ROWS)} rows.")
+    print(f"{same}\n{other}\n{sum(a == b for a, b in sizes)} of {len(sizes)} sizes of blocks, and "
+          f"the first request that gets each, are the same; so are "
+          f"{sum(row.is_same for row in ROWS)} of {len(ROWS)} rows.")
     return status
 
 

@@ -4,7 +4,7 @@
     margins.py [--states N] [--write]
 
 Counts by margins.c under how many states of the generator of tags a run finds it: all 1,048,576 (14
-seconds of a processor), or the first N. `--write` writes the table into docs/ALLOCATORS.md. The
+seconds of a processor), or the first N. `--write` writes the table into docs/ATTACKS.md. The
 library is found as over_library.py says.
 """
 from __future__ import annotations
@@ -19,21 +19,29 @@ HERE = pathlib.Path(__file__).resolve().parent
 sys.path.insert(0, str(HERE.parent))
 from over_library import NotCompiled, compile_program  # noqa: E402
 
-PAGE = HERE.parents[1] / "docs" / "ALLOCATORS.md"
+PAGE = HERE.parents[1] / "docs" / "ATTACKS.md"
 BEGIN, END = "<!-- Written by examples/alloc/margins.py: -->\n", "<!-- to here. -->\n"
 STATES = 1 << 20
-RUNS = (1, 2, 4, 8)
+RUNS = (1, 2, 4)
 # By a name, a number and 0 or 1 under how many states a mistake is found.
 Counts = dict[tuple[str, int, int], int]
-# What laws say, in front of what is counted and behind it; docs/PROVED.md has them.
+# What laws say, before what is counted; docs/PROVED.md has them.
 ALWAYS = (
-    ("an access in the granule in front of a chunk, or behind its last one", "chunks_are_guarded"),
-    ("one to the chunk an odd number of blocks away", "odd_distances_differ"),
-    ("one to a freed chunk, until its block is taken", "freed_chunks_are_refused"),
-    ("the chunk freed again, until its block is taken", "double_frees_abort"),
+    ("the granule before its live chunk, or after it", "chunks_are_guarded"),
+    ("a live chunk of the class, an odd number of blocks away", "odd_distances_differ"),
+    ("a freed chunk, until its block is taken", "freed_chunks_are_refused"),
+    ("the own pages of a freed chunk, until they are mapped again", "freed_pages_are_refused"),
+    ("a second free, while its block is free and its header stays", "double_frees_abort"),
 )
-NEVER = "an access past a chunk's size, in its last granule"
-TIMES = {1: "once", 2: "twice"}
+# What is counted: of several counts the table has the least.
+COUNTED = (
+    ("a live chunk 2 blocks away", [("apart", 2)]),
+    ("one 4, 6 or 8 blocks away", [("apart", it) for it in (4, 6, 8)]),
+    ("a freed chunk whose block was taken once", [("stale", 1)]),
+    ("one whose block was taken twice to 8 times", [("stale", it) for it in range(2, 9)]),
+    ("the last chunk but one of a block taken 8 times", [("before", 8)]),
+)
+NEVER = "past a chunk's size, in its last granule"
 
 
 def count(states: int) -> Counts:
@@ -68,10 +76,10 @@ def probabilities(found: tuple[int, int], states: int) -> str:
     return " | ".join(cells)
 
 
-def row(text: str, key: tuple[str, int], counts: Counts, states: int) -> str:
+def row(text: str, keys: list[tuple[str, int]], counts: Counts, states: int) -> str:
     """A row of what is counted."""
-    found = counts[(*key, 0)], counts[(*key, 1)]
-    return f"| {text} | {probabilities(found, states)} | counted |\n"
+    odd, even = (min(counts[(*key, half)] for key in keys) for half in (0, 1))
+    return f"| {text} | {probabilities((odd, even), states)} | counted |\n"
 
 
 def table(counts: Counts, states: int) -> str:
@@ -81,14 +89,7 @@ def table(counts: Counts, states: int) -> str:
     text += "|---" * (len(RUNS) + 3) + "|\n"
     always = " | ".join(["1"] * (len(RUNS) + 1))
     text += "".join(f"| {mistake} | {always} | `{law}` |\n" for mistake, law in ALWAYS)
-    for distance in (2, 4, 6, 8):
-        text += row(f"one to the chunk {distance} blocks away", ("apart", distance), counts, states)
-    for times in range(1, 9):
-        taken = TIMES.get(times, f"{times} times")
-        text += row(f"one by the pointer to a freed chunk whose block was taken {taken}",
-                    ("stale", times), counts, states)
-    text += row("one by the pointer to the last chunk but one of a block taken 8 times",
-                ("before", 8), counts, states)
+    text += "".join(row(mistake, keys, counts, states) for mistake, keys in COUNTED)
     return text + f"| {NEVER} | {' | '.join(['0'] * (len(RUNS) + 1))} | tags are of 16 bytes |\n"
 
 

@@ -5,7 +5,7 @@
     pictures.py margins OUT.svg
 
 The first draws the bytes that are live and mapped over the calls of a replay (replay.py writes the
-statistics), at most 400 points a line. The second draws the table of margins in docs/ALLOCATORS.md
+statistics), at most 400 points a line. The second draws the table of margins in docs/ATTACKS.md
 (margins.py writes it): how often a mistake is missed, by one run and by several. Status 2 where a
 file is not of that form.
 """
@@ -18,7 +18,7 @@ import sys
 from dataclasses import dataclass, field
 from html import escape
 
-PAGE = pathlib.Path(__file__).resolve().parents[2] / "docs" / "ALLOCATORS.md"
+PAGE = pathlib.Path(__file__).resolve().parents[2] / "docs" / "ATTACKS.md"
 BEGIN, END = "<!-- Written by examples/alloc/margins.py: -->\n", "<!-- to here. -->\n"
 MOST_POINTS = 400
 WIDTH, HEIGHT = 860, 330

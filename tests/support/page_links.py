@@ -113,6 +113,7 @@ def means_file(page: str, path: str) -> bool:
     """Whether a word with a slash is the path of a file of the repository."""
     first = path.split("/")[0]
     is_ours = first in ("", ".", "..") or first in crates() or first in all_paths()
+    is_ours = is_ours or re.match(r"\w+/(?:src|specs|proofs|must-fail)/", path) is not None
     return is_ours or (path.endswith(SUFFIXES) and is_there(page, first))
 
 

@@ -15,7 +15,9 @@ use crate::kept_calls::KeptCall;
 use crate::lent_bytes::copy_to;
 use crate::lent_regs::LentRegs;
 use crate::lent_terms::LentTerms;
-use c_reports::{ActedMachine, MachineAct, NO_ROOM, OK, OUT_OF_MEMORY, PageEntry, REFUSED, page_map};
+use c_reports::{
+    ActedMachine, MachineAct, NO_ROOM, OK, OUT_OF_MEMORY, PageEntry, REFUSED, page_map,
+};
 use common::Obstacle;
 use std::alloc::Global;
 

@@ -72,7 +72,11 @@ fn drawn_word(number: u32) -> u32 {
 fn is_of_form(access: &InstructionAccess, form: &AccessForm, regs: &Regs) -> bool {
     let addr = form.addr(regs);
     // An access to tags is said to begin with their granule.
-    let addr = if form.is_of_registers() { addr } else { addr - addr % 16 };
+    let addr = if form.is_of_registers() {
+        addr
+    } else {
+        addr - addr % 16
+    };
     let is_write = access.kind & (ACCESS_WRITE | ACCESS_WRITE_TAG) != 0;
     access.addr == addr
         && u64::from(access.size) == form.len()
