@@ -147,7 +147,7 @@ def granules(program: Program) -> None:
     """Stores of tags to whole granules of a chunk, with or without data."""
     source = program.source
     base = source.choice([it for it in program.sizes if it != SP])
-    opc = source.randrange(4)
+    opc = source.randrange(4 if program.sizes[base] >= 32 else 2)
     count = 2 if opc > 1 else 1
     at = source.randrange(program.sizes[base] // 16 - count + 1)
     if source.random() < 0.4:

@@ -14,14 +14,14 @@ TAG = 15 << 56
 LOW = (1 << 56) - 1
 
 
-# Where `mte_run` counts more as undefined than the page says. Each is held by a test of its own,
-# which is expected to fail; drawn programs may meet it.
-DIFFERENCES = frozenset({
-    "the flags of a sum with 0, with the least number or with undefined bits",
-    "a difference of pointers (SUBP) and its flags",
-    "the highest bits of CLS",
-})
-FLAGS_OF_A_SUM, SUBP, CLS = sorted(DIFFERENCES, key=len, reverse=True)
+# Where `mte_run` differs from the page. Each has a test of its own, which is expected to fail; drawn
+# programs may meet it.
+FLAGS_OF_A_SUM = "the flags of a sum with 0, with the least number or with undefined bits"
+SUBP = "a difference of pointers (SUBP) and its flags"
+COUNTS = "bits of CLZ and CLS"
+CCMP = "the flags of CCMP by an undefined condition, of undefined operands"
+GMI = "a mask with the tag of a pointer (GMI)"
+DIFFERENCES = frozenset({FLAGS_OF_A_SUM, SUBP, COUNTS, CCMP, GMI})
 
 
 class Registers:
@@ -205,8 +205,11 @@ def cond_cmp(state: Registers, moment: Moment, it: Instruction) -> None:
     if it["op"]:
         y = y.inverted(it.bits)
     x = state.read(it["rn"], it.bits)
-    compared = flags_of_sum(state, it, x, y)
-    state.flags = conditions.chosen(it["cond"], state.flags, compared, it["nzcv"])
+    compared, before = flags_of_sum(state, it, x, y), state.flags
+    state.flags = conditions.chosen(it["cond"], before, compared, it["nzcv"])
+    is_open = before.is_open(it["cond"]) or before.may_be_open(it["cond"])
+    if is_open and CCMP in state.allowed:
+        state.flags = conditions.widened(state.flags, x, y)
 
 
 def cond_sel(state: Registers, moment: Moment, it: Instruction) -> None:
@@ -225,7 +228,7 @@ def one_source(state: Registers, moment: Moment, it: Instruction) -> None:
     """Reversals and counts."""
     x = state.read(it["rn"], it.bits)
     found = results.by_one(it, x)
-    if it["opcode"] == 5 and x.may and CLS in state.allowed:
+    if it["opcode"] > 3 and found.may and COUNTS in state.allowed:
         found = known.combined(found.value, found.must, 127, x)
     state.set(it["rd"], found)
 
@@ -285,7 +288,8 @@ def gmi(state: Registers, moment: Moment, it: Instruction) -> None:
     """A mask with the tag of a pointer."""
     x, y = state.base(it["rn"]), state.read(it["rm"])
     may = y.may | (0xFFFF if x.may & TAG else 0)
-    state.set(it["rd"], known.combined(moment.after[it["rd"]], y.must & ~0xFFFF, may, x, y))
+    must = 0 if GMI in state.allowed else y.must & ~0xFFFF
+    state.set(it["rd"], known.combined(moment.after[it["rd"]], must, may, x, y))
 
 
 def ldg(state: Registers, moment: Moment, it: Instruction) -> None:
