@@ -13,7 +13,7 @@ ZERO = 31
 DATA = ("add_sub_imm", "add_sub_shift", "add_sub_shift", "add_sub_ext", "log_imm", "log_imm",
         "log_shift", "log_shift", "move_wide", "bitfield", "bitfield", "extr", "adr", "adc_sbc",
         "adc_sbc", "cond_cmp", "cond_cmp", "cond_sel", "cond_sel", "two_source", "one_source",
-        "one_source", "mul_add", "mul_add_long", "mul_high", "sub_p", "add_g", "gmi")
+        "one_source", "mul_add", "mul_add_long", "mul_high", "sub_p", "add_g", "gmi", "irg")
 # Rows where register 31 is SP.
 WITH_SP = {"add_sub_imm": ("rn", "rd"), "add_sub_ext": ("rn", "rd"), "log_imm": ("rd",),
            "sub_p": ("rn", "rm"), "add_g": ("rn", "rd"), "gmi": ("rn",), "irg": ("rn", "rd")}

@@ -63,7 +63,7 @@ def is_number(origin: Origin) -> bool:
 def added(x: Origin, y: Origin, sign: int = 1) -> Origin:
     """A sum or a difference."""
     if not isinstance(x, Sum) or not isinstance(y, Sum):
-        return LOST if LOST in (x, y) else UNSAID
+        return LOST if LOST in (x, y) and (is_number(x) or is_number(y)) else UNSAID
     found = dict(x.terms)
     for chunk, times in y.terms:
         found[chunk] = found.get(chunk, 0) + sign * times

@@ -56,11 +56,12 @@ def two(it: Pointers) -> tuple[int, int, int]:
 
 
 def arithmetic(it: Pointers) -> None:
-    """Sums, differences, masks, selections, moves, and a product, from which its factor is taken
-    twice."""
+    """Sums, differences, masks, selections, moves, and products; from some of them their factor is
+    taken twice."""
     source = it.source
     rd, rn, rm = two(it)
     op = source.randrange(2)
+    tripled = [*move(NUMBER, 3), word("mul_add", sf=1, rm=NUMBER, ra=31, rn=rn, rd=rd)]
     choices: list[int | list[int]] = [
         copy(rd, rn), add(rd, rn, source.randrange(-64, 64)),
         word("add_sub_shift", sf=1, op=op, rm=rm, rn=rn, rd=rd),
@@ -72,9 +73,7 @@ def arithmetic(it: Pointers) -> None:
         word("cond_sel", sf=1, cond=source.randrange(16), o2=source.randrange(2), rm=rm, rn=rn,
              rd=rd),
         word("add_g", op=op, uimm6=source.randrange(4), uimm4=source.randrange(3), rn=rn, rd=rd),
-        [*move(NUMBER, 3), word("mul_add", sf=1, rm=NUMBER, ra=31, rn=rn, rd=rd),
-         word("add_sub_shift", sf=1, op=1, rm=rn, rn=rd, rd=rd),
-         word("add_sub_shift", sf=1, op=1, rm=rn, rn=rd, rd=rd)],
+        tripled, [*tripled, *[word("add_sub_shift", sf=1, op=1, rm=rn, rn=rd, rd=rd)] * 2],
     ]
     it.put(source.choice(choices))
     if source.random() < 0.2:
@@ -185,21 +184,31 @@ def accesses_in_chunks(it: Pointers, state: Provenance, values: tuple[int, ...])
             it.put(word("ld_st_imm", size=3, opc=1, imm12=0, rn=USED, rt=BYTE))
 
 
-def end(it: Pointers, state: Provenance, values: tuple[int, ...]) -> str:
+def end(it: Pointers, state: Provenance, values: tuple[int, ...]) -> None:
     """Accesses in their chunks, and one that is not, by a pointer that is known."""
     accesses_in_chunks(it, state, values)
     known = [(register, origin.chunk) for register in POOL
              if isinstance(origin := state.registers[register], Sum) and origin.chunk]
-    kind = "none"
-    if known:
+    lost = [register for register in POOL if state.registers[register] == LOST]
+    if lost and it.source.random() < 0.6:
+        chunk = it.source.choice([it for it in state.chunks.values() if it.freed is None])
+        found_again(it, chunk, (lost[0], values[lost[0]]))
+        wrong_use(it, state, chunk, (USED, chunk.pointer))
+    elif known:
         register, number = it.source.choice(known)
         assert number is not None
-        kind = wrong_use(it, state, state.chunks[number], (register, values[register]))
+        wrong_use(it, state, state.chunks[number], (register, values[register]))
     it.put(move(0, 0), move(8, EXIT), SERVICE)
-    return kind
 
 
-def wrong_use(it: Pointers, state: Provenance, chunk: Chunk, used: tuple[int, int]) -> str:
+def found_again(it: Pointers, chunk: Chunk, lost: tuple[int, int]) -> None:
+    """A value that has lost its origin is stored and loaded where it is a chunk's pointer."""
+    made_for(it, *lost, chunk.pointer)
+    it.put(word("ld_st_imm", size=3, opc=0, imm12=60, rn=SP, rt=USED),
+           word("ld_st_imm", size=3, opc=1, imm12=60, rn=SP, rt=USED))
+
+
+def wrong_use(it: Pointers, state: Provenance, chunk: Chunk, used: tuple[int, int]) -> None:
     """Where the access is: over the end, in another chunk, or in the stack. Some are allowed."""
     source = it.source
     others = [other for other in state.chunks.values()
@@ -213,12 +222,11 @@ def wrong_use(it: Pointers, state: Provenance, chunk: Chunk, used: tuple[int, in
         room = last - target
     elif others and kind != "stack":
         other = source.choice(others)
-        target, room, kind = other.pointer + 8 * source.randrange(2), 16, "other"
+        target, room = other.pointer + 8 * source.randrange(2), 16
     else:
-        target, room, kind = STACK + source.randrange(32), 64, "stack"
+        target, room = STACK + source.randrange(32), 64
     made_for(it, used[0], used[1], target)
     access(it, size, room)
-    return kind
 
 
 def access(it: Pointers, size: int, room: int) -> None:

@@ -29,23 +29,28 @@ def defined_bits(program: Program, state: Definedness) -> None:
                     word("cmp_branch", sf=1, imm19=NEXT, rt=BIT))
 
 
-def end(program: Program, state: Definedness) -> str:
-    """Adds both; the last use is of a condition or of a register, or there is none."""
+def end(program: Program, state: Definedness, is_over: bool) -> None:
+    """Adds both, where the run is not over before; the last use is of a condition or of a register,
+    or there is none. Then it exits."""
     source = program.source
-    defined_bits(program, state)
+    if not is_over:
+        defined_bits(program, state)
+        last_use(program, state)
+    program.put(move(0, source.randrange(256)), move(8, EXIT), SERVICE)
+
+
+def last_use(program: Program, state: Definedness) -> None:
+    """A use of an undefined condition, or of an undefined bit of a register."""
+    source = program.source
     conditions = [it for it in range(16) if state.flags.is_open(it)]
     registers = [it for it in POOL if state.registers[it].must]
-    kind = "none"
     if conditions and (source.random() < 0.4 or not registers):
-        kind = "condition"
         program.put(word("branch_cond", imm19=NEXT, cond=source.choice(conditions)))
     elif registers:
-        kind = use_of_bit(program, state, source.choice(registers), source)
-    program.put(move(0, source.randrange(256)), move(8, EXIT), SERVICE)
-    return kind
+        use_of_bit(program, state, source.choice(registers), source)
 
 
-def use_of_bit(program: Program, state: Definedness, register: int, source: random.Random) -> str:
+def use_of_bit(program: Program, state: Definedness, register: int, source: random.Random) -> None:
     """A use of one undefined bit of a register, as each kind of use."""
     known = state.registers[register]
     bit = source.choice([it for it in range(64) if known.must >> it & 1])
@@ -53,13 +58,12 @@ def use_of_bit(program: Program, state: Definedness, register: int, source: rand
     if kind == "test":
         program.put(word("test_branch", b5=bit >> 5, op=source.randrange(2), b40=bit & 31,
                          imm14=NEXT, rt=register))
-        return kind
+        return
     # The bit is in a register of its own, whose value is 0.
     program.put(word("bitfield", sf=1, opc=2, n=1, immr=bit, imms=bit, rn=register, rd=BIT))
     if known.value >> bit & 1:
         program.put(move(TARGET, 1), word("log_shift", sf=1, opc=2, rm=TARGET, rn=BIT, rd=BIT))
     program.put(final(kind, source))
-    return kind
 
 
 def final(kind: str, source: random.Random) -> list[int]:

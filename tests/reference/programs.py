@@ -157,6 +157,17 @@ def granules(program: Program) -> None:
         program.put(word("st_g", opc=opc, mode=2, imm9=at, rn=base, rt=base))
 
 
+def others(program: Program) -> None:
+    """A load from the image, a load of a tag, and branches to the next instruction."""
+    source = program.source
+    rt = source.choice(POOL)
+    base = source.choice([it for it in program.sizes if it != SP])
+    program.put(source.choice([
+        word("ld_lit", opc=source.randrange(3), imm19=source.randrange(-8, 1), rt=rt),
+        word("ldg", imm9=0, rn=base, rt=rt), word("branch", op=source.randrange(2), imm26=NEXT),
+        word("hint", imm7=0)]))
+
+
 def undefined_value(program: Program) -> None:
     """A load of undefined bytes, of which a mask leaves some."""
     base, at = place(program, 8)
@@ -197,7 +208,7 @@ def drawn_use(program: Program) -> None:
 
 
 ACTS = ((data_word, 40), (single, 12), (pair, 6), (granules, 2), (undefined_value, 8),
-        (defined_value, 6), (input_bytes, 1), (with_shared_operand, 1))
+        (defined_value, 6), (input_bytes, 1), (others, 3), (with_shared_operand, 1))
 WORDS = (data_word, with_shared_operand)
 
 

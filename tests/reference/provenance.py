@@ -184,7 +184,7 @@ class Provenance:
         origin = self.memory.load(start, access.size)
         if not isinstance(origin, Sum) or origin.is_number:
             chunk = self.live(value & PLAIN) if access.size == 8 else None
-            if chunk and start % 8 == 0 and chunk.pointer == value:
+            if chunk and start % 8 == 0 and chunk.pointer == value and origin != UNSAID:
                 self.rules["a pointer again by its value"] += 1
                 return origins.pointer(chunk.number)
             if chunk and value >> 56 == chunk.pointer >> 56:

@@ -8,7 +8,7 @@ from typing import Any, Optional
 
 from tests.reference.moments import Moment, moments
 from tests.support.instructions import program
-from tests.support.running import run
+from tests.support.running import Word, run
 
 # What a program may read.
 INPUT = bytes(range(1, 60))
@@ -41,7 +41,7 @@ class Runner:
     alone: pathlib.Path
     folder: pathlib.Path
 
-    def prepare(self, words: list[int]) -> list[object]:
+    def prepare(self, words: list[int]) -> list[Word]:
         """Writes an image and its input; the words of a command without options."""
         (self.folder / "tenant.elf").write_bytes(program(words))
         (self.folder / "input").write_bytes(INPUT)
@@ -51,14 +51,14 @@ class Runner:
         """Each instruction of a run that nothing checks, and what --json writes of it."""
         files = [self.folder / "trace", self.folder / "trace.json"]
         run([self.alone, "--last", "0", *options, "--trace", "--trace-file", files[0], "--json",
-             files[1], *map(str, self.prepare(words))])
+             files[1], *self.prepare(words)])
         document: dict[str, Any] = json.loads(files[1].read_text(encoding="utf-8"))
         return list(moments(files[0].read_text(encoding="utf-8"))), document
 
     def check(self, words: list[int], kinds: str) -> Verdict:
         """What --check says of it."""
         file = self.folder / "checked.json"
-        ran = run([self.alone, f"--check={kinds}", "--json", file, *map(str, self.prepare(words))])
+        ran = run([self.alone, f"--check={kinds}", "--json", file, *self.prepare(words)])
         document = json.loads(file.read_text(encoding="utf-8"))
         status = document["status"]
         is_found = status["kind"] == "check"
