@@ -19,9 +19,9 @@ from tests.reference.provenance import first_findings
 from tests.reference.runs import Runner
 from tests.support.instructions import SERVICE, Words, add, call, copy, load, move, store
 
-DRAWN = int(os.environ.get("TOMBOLOPAN_DRAWN", "120"))
+DRAWN = int(os.environ.get("TOMBOLOPAN_DRAWN", "160"))
 MALLOC, FREE, EXIT = 3, 4, 0
-# How often each is reached, at the least, by 120 programs of its kind.
+# How often each is reached, at the least, by 160 programs of its kind.
 LEAST = 3
 ROWS = {
     "add_sub_imm", "add_sub_shift", "add_sub_ext", "log_imm", "log_shift", "move_wide", "bitfield",
@@ -72,7 +72,7 @@ def rarely(counts: "dict[str, int]", names: Iterable[str]) -> list[str]:
 def test_undefined_values(runner: Runner) -> None:
     """Step, kind, origin and address agree, and each row, each rule and each use is reached."""
     found = compared(runner, compare.undefined_values)
-    if DRAWN >= 120:
+    if DRAWN >= 160:
         assert not rarely(found.rows, ROWS)
         assert not rarely(found.rules, UNDEFINED)
         assert not rarely(found.ends, USES)
@@ -81,7 +81,7 @@ def test_undefined_values(runner: Runner) -> None:
 def test_wrong_pointers(runner: Runner) -> None:
     """Step, kind, byte and chunk agree, and each rule and each kind is reached."""
     found = compared(runner, compare.wrong_pointers)
-    if DRAWN >= 120:
+    if DRAWN >= 160:
         assert not rarely(found.rules, POINTERS)
         assert not rarely(found.ends, WRONG)
 
@@ -131,12 +131,15 @@ UNLIKE: tuple[tuple[str, list[int]], ...] = (
                         if_bit(6))),
     (rules.CCMP, flat(FRESH, operand(1, 0, 1), move(2, 0), operand(4, 0x1000, 0x100), COMPARE,
                       word("cond_cmp", sf=1, op=1, i=1, rm=3, rn=4, nzcv=0), IF_EQUAL)),
+    (rules.TAGS, flat(FRESH, operand(1, 0, 1 << 57), word("ldg", imm9=0, rn=9, rt=1),
+                      word("log_shift", sf=1, opc=1, rm=1, rn=31, rd=4), if_bit(57))),
+    (rules.TAGS, flat(FRESH, operand(1, 0, 1 << 57), word("irg", rm=31, rn=1, rd=4), if_bit(57))),
     (rules.GMI, flat(FRESH, operand(2, 0, 4), word("gmi", rm=2, rn=9, rd=4), if_bit(2))),
 )
 
 
 @pytest.mark.parametrize(("name", "words"), UNLIKE, ids=[
-    "sum-with-0", "sum-of-two", "subp", "subps", "clz", "cls", "ccmp", "gmi"])
+    "sum-with-0", "sum-of-two", "subp", "subps", "clz", "cls", "ccmp", "ldg", "irg", "gmi"])
 @pytest.mark.xfail(strict=True, reason="--check=undefined differs from docs/CHECKING.md")
 def test_differences(runner: Runner, name: str, words: list[int]) -> None:
     """Bits that do not depend on undefined ones are counted as undefined, or (GMI) the other way

@@ -82,6 +82,11 @@ class WordMemory:
         for at in range(start, start + size):
             self.bytes.pop(at, None)
 
+    def unsay(self, start: int, size: int) -> None:
+        """The bytes are what was there before: the page does not say from where."""
+        for at in range(start, start + size):
+            self.bytes[at] = (UNSAID, 0)
+
     def store(self, start: int, size: int, origin: Origin) -> None:
         """The lowest bytes of a register."""
         self.forget(start, size)
@@ -99,10 +104,11 @@ class WordMemory:
         if not any(found):
             return NUMBER
         whole, first = found[0] or (UNSAID, 0)
-        if found != [(whole, first + at) for at in range(size)]:
+        is_unsaid = any(it and it[0] == UNSAID for it in found)
+        if is_unsaid or found != [(whole, first + at) for at in range(size)]:
             return UNSAID
         if not isinstance(whole, Sum):
-            return whole
+            return whole if size == 8 and first == 0 else UNSAID
         if size == 8:
             # A word is kept where it is aligned.
             return whole if first == 0 and start % 8 == 0 else UNSAID

@@ -18,7 +18,7 @@ CHUNKS = (19, 20, 21)
 USED, BYTE, NUMBER = 24, 25, 26
 SP = 31
 STACK = 0x3FFFFE00
-SIZES = (24, 40, 44, 60, 72, 104, 200)
+SIZES = (24, 37, 40, 44, 60, 72, 103, 201)
 
 
 @dataclass
@@ -40,7 +40,7 @@ def begin(it: Pointers) -> None:
     for register in CHUNKS:
         size = it.source.choice(SIZES)
         kind = it.source.choice((MALLOC, MALLOC, CALLOC, MEMALIGN))
-        arguments = {MALLOC: (size,), CALLOC: (size // 4, 4), MEMALIGN: (16, size)}[kind]
+        arguments = {MALLOC: (size,), CALLOC: (size, 1), MEMALIGN: (16, size)}[kind]
         it.put(call(kind, *arguments), copy(register, 0))
         it.sizes[register] = size
     it.put(add(SP, SP, -0x400))
@@ -129,6 +129,12 @@ def by_parts(it: Pointers, base: int, at: int, rd: int) -> None:
     it.put(word("ld_st_imm", size=3, opc=1, imm12=target // 8, rn=SP, rt=rd))
 
 
+def load_again(it: Pointers) -> None:
+    """A word that may have been stored long before."""
+    base, at = place(it, 8)
+    it.put(word("ld_st_imm", size=3, opc=1, imm12=at // 8, rn=base, rt=it.source.choice(POOL)))
+
+
 def heap_call(it: Pointers) -> None:
     """A chunk is freed or gets another size; a block is used again."""
     source = it.source
@@ -155,9 +161,9 @@ def draw(seed: int, length: int = 24) -> Pointers:
     source = random.Random(seed)
     it = Pointers(source)
     begin(it)
-    acts = (arithmetic, difference_and_back, words_in_memory, heap_call)
+    acts = (arithmetic, difference_and_back, words_in_memory, heap_call, load_again)
     for _ in range(length):
-        source.choices(acts, (10, 3, 8, 2))[0](it)
+        source.choices(acts, (10, 3, 8, 2, 2))[0](it)
     return it
 
 
@@ -192,7 +198,7 @@ def end(it: Pointers, state: Provenance, values: tuple[int, ...]) -> None:
     lost = [register for register in POOL if state.registers[register] == LOST]
     if lost and it.source.random() < 0.6:
         chunk = it.source.choice([it for it in state.chunks.values() if it.freed is None])
-        found_again(it, chunk, (lost[0], values[lost[0]]))
+        found_again(it, chunk, (lost[0], values[lost[0]]), it.source.randrange(2))
         wrong_use(it, state, chunk, (USED, chunk.pointer))
     elif known:
         register, number = it.source.choice(known)
@@ -201,11 +207,14 @@ def end(it: Pointers, state: Provenance, values: tuple[int, ...]) -> None:
     it.put(move(0, 0), move(8, EXIT), SERVICE)
 
 
-def found_again(it: Pointers, chunk: Chunk, lost: tuple[int, int]) -> None:
-    """A value that has lost its origin is stored and loaded where it is a chunk's pointer."""
-    made_for(it, *lost, chunk.pointer)
+def found_again(it: Pointers, chunk: Chunk, lost: tuple[int, int], tag: int) -> None:
+    """A value that has lost its origin is stored and loaded where it is a chunk's pointer, or one
+    with another tag, which is then taken off again."""
+    made_for(it, *lost, chunk.pointer ^ tag << 56)
     it.put(word("ld_st_imm", size=3, opc=0, imm12=60, rn=SP, rt=USED),
            word("ld_st_imm", size=3, opc=1, imm12=60, rn=SP, rt=USED))
+    if tag:
+        made_for(it, USED, chunk.pointer ^ tag << 56, chunk.pointer)
 
 
 def wrong_use(it: Pointers, state: Provenance, chunk: Chunk, used: tuple[int, int]) -> None:
@@ -219,6 +228,7 @@ def wrong_use(it: Pointers, state: Provenance, chunk: Chunk, used: tuple[int, in
         # Up to the last byte of the granule, which has the chunk's tag.
         last = chunk.pointer + (chunk.size | 15) + 1
         target = source.randrange(chunk.pointer + chunk.size - 2 * size + 1, last - size + 1)
+        target -= target % size if source.random() < 0.5 else 0
         room = last - target
     elif others and kind != "stack":
         other = source.choice(others)

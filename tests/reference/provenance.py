@@ -208,19 +208,24 @@ class Provenance:
             self.resize(old, result, service.x1)
         elif service.number in (MALLOC, CALLOC, MEMALIGN) and result:
             size = {MALLOC: service.x0, CALLOC: service.x0 * service.x1}
-            self.make(result, size.get(service.number, service.x1) or 1)
+            self.make(result, size.get(service.number, service.x1) or 1,
+                      service.number == CALLOC)
 
-    def make(self, result: int, size: int) -> None:
-        """A new chunk."""
+    def make(self, result: int, size: int, is_cleared: bool = False) -> None:
+        """A new chunk, whose bytes are 0 or what was there before."""
         chunk = Chunk(self.calls, result, size)
         self.chunks[self.calls] = chunk
-        self.memory.forget(chunk.start, size)
+        if is_cleared:
+            self.memory.forget(chunk.start, size)
+        else:
+            self.memory.unsay(chunk.start, size)
         self.registers[0] = origins.pointer(self.calls)
 
     def resize(self, old: Chunk, result: int, size: int) -> None:
         """Where a chunk stays in its place, older pointers are pointers to it as it is now."""
         if old.start == result & PLAIN:
             self.rules["a realloc in its place"] += 1
+            self.memory.unsay(old.end, max(size - old.size, 0))
             old.size, old.pointer, old.resized = size, result, (*old.resized, self.calls)
             self.registers[0] = origins.pointer(old.number)
             return
@@ -245,11 +250,12 @@ class Provenance:
             read.append(self.registers[target])
         if all(origins.is_number(origin) for origin in read):
             found: Origin = NUMBER
-        elif moment.after[target] < 4096:
-            found = NUMBER
         else:
             found = rule(self, moment, it) if rule else UNSAID
             self.rules[f"{it.row}: {type(found).__name__}"] += 1
+            is_sum = isinstance(found, Sum) and found.chunk is None
+            if moment.after[target] < 4096 and not is_sum:
+                found = NUMBER
         self.registers[target] = found
 
 

@@ -21,7 +21,8 @@ SUBP = "a difference of pointers (SUBP) and its flags"
 COUNTS = "bits of CLZ and CLS"
 CCMP = "the flags of CCMP by an undefined condition, of undefined operands"
 GMI = "a mask with the tag of a pointer (GMI)"
-DIFFERENCES = frozenset({FLAGS_OF_A_SUM, SUBP, COUNTS, CCMP, GMI})
+TAGS = "the tag that IRG and LDG give a pointer"
+DIFFERENCES = frozenset({FLAGS_OF_A_SUM, SUBP, COUNTS, CCMP, GMI, TAGS})
 
 
 class Registers:
@@ -279,7 +280,8 @@ def sub_p(state: Registers, moment: Moment, it: Instruction) -> None:
 def irg(state: Registers, moment: Moment, it: Instruction) -> None:
     """Another tag in a pointer."""
     x, y = state.base(it["rn"]), state.read(it["rm"])
-    may = x.may & ~TAG | (TAG if y.may else 0)
+    kept = x.may if TAGS in state.allowed else x.may & ~TAG
+    may = kept | (TAG if y.may else 0)
     state.registers[it["rd"]] = known.combined(
         moment.after[it["rd"]], x.must & ~TAG, may, x, y)
 
@@ -288,15 +290,16 @@ def gmi(state: Registers, moment: Moment, it: Instruction) -> None:
     """A mask with the tag of a pointer."""
     x, y = state.base(it["rn"]), state.read(it["rm"])
     may = y.may | (0xFFFF if x.may & TAG else 0)
-    must = 0 if GMI in state.allowed else y.must & ~0xFFFF
+    given = 0xFFFF if x.may & TAG else 1 << (x.value >> 56 & 15)
+    must = 0 if GMI in state.allowed else y.must & ~given
     state.set(it["rd"], known.combined(moment.after[it["rd"]], must, may, x, y))
 
 
 def ldg(state: Registers, moment: Moment, it: Instruction) -> None:
     """The tag of a granule, in a pointer."""
     old = state.read(it["rt"])
-    state.set(it["rt"], known.combined(moment.after[it["rt"]], old.must & ~TAG,
-                                       old.may & ~TAG, old))
+    may = old.may if TAGS in state.allowed else old.may & ~TAG
+    state.set(it["rt"], known.combined(moment.after[it["rt"]], old.must & ~TAG, may, old))
 
 
 Rule = Callable[[Registers, Moment, Instruction], None]
