@@ -40,7 +40,8 @@ UNDEFINED = {
 USES = {"UndefinedBranch", "UndefinedAddress", "UndefinedJump", "UndefinedOutput",
         "UndefinedArgument", "UndefinedExitStatus", "none"}
 POINTERS = {
-    "an access in its chunk", "overflow", "underflow", "after free", "an access over the end",
+    "an access in its chunk", "a read of an aligned word over the end", "overflow", "underflow",
+    "after free", "an access over the end",
     "a realloc in its place", "a realloc that moves", "a pointer that is loaded",
     "a pointer again by its value", "an access that is judged by its address",
     "add_sub_imm: Sum", "add_sub_shift: Sum", "add_sub_ext: Sum", "log_imm: Sum", "log_shift: Sum",

@@ -222,13 +222,13 @@ def wrong_use(it: Pointers, state: Provenance, chunk: Chunk, used: tuple[int, in
     source = it.source
     others = [other for other in state.chunks.values()
               if other.freed is None and other.number != chunk.number]
-    kind = source.choice(("end", "end", "other", "stack"))
+    kind = source.choice(("end", "end", "end", "end", "other", "other", "stack"))
     size = 1 << source.randrange(4)
     if kind == "end" and chunk.freed is None and chunk.size % 16:
         # Up to the last byte of the granule, which has the chunk's tag.
         last = chunk.pointer + (chunk.size | 15) + 1
-        target = source.randrange(chunk.pointer + chunk.size - 2 * size + 1, last - size + 1)
-        target -= target % size if source.random() < 0.5 else 0
+        target = source.randrange(chunk.pointer + chunk.size - size, last - size + 1)
+        target -= target % size if source.random() < 0.7 else 0
         room = last - target
     elif others and kind != "stack":
         other = source.choice(others)

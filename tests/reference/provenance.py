@@ -253,8 +253,8 @@ class Provenance:
         else:
             found = rule(self, moment, it) if rule else UNSAID
             self.rules[f"{it.row}: {type(found).__name__}"] += 1
-            is_sum = isinstance(found, Sum) and found.chunk is None
-            if moment.after[target] < 4096 and not is_sum:
+            is_pointer = isinstance(found, Sum) and found.chunk is not None
+            if moment.after[target] < 4096 and is_pointer:
                 found = NUMBER
         self.registers[target] = found
 
