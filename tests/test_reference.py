@@ -1,6 +1,6 @@
-"""`mte_run --check` beside a reference: a second checker in Python, tests/reference/, which keeps by
-the rules of docs/CHECKING.md what is undefined and where pointers are from, along the lines of
-`--trace`. Both look at drawn programs.
+"""`mte_run --check` compared with a reference: a second checker in Python, tests/reference/. By the
+rules of docs/CHECKING.md it keeps what is undefined and where pointers are from, along the lines
+of `--trace`. Both look at drawn programs.
 
 TOMBOLOPAN_DRAWN is how many programs of each kind are drawn, from seed 0 on.
 """
@@ -19,9 +19,9 @@ from tests.reference.provenance import first_findings
 from tests.reference.runs import Runner
 from tests.support.instructions import SERVICE, Words, add, call, copy, load, move, store
 
-DRAWN = int(os.environ.get("TOMBOLOPAN_DRAWN", "160"))
+DRAWN = int(os.environ.get("TOMBOLOPAN_DRAWN", "200"))
 MALLOC, FREE, EXIT = 3, 4, 0
-# How often each is reached, at the least, by 160 programs of its kind.
+# How often each is reached, at the least, by 200 programs of its kind.
 LEAST = 3
 ROWS = {
     "add_sub_imm", "add_sub_shift", "add_sub_ext", "log_imm", "log_shift", "move_wide", "bitfield",
@@ -73,7 +73,7 @@ def rarely(counts: "dict[str, int]", names: Iterable[str]) -> list[str]:
 def test_undefined_values(runner: Runner) -> None:
     """Step, kind, origin and address agree, and each row, each rule and each use is reached."""
     found = compared(runner, compare.undefined_values)
-    if DRAWN >= 160:
+    if DRAWN >= 200:
         assert not rarely(found.rows, ROWS)
         assert not rarely(found.rules, UNDEFINED)
         assert not rarely(found.ends, USES)
@@ -82,7 +82,7 @@ def test_undefined_values(runner: Runner) -> None:
 def test_wrong_pointers(runner: Runner) -> None:
     """Step, kind, byte and chunk agree, and each rule and each kind is reached."""
     found = compared(runner, compare.wrong_pointers)
-    if DRAWN >= 160:
+    if DRAWN >= 200:
         assert not rarely(found.rules, POINTERS)
         assert not rarely(found.ends, WRONG)
 

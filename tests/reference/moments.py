@@ -42,11 +42,6 @@ class Moment:
         """The register before it; 31 is zero."""
         return 0 if register == SP else self.before[register] & ((1 << bits) - 1)
 
-    @property
-    def is_complete(self) -> bool:
-        """Whether it says what it loaded and stored, where it is to load and store."""
-        return not self.step.text.endswith("failed")
-
 
 def flags_of(text: str) -> int:
     """`nZCv` as a number: a capital letter is 1."""

@@ -228,7 +228,11 @@ def wrong_use(it: Pointers, state: Provenance, chunk: Chunk, used: tuple[int, in
         # Up to the last byte of the granule, which has the chunk's tag.
         last = chunk.pointer + (chunk.size | 15) + 1
         target = source.randrange(chunk.pointer + chunk.size - size, last - size + 1)
-        target -= target % size if source.random() < 0.7 else 0
+        over = [it for it in (2, 4, 8) if chunk.size % it]
+        if over and source.random() < 0.5:
+            # An aligned word that begins in the chunk and ends after it.
+            size = source.choice(over)
+            target = chunk.pointer + chunk.size - chunk.size % size
         room = last - target
     elif others and kind != "stack":
         other = source.choice(others)

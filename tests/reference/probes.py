@@ -1,5 +1,5 @@
-"""The end of a drawn program: uses of what is defined, which nothing may be said of, and at last one
-of what is not."""
+"""The end of a drawn program: uses of what is defined, which are not to be reported, and at last
+one of what is not."""
 
 import random
 

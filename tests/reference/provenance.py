@@ -1,7 +1,7 @@
 """Pointers by the rules of docs/CHECKING.md, along the instructions of a run.
 
-A load, a store or a service that uses a pointer outside its own chunk, or after the chunk was freed,
-is a finding.
+A load, a store or a service that uses a pointer outside its own chunk, or after the chunk was
+freed, is a finding.
 """
 
 from collections import Counter

@@ -14,8 +14,8 @@ TAG = 15 << 56
 LOW = (1 << 56) - 1
 
 
-# Where `mte_run` differs from the page. Each has a test of its own, which is expected to fail; drawn
-# programs may meet it.
+# Where `mte_run` differs from the page. Each has a test of its own, which is expected to fail.
+# Drawn programs may meet it.
 FLAGS_OF_A_SUM = "the flags of a sum with 0, with the least number or with undefined bits"
 SUBP = "a difference of pointers (SUBP) and its flags"
 COUNTS = "bits of CLZ and CLS"
