@@ -150,9 +150,12 @@ def heap_call(it: Pointers) -> None:
             it.put(call(MALLOC, size), copy(register, 0))
             it.sizes[register] = size
     else:
-        size = source.choice((*SIZES, max(size - 4, 24), size + 4))
-        it.put(copy(0, register), move(1, size), move(8, REALLOC), SERVICE)
-        it.put(copy(register, 0))
+        old, size = size, source.choice((*SIZES, max(size - 4, 24), size + 4))
+        # The last word that is moved has a pointer.
+        last = {"size": 3, "imm12": min(old, size) // 8 - 1, "rn": register}
+        it.put(word("ld_st_imm", opc=0, rt=source.choice(POOL), **last),
+               copy(0, register), move(1, size), move(8, REALLOC), SERVICE, copy(register, 0),
+               word("ld_st_imm", opc=1, rt=source.choice(POOL), **last))
         it.sizes[register] = size
 
 
