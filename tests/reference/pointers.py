@@ -92,7 +92,7 @@ def place(it: Pointers, size: int) -> tuple[int, int]:
     """A live chunk or the frame, and an aligned place in it."""
     base = it.source.choice([*it.sizes, SP])
     room = 0x100 if base == SP else it.sizes[base]
-    return base, size * it.source.randrange(room // size)
+    return base, size * it.source.randrange(room // size or 1)
 
 
 def words_in_memory(it: Pointers) -> None:
@@ -100,7 +100,7 @@ def words_in_memory(it: Pointers) -> None:
     source = it.source
     rd, rn, rm = two(it)
     way = source.choice(("word", "pair", "parts", "index", "cleared"))
-    base, at = place(it, 16 if way in ("pair", "cleared") else 8)
+    base, at = place(it, {"pair": 16, "cleared": 16 * source.randrange(1, 3)}.get(way, 8))
     if way == "pair":
         it.put(word("pair_off", opc=2, imm7=at // 8, rt=rn, rt2=rm, rn=base),
                word("pair_off", opc=2, l=1, imm7=at // 8, rt=rd, rt2=rm, rn=base))
@@ -151,11 +151,11 @@ def heap_call(it: Pointers) -> None:
             it.sizes[register] = size
     else:
         old, size = size, source.choice((*SIZES, max(size - 4, 24), size + 4))
-        # The last word that is moved has a pointer.
-        last = {"size": 3, "imm12": min(old, size) // 8 - 1, "rn": register}
-        it.put(word("ld_st_imm", opc=0, rt=source.choice(POOL), **last),
+        # The last word that is moved has a pointer that its value does not tell of.
+        last = {"size": 3, "imm12": min(old, size) // 8 - 1, "rn": register, "rt": USED}
+        it.put(add(USED, source.choice(POOL), 0x7F0), word("ld_st_imm", opc=0, **last),
                copy(0, register), move(1, size), move(8, REALLOC), SERVICE, copy(register, 0),
-               word("ld_st_imm", opc=1, rt=source.choice(POOL), **last))
+               word("ld_st_imm", opc=1, **last), add(source.choice(POOL), USED, -0x7F0))
         it.sizes[register] = size
 
 
