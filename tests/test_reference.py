@@ -192,3 +192,15 @@ def test_the_second_of_a_pair(runner: Runner) -> None:
     assert certain is not None and certain.name == "Overflow"
     verdict = runner.check(words, "provenance")
     assert compare.differs_of_pointers(verdict, possible, certain) is None
+
+
+def test_a_load_over_two_words(runner: Runner) -> None:
+    """Of a load over two words the chunk is named that its undefined bytes are of, also where the
+    rest of the second word is of another one."""
+    words = flat(FRESH, call(MALLOC, 24), copy(20, 0), load(1, 20), store(1, 9, 8),
+                 word("ld_st_imm", size=2, opc=0, imm12=2, rn=9, rt=31),
+                 word("ld_st_unscaled", size=3, opc=1, imm9=4, rn=9, rt=4), if_bit(0))
+    moments, _ = runner.trace(words)
+    possible, certain, _ = first_uses(moments)
+    assert certain is not None and certain.origins == {("chunk", 1)}
+    assert compare.differs(runner.check(words, "undefined"), possible, certain) is None
