@@ -1,0 +1,206 @@
+"""`mte_run --check` compared with a reference: a second checker in Python, tests/reference/. By the
+rules of docs/CHECKING.md it keeps what is undefined and where pointers are from, along the lines
+of `--trace`. Both look at drawn programs.
+
+TOMBOLOPAN_DRAWN is how many programs of each kind are drawn, from seed 0 on.
+"""
+
+import os
+import pathlib
+from collections.abc import Callable, Iterable
+
+import pytest
+
+from tests.reference import compare, rules
+from tests.reference.compare import Outcome
+from tests.reference.definedness import first_uses
+from tests.reference.drawing import word
+from tests.reference.provenance import first_findings
+from tests.reference.runs import Runner
+from tests.support.instructions import SERVICE, Words, add, call, copy, load, move, store
+
+DRAWN = int(os.environ.get("TOMBOLOPAN_DRAWN", "200"))
+MALLOC, FREE, EXIT = 3, 4, 0
+# How often each is reached, at the least, by 200 programs of its kind.
+LEAST = 3
+ROWS = {
+    "add_sub_imm", "add_sub_shift", "add_sub_ext", "log_imm", "log_shift", "move_wide", "bitfield",
+    "extr", "adr", "branch", "branch_cond", "cmp_branch", "test_branch", "branch_reg", "adc_sbc",
+    "cond_cmp", "cond_sel", "two_source", "one_source", "mul_add", "mul_add_long", "mul_high",
+    "ld_st_imm", "ld_st_unscaled", "ld_st_post", "ld_st_pre", "ld_st_reg", "ld_lit", "pair_post",
+    "pair_off", "pair_pre", "svc", "hint", "add_g", "sub_p", "irg", "gmi", "ldg", "st_g", "st_g_p",
+}
+UNDEFINED = {
+    "add_sub_imm", "add_sub_shift", "add_sub_ext", "log_imm", "log_shift", "move_wide", "bitfield",
+    "extr", "adc_sbc", "cond_cmp", "cond_sel", "two_source", "one_source", "mul_add",
+    "mul_add_long", "mul_high", "add_g", "sub_p", "irg", "branch_reg", "load", "load with a sign",
+    "load over two words", "store", "bytes that realloc adds",
+    "cond_cmp by an undefined condition", "cond_sel by an undefined condition",
+}
+USES = {"UndefinedBranch", "UndefinedAddress", "UndefinedJump", "UndefinedOutput",
+        "UndefinedArgument", "UndefinedExitStatus", "none"}
+POINTERS = {
+    "an access in its chunk", "a read of an aligned word over the end", "overflow", "underflow",
+    "after free", "an access over the end",
+    "a realloc in its place", "a realloc that moves", "a pointer that is loaded",
+    "a pointer again by its value", "an access that is judged by its address",
+    "add_sub_imm: Sum", "add_sub_shift: Sum", "add_sub_ext: Sum", "log_imm: Sum", "log_shift: Sum",
+    "cond_sel: Sum", "add_g: Sum", "mul_add: Lost",
+}
+WRONG = {"Overflow", "Underflow", "AfterFree", "none"}
+
+
+@pytest.fixture
+def runner(alone: pathlib.Path, tmp_path: pathlib.Path) -> Runner:
+    """Runs programs in a folder of a test."""
+    return Runner(alone, tmp_path)
+
+
+def compared(runner: Runner, kind: Callable[[Runner, int], Outcome]) -> Outcome:
+    """All drawn programs of a kind."""
+    found = Outcome()
+    for seed in range(DRAWN):
+        found.add(kind(runner, seed))
+    assert not found.differences, "\n".join(found.differences)
+    return found
+
+
+def rarely(counts: "dict[str, int]", names: Iterable[str]) -> list[str]:
+    """Those that were not reached often enough."""
+    return sorted(name for name in names if counts.get(name, 0) < LEAST)
+
+
+def test_undefined_values(runner: Runner) -> None:
+    """Step, kind, origin and address agree, and each row, each rule and each use is reached."""
+    found = compared(runner, compare.undefined_values)
+    if DRAWN >= 200:
+        assert not rarely(found.rows, ROWS)
+        assert not rarely(found.rules, UNDEFINED)
+        assert not rarely(found.ends, USES)
+
+
+def test_wrong_pointers(runner: Runner) -> None:
+    """Step, kind, byte and chunk agree, and each rule and each kind is reached."""
+    found = compared(runner, compare.wrong_pointers)
+    if DRAWN >= 200:
+        assert not rarely(found.rules, POINTERS)
+        assert not rarely(found.ends, WRONG)
+
+
+# ---- where mte_run differs from the page
+
+
+def operand(register: int, value: int, undefined: int) -> list[int]:
+    """A register with bits of a chunk that was not written; the others are those of a value."""
+    return [load(register, 9), *move(10, undefined),
+            word("log_shift", sf=1, rm=10, rn=register, rd=register),
+            *move(10, value & ~undefined),
+            word("log_shift", sf=1, opc=1, rm=10, rn=register, rd=register)]
+
+
+def flat(*parts: Words) -> list[int]:
+    """Instructions in a row, and an exit."""
+    found: list[int] = []
+    for it in (*parts, call(EXIT, 0)):
+        found += [it] if isinstance(it, int) else it
+    return found
+
+
+FRESH: list[int] = [*call(MALLOC, 24), copy(9, 0)]
+IF_EQUAL = word("branch_cond", imm19=1, cond=0)
+COMPARE = word("add_sub_shift", sf=1, op=1, s=1, rm=2, rn=1, rd=31)
+
+
+def if_bit(bit: int) -> int:
+    """A branch by a bit of x4, to the next instruction."""
+    return word("test_branch", b5=bit >> 5, b40=bit & 31, imm14=1, rt=4)
+
+
+# What differs, and a program that shows it.
+UNLIKE: tuple[tuple[str, list[int]], ...] = (
+    (rules.FLAGS_OF_A_SUM, flat(FRESH, operand(1, 0x1000, 0x100), word(
+        "add_sub_imm", sf=1, s=1, rn=1, rd=31), IF_EQUAL)),
+    (rules.FLAGS_OF_A_SUM, flat(FRESH, operand(1, 0x1000, 0x100), operand(2, 0x10, 0x20), word(
+        "add_sub_shift", sf=1, s=1, rm=2, rn=1, rd=31), IF_EQUAL)),
+    (rules.SUBP, flat(FRESH, operand(1, 0x1000, 0x100), word("sub_p", rm=9, rn=1, rd=4),
+                      if_bit(0))),
+    (rules.SUBP, flat(FRESH, operand(1, 0x1000, 0x100), move(2, 0x10),
+                      word("sub_p", s=1, rm=2, rn=1, rd=4), IF_EQUAL)),
+    (rules.COUNTS, flat(FRESH, operand(1, 0, 16), word("one_source", sf=1, opcode=4, rn=1, rd=4),
+                        if_bit(2))),
+    (rules.COUNTS, flat(FRESH, operand(1, 0, 16), word("one_source", sf=1, opcode=5, rn=1, rd=4),
+                        if_bit(6))),
+    (rules.CCMP, flat(FRESH, operand(1, 0, 1), move(2, 0), operand(4, 0x1000, 0x100), COMPARE,
+                      word("cond_cmp", sf=1, op=1, i=1, rm=3, rn=4, nzcv=0), IF_EQUAL)),
+    (rules.TAGS, flat(FRESH, operand(1, 0, 1 << 57), word("ldg", imm9=0, rn=9, rt=1),
+                      word("log_shift", sf=1, opc=1, rm=1, rn=31, rd=4), if_bit(57))),
+    (rules.TAGS, flat(FRESH, operand(1, 0, 1 << 57), word("irg", rm=31, rn=1, rd=4), if_bit(57))),
+    (rules.GMI, flat(FRESH, operand(2, 0, 4), word("gmi", rm=2, rn=9, rd=4), if_bit(2))),
+)
+
+
+@pytest.mark.parametrize(("name", "words"), UNLIKE, ids=[
+    "sum-with-0", "sum-of-two", "subp", "subps", "clz", "cls", "ccmp", "ldg", "irg", "gmi"])
+@pytest.mark.xfail(strict=True, reason="--check=undefined differs from docs/CHECKING.md")
+def test_differences(runner: Runner, name: str, words: list[int]) -> None:
+    """Bits that do not depend on undefined ones are counted as undefined, or (GMI) the other way
+    round."""
+    moments, _ = runner.trace(words)
+    possible, certain, _ = first_uses(moments, rules.DIFFERENCES - {name})
+    assert compare.differs(runner.check(words, "undefined"), possible, certain) is None
+
+
+@pytest.mark.parametrize(("name", "words"), UNLIKE)
+def test_differences_are_known(runner: Runner, name: str, words: list[int]) -> None:
+    """What differs is what the reference allows."""
+    moments, _ = runner.trace(words)
+    possible, certain, _ = first_uses(moments)
+    assert compare.differs(runner.check(words, "undefined"), possible, certain) is None
+
+
+@pytest.mark.xfail(strict=True, reason="--check=provenance judges no STZG, as --exact does")
+def test_cleared_granules(runner: Runner) -> None:
+    """STZG of a chunk's last granule writes past its size."""
+    words = flat(call(MALLOC, 40), copy(19, 0), word("st_g", opc=1, mode=2, imm9=2, rn=19, rt=19))
+    assert runner.check(words, "provenance").name == "Overflow"
+
+
+FAULTS = {
+    "translation": flat(call(MALLOC, 40), copy(19, 0), move(3, 0x1000000),
+                        word("add_sub_shift", sf=1, rm=3, rn=19, rd=4), load(5, 4)),
+    "tag": flat(call(MALLOC, 40), copy(19, 0), load(1, 19, 64)),
+    "abort": flat(call(MALLOC, 40), copy(19, 0), move(8, FREE), SERVICE, copy(0, 19), SERVICE),
+}
+
+
+@pytest.mark.parametrize("name", sorted(FAULTS))
+@pytest.mark.xfail(strict=True, reason="the finding is reported instead of the fault")
+def test_faults_first(runner: Runner, name: str) -> None:
+    """A fault or an abort of the same instruction is reported instead of a finding."""
+    _, document = runner.trace(FAULTS[name])
+    assert document["status"]["kind"] in ("fault", "abort")
+    checked = runner.check(FAULTS[name], "provenance,frees").document
+    assert checked["status"]["kind"] == document["status"]["kind"]
+
+
+def test_the_second_of_a_pair(runner: Runner) -> None:
+    """Each register of a pair is judged."""
+    words = flat(call(MALLOC, 40), copy(19, 0), store(19, 19), add(1, 19, 32),
+                 word("pair_off", opc=2, imm7=0, rt=2, rt2=3, rn=1))
+    moments, _ = runner.trace(words)
+    possible, certain, _ = first_findings(moments)
+    assert certain is not None and certain.name == "Overflow"
+    verdict = runner.check(words, "provenance")
+    assert compare.differs_of_pointers(verdict, possible, certain) is None
+
+
+def test_a_load_over_two_words(runner: Runner) -> None:
+    """Of a load over two words the chunk is named that its undefined bytes are of, also where the
+    rest of the second word is of another one."""
+    words = flat(FRESH, call(MALLOC, 24), copy(20, 0), load(1, 20), store(1, 9, 8),
+                 word("ld_st_imm", size=2, opc=0, imm12=2, rn=9, rt=31),
+                 word("ld_st_unscaled", size=3, opc=1, imm9=4, rn=9, rt=4), if_bit(0))
+    moments, _ = runner.trace(words)
+    possible, certain, _ = first_uses(moments)
+    assert certain is not None and certain.origins == {("chunk", 1)}
+    assert compare.differs(runner.check(words, "undefined"), possible, certain) is None
