@@ -2,6 +2,7 @@
 
 import os
 import pathlib
+import re
 import signal
 import subprocess
 import time
@@ -9,6 +10,7 @@ import time
 import pytest
 
 from tests.support.checkout import copy_files, make_stub
+from tests.support.places import ROOT
 from tests.support.running import HANG, succeed
 from tests.support.tools import need
 
@@ -25,7 +27,9 @@ sleep "$SECONDS_OF_PROOF"
 echo '0 passed, 1 failed'
 exit 1
 """
-FIRST = ("style", "border", "isa", "believe", "crates")
+# What comes before the proofs.
+FIRST = re.findall(r"tests/test_(\w+)\.py", re.findall(
+    r"^first=\((.*?)\)", (ROOT / "tests" / "run.sh").read_text(encoding="utf-8"), re.M | re.S)[0])
 FILES = {"mte_host": "crates/mte_host/out/mte_host", "mte_run": "crates/mte_run/out/mte_run",
          "library": "crates/tombolopan_c/out/libtombolopan_c.a"}
 
@@ -82,6 +86,7 @@ def test_a_gate_that_is_interrupted(clone: pathlib.Path, number: int) -> None:
     running = gate(clone, HANG)
     deadline = time.monotonic() + HANG
     while not (clone / "moved").exists() and time.monotonic() < deadline:
+        assert running.poll() is None
         time.sleep(0.05)
     assert not (clone / FILES["mte_run"]).exists()
     os.killpg(running.pid, number)
