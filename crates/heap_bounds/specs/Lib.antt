@@ -2,3 +2,4 @@ pub mod Blocks
 pub mod Chunks
 pub mod Extents
 pub mod KeptChunks
+pub mod LiveBytes

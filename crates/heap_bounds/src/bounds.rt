@@ -94,6 +94,9 @@ impl Model for Bounds {
 }
 
 impl Bounds {
+    ghost use Rattle.std.specs.Prelude.{Contains, ◌<◌, IfSome};
+    ghost use Rattle.heap_bounds.specs.LiveBytes.{all_chunks, HasLive};
+
     /// The bounds of a tenant without chunks.
     pub fn new(alloc: Global) -> Bounds
         ensures { result ≡ record { blocks = []; large = [] } }
@@ -167,6 +170,20 @@ impl Bounds {
         Some((end, self.check_byte(end).unwrap_or(Trespass::NoChunk)))
     }
 
+    /// The bytes of the live chunk that has the byte at a plain address: the first, and the one
+    /// after the last.
+    pub fn live_at(&self, addr: u64) -> Option<(u64, u64)>
+        ensures { IfSome result (λ bytes. (bytes.0 ≤ addr) × (addr < bytes.1)
+            × HasLive self.now bytes.0 bytes.1) }
+    {
+        let extent = self.extent_at(addr)?;
+        if extent.live && extent.start <= addr && addr < extent.end {
+            Some((extent.start, extent.end))
+        } else {
+            None
+        }
+    }
+
     /// What an access to the byte at a plain address does, where it is wrong.
     fn check_byte(&self, addr: u64) -> Option<Trespass> {
         match RangeUse::of(addr) {
@@ -185,14 +202,24 @@ impl Bounds {
     }
 
     /// The chunk whose block or pages an address is in.
-    fn extent_at(&self, addr: u64) -> Option<ChunkBytes> {
+    fn extent_at(&self, addr: u64) -> Option<ChunkBytes>
+        ensures { IfSome result (λ extent. Contains (all_chunks self.now) extent) }
+    {
         match Block::of(addr) {
             Some(block) => self.blocks.get(&block.start).copied(),
-            None => self
-                .large
-                .iter()
-                .find(|extent| extent.covers(addr))
-                .copied(),
+            None => self.large_at(addr),
         }
+    }
+
+    /// The first chunk with pages of its own whose granules an address is in.
+    fn large_at(&self, addr: u64) -> Option<ChunkBytes>
+        ensures { IfSome result (λ extent. Contains self.now.large extent) }
+    {
+        for extent in &self.large {
+            if extent.covers(addr) {
+                return Some(*extent);
+            }
+        }
+        None
     }
 }

@@ -2,20 +2,21 @@
 
 use mte_tags::Rgsr;
 
-/// The most draws of one instruction: a reallocation that moves its chunk draws for both.
-const MOST_DRAWS: u64 = 4;
+/// The most draws of one attempt: a reallocation that moves its chunk draws for both.
+pub const MOST_DRAWS: u64 = 4;
 
-/// How many tags were drawn between two states of the generator, at most [`MOST_DRAWS`]. A seed of
-/// 0 stays 0 (Arm ARM DDI 0487, AArch64.NextRandomTagBit), so its draws aren't counted.
-pub fn draws_between(before: &Rgsr, after: &Rgsr) -> u64 {
+/// How many tags were drawn between two states of the generator, at most `most`, which is below its
+/// period of 65,535. A seed of 0 stays 0 (Arm ARM DDI 0487, AArch64.NextRandomTagBit), so its draws
+/// aren't counted.
+pub fn draws_between(before: &Rgsr, after: &Rgsr, most: u64) -> u64 {
     let mut seed = before.seed;
-    for count in 0..MOST_DRAWS {
+    for count in 0..most {
         if seed == after.seed {
             return count;
         }
         seed = next_seed(seed);
     }
-    MOST_DRAWS
+    most
 }
 
 /// The seed after a draw.

@@ -2,13 +2,13 @@
 
 ghost use Rattle.std.specs.Prelude.{◌≡◌};
 
-use crate::draws::draws_between;
+use crate::draws::{MOST_DRAWS, draws_between};
 use crate::instruction::SVC;
 use crate::moment::Moment;
 use a64_access::AccessForm;
 use a64_decode::decode;
 use mte_svc::TenantParts;
-use mte_tags::{Attrs, Paged, Tagged};
+use mte_tags::{Attrs, Paged, Rgsr, Tagged};
 use scudo_heap::HeapCall;
 
 /// The heap calls, one of each kind, in the order of their services' numbers.
@@ -46,6 +46,8 @@ pub struct Statistics {
     pub draws: u64,
     /// The fewest pages that were left to map; `None` before the first instruction.
     least_left: Option<usize>,
+    /// The generator after what was counted last; `None` before the first slice.
+    generator: Option<Rgsr>,
 }
 
 impl Statistics {
@@ -60,6 +62,7 @@ impl Statistics {
             calls: [0; 6],
             draws: 0,
             least_left: None,
+            generator: None,
         }
     }
 
@@ -76,8 +79,9 @@ impl Statistics {
     {
         self.steps = self.steps.saturating_add(1);
         self.note_pages(memory.pages_left());
-        let drawn = draws_between(&moment.regs.rgsr, &parts.regs.rgsr);
+        let drawn = draws_between(&moment.regs.rgsr, &parts.regs.rgsr, MOST_DRAWS);
         self.draws = self.draws.saturating_add(drawn);
+        self.generator = Some(parts.regs.rgsr);
         if !parts.is_running() || moment.regs.pc == parts.regs.pc {
             return;
         }
@@ -88,6 +92,45 @@ impl Statistics {
             self.note_call(call);
         }
         self.note_access(moment, memory);
+    }
+
+    /// Starts to count at a state of the generator, where nothing was counted before.
+    pub fn begin(&mut self, generator: &Rgsr) {
+        if self.generator.is_none() {
+            self.generator = Some(*generator);
+        }
+    }
+
+    /// Counts an access that an instruction completed; whether its pointer's tag was compared.
+    #[inline(always)]
+    pub fn count_access(&mut self, is_write: bool, is_compared: bool) {
+        let count = if is_write {
+            &mut self.stores
+        } else {
+            &mut self.loads
+        };
+        *count = count.saturating_add(1);
+        self.compared = self.compared.saturating_add(u64::from(is_compared));
+    }
+
+    /// Counts attempts, at most `most`, of which nothing but accesses was noted: what they drew,
+    /// and the steps since the start. No page was mapped or unmapped by them.
+    pub fn pass<M: Paged>(&mut self, parts: &TenantParts, most: u64, memory: &mut M)
+        ensures memory { M.Tagged.memory memory.new ≡ M.Tagged.memory memory.old }
+        ensures kept { M.Tagged.kept memory.old memory.new }
+    {
+        if self.steps == parts.history.steps {
+            return;
+        }
+        self.steps = parts.history.steps;
+        self.note_pages(memory.pages_left());
+        let after = parts.regs.rgsr;
+        if let Some(before) = &self.generator {
+            self.draws = self
+                .draws
+                .saturating_add(draws_between(before, &after, most));
+        }
+        self.generator = Some(after);
     }
 
     /// Counts a heap call.

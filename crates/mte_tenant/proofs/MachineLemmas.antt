@@ -46,47 +46,67 @@ abbrev pub met_if : Option Outcome → Machine → Attempt
 met_if None m = continues m
 met_if (Some o) m = after_outcome o m
 
--- The machine after a run of at most n steps.
-abbrev pub after_run : ℕ → Ran → Machine → Attempt
-after_run n ran m = met_if ran.stop.outcome (machine_of (with_steps (n - ran.stop.left) ran.stop.left (with_regs m.parts ran.regs)) ran.memory)
+-- The machine after a run of at most n steps, behind which b steps of the slice are left.
+abbrev pub after_run : ℕ → ℕ → Ran → Machine → Attempt
+after_run b n ran m = met_if ran.stop.outcome (machine_of (with_steps (n - ran.stop.left) (b + ran.stop.left) (with_regs m.parts ran.regs)) ran.memory)
 
 -- More steps, where the slice goes on.
 abbrev pub rest_of : ℕ → Attempt → Machine
 rest_of n a = if a.goes_on then after_attempts n a.machine else a.machine
 
-abbrev pub RunAdvances : ℕ → Machine → Type 0
-RunAdvances n m = rest_of (run_of n m.parts.regs m.memory).stop.left (after_run n (run_of n m.parts.regs m.memory) m) ≡ after_attempts n m
+abbrev pub RunAdvances : ℕ → ℕ → Machine → Type 0
+RunAdvances b n m = rest_of (b + (run_of n m.parts.regs m.memory).stop.left) (after_run b n (run_of n m.parts.regs m.memory) m) ≡ after_attempts (b + n) m
 
--- Before a run of no steps none is left.
-abbrev pub HasLeft : ℕ → Machine → Type 0
-HasLeft n m = n ≡ 0 → m.parts.left ≡ 0
+-- Before a run of no steps the steps behind it are left.
+abbrev pub HasLeft : ℕ → ℕ → Machine → Type 0
+HasLeft b n m = n ≡ 0 → m.parts.left ≡ b
 
-pub step_advances : (n : ℕ) (m : Machine) (o : Outcome) → (step_of m.parts.regs m.memory).outcome ≡ o → runs m ≡ true → m.parts.history.steps ≤ 18446744073709551615
-    → ((k : Machine) → runs k ≡ true → k.parts.history.steps ≤ 18446744073709551615 → HasLeft n k → RunAdvances n k)
-    → RunAdvances (suc n) m
-unfolding run_of after_attempts after_attempt after_outcome
-step_advances n m outcome.Next e running few rest =
+attempts_suc : (b n k : ℕ) (m : Machine) → k ≡ suc (b + n) → runs m ≡ true
+    → rest_of (b + n) (after_attempt (b + n) m) ≡ after_attempts k m
+unfolding after_attempts
+attempts_suc b n k m e running = rw (e, running) refl
+
+pub step_advances : (b n : ℕ) (m : Machine) (o : Outcome) → (step_of m.parts.regs m.memory).outcome ≡ o → runs m ≡ true → m.parts.history.steps ≤ 18446744073709551615
+    → ((k : Machine) → runs k ≡ true → k.parts.history.steps ≤ 18446744073709551615 → HasLeft b n k → RunAdvances b n k)
+    → RunAdvances b (suc n) m
+unfolding run_of after_attempt after_outcome
+step_advances b n m outcome.Next e running few rest =
     let s = step_of m.parts.regs m.memory in
-    let next : Machine = machine_of (with_steps 1 n (with_regs m.parts s.regs)) s.memory in
+    let next : Machine = machine_of (with_steps 1 (b + n) (with_regs m.parts s.regs)) s.memory in
     let ran = run_of n s.regs s.memory in
     let below : ran.stop.left ≤ n = left_le n s.regs s.memory in
     let same : min (m.parts.history.steps + (suc n - ran.stop.left)) 18446744073709551615 ≡ min (min (m.parts.history.steps + 1) 18446744073709551615 + (n - ran.stop.left)) 18446744073709551615 = omega arith in
-    let rest_of_it = rest next running (omega arith) (λ z. z) in
-    rw (e, running, same) rest_of_it
-step_advances n m outcome.Svc e running few rest = let one : suc n - n ≡ 1 = omega arith in rw (e, running, one) refl
-step_advances n m (outcome.Fault f) e running few rest = let one : suc n - n ≡ 1 = omega arith in rw (e, running, one) refl
-step_advances n m (outcome.Illegal w) e running few rest = let one : suc n - n ≡ 1 = omega arith in rw (e, running, one) refl
-step_advances n m (outcome.Breakpoint k) e running few rest = let one : suc n - n ≡ 1 = omega arith in rw (e, running, one) refl
+    let rest_of_it = rest next running (omega arith) (λ z. omega (arith, z)) in
+    let all = attempts_suc b n (b + suc n) m (omega arith) running in
+    rw (e, same) (rest_of_it ∙ rw e at all)
+step_advances b n m outcome.Svc e running few rest =
+    let one : suc n - n ≡ 1 = omega arith in
+    let all = attempts_suc b n (b + suc n) m (omega arith) running in
+    rw (e, one) (rw e at all)
+step_advances b n m (outcome.Fault f) e running few rest =
+    let one : suc n - n ≡ 1 = omega arith in
+    let all = attempts_suc b n (b + suc n) m (omega arith) running in
+    rw (e, one) (rw e at all)
+step_advances b n m (outcome.Illegal w) e running few rest =
+    let one : suc n - n ≡ 1 = omega arith in
+    let all = attempts_suc b n (b + suc n) m (omega arith) running in
+    rw (e, one) (rw e at all)
+step_advances b n m (outcome.Breakpoint k) e running few rest =
+    let one : suc n - n ≡ 1 = omega arith in
+    let all = attempts_suc b n (b + suc n) m (omega arith) running in
+    rw (e, one) (rw e at all)
 
-pub run_advances : (n : ℕ) (m : Machine) → runs m ≡ true → m.parts.history.steps ≤ 18446744073709551615 → HasLeft n m → RunAdvances n m
-unfolding run_of after_attempts
-run_advances zero m running few none =
+pub run_advances : (b n : ℕ) (m : Machine) → runs m ≡ true → m.parts.history.steps ≤ 18446744073709551615 → HasLeft b n m → RunAdvances b n m
+unfolding run_of
+run_advances b zero m running few none =
     let same : min (m.parts.history.steps + (0 - 0)) 18446744073709551615 ≡ m.parts.history.steps = omega arith in
-    let left : 0 ≡ m.parts.left = sym (none refl) in
-    ap (λ (k : ℕ). let z : Machine = record m { parts = record m.parts { history = record m.parts.history { steps = k }; left = 0 } } in z) same
-    ∙ ap (λ (k : ℕ). let z : Machine = record m { parts = record m.parts { left = k } } in z) left
-run_advances (suc n) m running few none =
-    step_advances n m (step_of m.parts.regs m.memory).outcome refl running few (λ k r f l. run_advances n k r f l)
+    let no_more : b + 0 ≡ b = omega arith in
+    let left : b ≡ m.parts.left = sym (none refl) in
+    rw no_more
+    (ap (λ (k : ℕ). let z : Machine = record m { parts = record m.parts { history = record m.parts.history { steps = k }; left = b } } in after_attempts b z) same
+    ∙ ap (λ (k : ℕ). let z : Machine = record m { parts = record m.parts { left = k } } in after_attempts b z) left)
+run_advances b (suc n) m running few none =
+    step_advances b n m (step_of m.parts.regs m.memory).outcome refl running few (λ k r f l. run_advances b n k r f l)
 
 -- A machine that is not running stays as it is.
 pub after-attempts-ended : (n : ℕ) (m : Machine) → runs m ≡ false → after_attempts n m ≡ m
@@ -103,16 +123,27 @@ met-ending (outcome.Fault f) m = refl
 met-ending (outcome.Illegal w) m = refl
 met-ending (outcome.Breakpoint k) m = refl
 
--- The same, of what the code has in hand.
+-- The same, of what the code has in hand, where b steps of the slice are left behind the run.
+pub after_part : (b n rest whole : ℕ) (m : Machine) (a : Attempt) (o : Outcome) (left : ℕ) (r : Regs) (mem : Memory) (steps : ℕ)
+    → rest ≡ b + left → whole ≡ b + n
+    → stop_of o left ≡ (run_of n m.parts.regs m.memory).stop → r ≡ (run_of n m.parts.regs m.memory).regs → mem ≡ (run_of n m.parts.regs m.memory).memory
+    → steps ≡ min (m.parts.history.steps + (n - left)) 18446744073709551615
+    → a ≡ after_outcome o (machine_of (record m.parts { history = record m.parts.history { steps = steps }; regs = r; left = rest }) mem)
+    → runs m ≡ true → m.parts.history.steps ≤ 18446744073709551615 → 0 < n → rest_of rest a ≡ after_attempts whole m
+after_part b n rest whole m a o left r mem steps e_rest e_whole e_stop e_regs e_memory e_steps e_new running few some =
+    let h = run_advances b n m running few (λ z. absurd (omega (arith, z, some))) in
+    let k = rw (← e_stop, ← e_regs, ← e_memory, ← e_steps) at h in
+    let l = rw (← e_rest, ← e_whole) at k in
+    ap (λ x. rest_of rest x) (e_new ∙ sym (met-ending o _)) ∙ l
+
+-- Nothing is left behind a run of the whole slice.
 pub after_last : (n : ℕ) (m : Machine) (a : Attempt) (o : Outcome) (left : ℕ) (r : Regs) (mem : Memory) (steps : ℕ)
     → stop_of o left ≡ (run_of n m.parts.regs m.memory).stop → r ≡ (run_of n m.parts.regs m.memory).regs → mem ≡ (run_of n m.parts.regs m.memory).memory
     → steps ≡ min (m.parts.history.steps + (n - left)) 18446744073709551615
     → a ≡ after_outcome o (machine_of (record m.parts { history = record m.parts.history { steps = steps }; regs = r; left = left }) mem)
     → runs m ≡ true → m.parts.history.steps ≤ 18446744073709551615 → 0 < n → rest_of left a ≡ after_attempts n m
 after_last n m a o left r mem steps e_stop e_regs e_memory e_steps e_new running few some =
-    let h = run_advances n m running few (λ z. absurd (omega arith)) in
-    let k = rw (← e_stop, ← e_regs, ← e_memory, ← e_steps) at h in
-    ap (λ x. rest_of left x) (e_new ∙ sym (met-ending o _)) ∙ k
+    after_part 0 n left n m a o left r mem steps (omega arith) (omega arith) e_stop e_regs e_memory e_steps e_new running few some
 
 pub attempts_none : (n : ℕ) (m : Machine) → n ≡ 0 → after_attempts n m ≡ m
 unfolding after_attempts

@@ -3,3 +3,4 @@ pub mod Admissions
 pub mod Ledger
 pub mod Names
 pub mod Watched
+pub mod Noted

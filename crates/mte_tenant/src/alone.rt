@@ -7,7 +7,8 @@ ghost use Rattle.mte_tags.specs.Memory.{no_pages};
 ghost use Rattle.mte_svc.specs.Ready.{IsReady};
 ghost use Rattle.mte_svc.specs.Results.{is_running};
 ghost use Rattle.mte_tenant.specs.Ledger.{admission_refusal, charge_of, facts_of, is_bad};
-ghost use Rattle.mte_tenant.specs.Machines.{machine_of, start_of, after_attempt, after_slice};
+ghost use Rattle.mte_tenant.specs.Machines.{machine_of, start_of, after_attempt, after_attempts};
+ghost use Rattle.mte_tenant.specs.Machines.{after_slice};
 ghost use Rattle.mte_tenant.specs.Watched.{WatchLog, with_shown, shown_of, Before, After};
 ghost use Rattle.mte_tenant.specs.Admissions.{start_in};
 
@@ -108,8 +109,27 @@ pub fn slice_watched<M: Paged, W: Watch>(
     ensures ready { IsReady parts.new (M.Tagged.memory memory.new) }
     ensures kept { M.Tagged.kept memory.old memory.new }
 {
+    attempt_all(watch, parts, memory, u64::from(steps));
+    settle(parts, memory);
+}
+
+/// Attempts what is left of a slice, each attempt shown once, in order.
+pub(crate) fn attempt_all<M: Paged, W: Watch>(
+    watch: &mut W,
+    parts: &mut TenantParts,
+    memory: &mut M,
+    steps: u64,
+)
+    requires ready { IsReady parts.old (M.Tagged.memory memory.old) }
+    ensures machine { machine_of parts.new (M.Tagged.memory memory.new)
+        ≡ after_attempts steps (machine_of parts.old (M.Tagged.memory memory.old)) }
+    ensures shown { W.log watch.new ≡ with_shown (W.log watch.old)
+        (shown_of steps (machine_of parts.old (M.Tagged.memory memory.old))) }
+    ensures ready { IsReady parts.new (M.Tagged.memory memory.new) }
+    ensures kept { M.Tagged.kept memory.old memory.new }
+{
     let mut decoder = Decoder::new();
-    let mut left = u64::from(steps);
+    let mut left = steps;
     while left > 0 && parts.is_running() {
         watch.before(parts, memory);
         let rest = left - 1;
@@ -117,7 +137,6 @@ pub fn slice_watched<M: Paged, W: Watch>(
         watch.after(parts, memory);
         left = if goes_on { rest } else { 0 };
     }
-    settle(parts, memory);
 }
 
 /// Attempts one instruction of a slice, which has `left` more; returns whether the slice goes on. A

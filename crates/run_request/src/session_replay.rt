@@ -7,7 +7,7 @@ use mte_session::{Event, Sink, parse_script};
 use run_terms::{Failure, Options, Replay};
 use std::alloc::Global;
 use std::io::sink;
-use tenant_run::{Observer, StoreWatcher, Watcher, wants_watch};
+use tenant_run::{Observer, StoreWatcher, Watcher, wants_second_run};
 
 /// A session of which one tenant is replayed.
 #[derive(Clone, Copy)]
@@ -29,7 +29,7 @@ impl<'a, 'x> SessionReplay<'a, 'x> {
         options: &Options,
         observer: &mut Observer<'_>,
     ) -> Result<Option<Replayed>, Failure<'a>> {
-        observer.is_watching = observer.needs_each_step();
+        observer.shown = observer.needs();
         let found = self.first_run(rt, options, observer)?;
         let found = self.watched(rt.alloc(), options, found, observer)?;
         if let Some(found) = &found {
@@ -61,14 +61,13 @@ impl<'a, 'x> SessionReplay<'a, 'x> {
         found: Option<Replayed>,
         observer: &mut Observer<'_>,
     ) -> Result<Option<Replayed>, Failure<'a>> {
-        let is_wanted = match &found {
-            Some(found) => !observer.is_watching && wants_watch(&found.bench, options),
-            None => false,
+        let end = match &found {
+            Some(found) if wants_second_run(&found.bench, options, observer) => {
+                found.bench.parts.history.steps
+            }
+            _ => return Ok(found),
         };
-        if !is_wanted {
-            return Ok(found);
-        }
-        observer.is_watching = true;
+        observer.restart(alloc, end)?;
         self.replayed(alloc, observer, &mut StreamSink(sink()))
     }
 

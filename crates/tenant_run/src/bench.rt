@@ -8,16 +8,31 @@ use a64_run::OpCache;
 use common::Obstacle;
 use mte_flat::Flat;
 use mte_tenant::{
-    Admission, AdmitError, Status, TenantParts, Watch, admit_alone, is_bad_reservation, slice,
-    slice_watched,
+    Admission, AdmitError, Notes, Status, TenantParts, admit_alone, is_bad_reservation, slice,
+    slice_noted, slice_watched,
 };
 use std::alloc::Global;
 
+/// What a watch is shown of a slice.
+#[derive(Clone, Copy, PartialEq, Eq)]
+pub enum Shown {
+    /// Nothing: the slice runs by a table of instructions, as a host runs it.
+    Nothing,
+    /// The accesses of instructions by that table, and attempts that lead to no next instruction;
+    /// of the last steps each attempt.
+    Accesses,
+    /// Each attempt.
+    Attempts,
+}
+
 /// What may watch a tenant.
-pub trait Watcher: Watch {
-    /// Whether it watches. A tenant that nothing watches runs by a table of instructions, as a host
-    /// runs it.
-    fn is_watching(&self) -> bool;
+pub trait Watcher: Notes {
+    /// What it is shown.
+    fn shown(&self) -> Shown;
+
+    /// A slice of some steps begins, of which it is shown accesses: of how many of the last steps
+    /// it is shown each attempt.
+    fn begin(&mut self, parts: &TenantParts, steps: u32) -> u32;
 
     /// Whether what it has met ends the tenant, so that no slice follows.
     fn has_ended(&self) -> bool;
@@ -73,10 +88,14 @@ impl TenantBench {
         ensures { machine_of self.new.parts self.new.memory
             ≡ after_slice steps (machine_of self.old.parts self.old.memory) }
     {
-        if watch.is_watching() {
-            slice_watched(watch, &mut self.parts, &mut self.memory, steps);
-        } else {
-            slice(&mut self.words, &mut self.parts, &mut self.memory, steps);
+        let (parts, memory) = (&mut self.parts, &mut self.memory);
+        match watch.shown() {
+            Shown::Nothing => slice(&mut self.words, parts, memory, steps),
+            Shown::Accesses => {
+                let last = watch.begin(parts, steps);
+                slice_noted(&mut self.words, watch, parts, memory, steps, last);
+            }
+            Shown::Attempts => slice_watched(watch, parts, memory, steps),
         }
     }
 

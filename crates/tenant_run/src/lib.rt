@@ -13,9 +13,9 @@ mod store_watcher;
 mod survey;
 mod tracer;
 
-pub use bench::{TenantBench, Watcher};
+pub use bench::{Shown, TenantBench, Watcher};
 pub use ending::{LastLine, REFUSED, TenantEnding};
 pub use line_log::observer_of;
-pub use lone::{LoneTenant, admission_of, wants_watch};
+pub use lone::{LoneTenant, admission_of, wants_second_run};
 pub use observer::Observer;
 pub use store_watcher::StoreWatcher;

@@ -2,7 +2,7 @@
 
 ghost use Rattle.std.specs.Prelude.{◌<◌};
 
-use crate::bench::TenantBench;
+use crate::bench::{Shown, TenantBench};
 use crate::ending::TenantEnding;
 use crate::observer::Observer;
 use crate::output_stream::OutputStream;
@@ -120,8 +120,8 @@ impl<'x> LoneTenant<'x> {
         Ok(())
     }
 
-    /// Runs the tenant to its end. Where nothing has to watch each step, it runs unwatched first;
-    /// only an end that is explained by what was watched takes a second run, which is the same.
+    /// Runs the tenant to its end, shown what is needed of it. An end that is explained by the
+    /// last attempts, and an access that may be wrong, take a second run, which is the same.
     fn run_watched<'a>(
         &self,
         alloc: Global,
@@ -131,12 +131,12 @@ impl<'x> LoneTenant<'x> {
         out: &mut OutputStream<'_>,
     ) -> Result<(), Failure<'a>> {
         let limit = options.length.steps;
-        observer.is_watching = observer.needs_each_step();
+        observer.shown = observer.needs();
         run_slices(bench, observer, out, options, limit);
-        if observer.is_watching || !wants_watch(bench, options) {
+        if !wants_second_run(bench, options, observer) {
             return Ok(());
         }
-        observer.is_watching = true;
+        observer.restart(alloc, bench.parts.history.steps)?;
         self.restart(alloc, options, bench)?;
         run_slices(bench, observer, out, options, limit);
         Ok(())
@@ -156,7 +156,7 @@ impl<'x> LoneTenant<'x> {
             Some(finding) => finding.step,
             None => return Ok(()),
         };
-        observer.is_watching = false;
+        observer.shown = Shown::Nothing;
         self.restart(alloc, options, bench)?;
         run_slices(bench, observer, out, options, step);
         Ok(())
@@ -183,12 +183,18 @@ impl<'x> LoneTenant<'x> {
     }
 }
 
-/// Whether the end that a tenant came to unwatched is told by what a run that is watched remembers.
-/// Output that fills its room may have been cut.
-pub fn wants_watch(bench: &TenantBench, options: &Options) -> bool {
-    let log = &bench.parts.history;
-    TenantEnding::of(log, options.limit()) != TenantEnding::Exit
-        || options.output.leaks
-        || options.output.map.is_some()
-        || log.output.left() == 0
+/// Whether a second run has to show what the first one did not: the attempts before an end that is
+/// explained by them, and those in which an access may have been wrong. Output that fills its
+/// capacity may have been cut.
+pub fn wants_second_run(bench: &TenantBench, options: &Options, observer: &Observer<'_>) -> bool {
+    let (log, output) = (&bench.parts.history, &options.output);
+    let is_told = TenantEnding::of(log, options.limit()) != TenantEnding::Exit
+        || output.leaks
+        || output.map.is_some()
+        || log.output.left() == 0;
+    match observer.shown {
+        Shown::Nothing => is_told,
+        Shown::Accesses => is_told || output.json.is_some() || observer.is_suspicious(),
+        Shown::Attempts => false,
+    }
 }

@@ -2,13 +2,13 @@
 
 ghost use Rattle.std.specs.Prelude.{None};
 
-use crate::bench::Watcher;
+use crate::bench::{Shown, Watcher};
 use crate::tracer::Tracer;
 use circular_buffer::HeapCircularBuffer;
 use instruction_trace::{Moment, SVC, Statistics, StatisticsTable, Turn};
 use mte_svc::WRITE;
 use mte_tags::Paged;
-use mte_tenant::{Status, TenantParts, Watch};
+use mte_tenant::{AccessUse, MOST_UNSEEN, NotedAccess, Notes, Status, TenantParts, Watch};
 use run_book::Book;
 use run_cause::{CheckTerms, Checker, Exact, Finding, LastStore, TargetLoad};
 use run_terms::Exactness;
@@ -22,8 +22,14 @@ const LEAST: usize = 16;
 /// that goes beyond its chunk where accesses are to keep to them.
 #[derive(Drop)]
 pub struct Observer<'a> {
-    /// Whether it is shown what the tenant does.
-    pub is_watching: bool,
+    /// What it is shown of the tenant.
+    pub shown: Shown,
+    /// The step after which it is shown each attempt, where it is shown accesses.
+    shown_after: u64,
+    /// The steps before the accesses that it is shown now.
+    passed: u64,
+    /// The steps before the first accesses of which one may be wrong.
+    suspect: Option<u64>,
     /// The heap calls.
     pub book: Book,
     /// The last instructions, the oldest first.
@@ -56,7 +62,10 @@ impl<'a> Observer<'a> {
         checker: Option<Checker<'a>>,
     ) -> Result<Observer<'a>, AllocError> {
         Ok(Observer {
-            is_watching: true,
+            shown: Shown::Attempts,
+            shown_after: u64::MAX,
+            passed: 0,
+            suspect: None,
             book: Book::new(alloc)?,
             last: HeapCircularBuffer::with_capacity(alloc, count.max(LEAST))?,
             turns,
@@ -74,12 +83,47 @@ impl<'a> Observer<'a> {
         self.statistics = Some(Statistics::new());
     }
 
-    /// Whether it must watch from the first step on: it writes or counts or ends what it sees.
-    pub fn needs_each_step(&self) -> bool {
-        self.tracer.is_some()
-            || self.exact.is_some()
-            || self.checker.is_some()
-            || self.statistics.is_some()
+    /// What it has to be shown from the first step on: each attempt where it writes or checks what
+    /// it sees, and accesses where it counts or judges these.
+    pub fn needs(&self) -> Shown {
+        if self.tracer.is_some() || self.checker.is_some() {
+            Shown::Attempts
+        } else if self.exact.is_none() && self.statistics.is_none() {
+            Shown::Nothing
+        } else if self.turns.is_some() {
+            Shown::Attempts
+        } else {
+            Shown::Accesses
+        }
+    }
+
+    /// Whether a second run has to show it the attempts in which an access may have been wrong.
+    pub fn is_suspicious(&self) -> bool {
+        self.suspect.is_some()
+    }
+
+    /// Forgets all, for a second run from the first instruction. It is shown the attempts that it
+    /// remembers before the `end` steps of the first run, and those from the first accesses on of
+    /// which one may be wrong.
+    pub fn restart(&mut self, alloc: Global, end: u64) -> Result<(), AllocError> {
+        let wanted = self.suspect.unwrap_or(end);
+        self.shown_after = wanted.saturating_sub(self.last.capacity() as u64);
+        self.suspect = None;
+        self.shown = if self.turns.is_some() {
+            Shown::Attempts
+        } else {
+            Shown::Accesses
+        };
+        self.is_cut = false;
+        self.last.clear();
+        if let Some(exact) = &mut self.exact {
+            exact.restart(alloc);
+        }
+        if self.statistics.is_some() {
+            self.count();
+        }
+        self.book = Book::new(alloc)?;
+        Ok(())
     }
 
     /// The last instructions.
@@ -149,12 +193,53 @@ impl<'a> Observer<'a> {
 }
 
 impl<'a> Watcher for Observer<'a> {
-    fn is_watching(&self) -> bool {
-        self.is_watching
+    fn shown(&self) -> Shown {
+        self.shown
+    }
+
+    fn begin(&mut self, parts: &TenantParts, steps: u32) -> u32 {
+        let before = parts.history.steps;
+        self.passed = before;
+        if let Some(statistics) = &mut self.statistics {
+            statistics.begin(&parts.regs.rgsr);
+        }
+        let unseen = self.shown_after.saturating_sub(before);
+        steps.saturating_sub(u32::try_from(unseen).unwrap_or(u32::MAX))
     }
 
     fn has_ended(&self) -> bool {
-        self.is_watching && (self.finding().is_some() || self.full().is_some())
+        let is_over = self.finding().is_some() || self.full().is_some() || self.is_suspicious();
+        self.shown != Shown::Nothing && is_over
+    }
+}
+
+impl<'a> Notes for Observer<'a> {
+    #[inline(always)]
+    fn counts_tags(&self) -> bool {
+        self.statistics.is_some()
+    }
+
+    #[inline(always)]
+    fn note(&mut self, access: NotedAccess) {
+        let is_write = access.usage != AccessUse::Read;
+        if let Some(exact) = &mut self.exact {
+            let is_wrong = exact.is_suspicious(access.address, access.bytes, is_write);
+            if is_wrong && self.suspect.is_none() {
+                self.suspect = Some(self.passed);
+            }
+        }
+        if let Some(statistics) = &mut self.statistics {
+            if access.usage != AccessUse::Zero {
+                statistics.count_access(is_write, access.is_compared);
+            }
+        }
+    }
+
+    fn pass<M: Paged>(&mut self, parts: &TenantParts, memory: &mut M) {
+        self.passed = parts.history.steps;
+        if let Some(statistics) = &mut self.statistics {
+            statistics.pass(parts, MOST_UNSEEN, memory);
+        }
     }
 }
 
@@ -177,6 +262,7 @@ impl<'a> Watch for Observer<'a> {
             return;
         }
         let call = self.book.note(parts, memory);
+        self.passed = parts.history.steps;
         let Some(moment) = self.last.back() else {
             return;
         };

@@ -2,10 +2,10 @@
 
 ghost use Rattle.std.specs.Prelude.{None};
 
-use crate::bench::Watcher;
+use crate::bench::{Shown, Watcher};
 use instruction_trace::Moment;
 use mte_tags::Paged;
-use mte_tenant::{TenantParts, Watch};
+use mte_tenant::{NotedAccess, Notes, TenantParts, Watch};
 use run_cause::{LastStore, StoreWatch, TargetLoad};
 
 /// Shows a tenant that runs once more to the watch for such a store.
@@ -32,13 +32,28 @@ impl StoreWatcher {
 }
 
 impl Watcher for StoreWatcher {
-    fn is_watching(&self) -> bool {
-        true
+    fn shown(&self) -> Shown {
+        Shown::Attempts
+    }
+
+    fn begin(&mut self, _parts: &TenantParts, steps: u32) -> u32 {
+        steps
     }
 
     fn has_ended(&self) -> bool {
         false
     }
+}
+
+/// It is shown each attempt, and so no access.
+impl Notes for StoreWatcher {
+    fn counts_tags(&self) -> bool {
+        false
+    }
+
+    fn note(&mut self, _access: NotedAccess) {}
+
+    fn pass<M: Paged>(&mut self, _parts: &TenantParts, _memory: &mut M) {}
 }
 
 impl Watch for StoreWatcher {

@@ -81,6 +81,12 @@ fn ending_under<'x>(
     let admission = admission_of(options, terms.image, input, seed);
     let mut bench = TenantBench::new(alloc, &admission)?;
     let mut observer = silent_observer(alloc, options, terms)?;
+    let ending = ending_of(options, &mut bench, &mut observer);
+    if !observer.is_suspicious() {
+        return Ok(ending);
+    }
+    observer.restart(alloc, bench.parts.history.steps)?;
+    let mut bench = TenantBench::new(alloc, &admission)?;
     Ok(ending_of(options, &mut bench, &mut observer))
 }
 
@@ -92,7 +98,9 @@ fn silent_observer<'x>(
 ) -> Result<Observer<'x>, AllocError> {
     let checker = checker_of(alloc, terms)?;
     let exact = exact_of(alloc, options.output.exact);
-    Observer::new(alloc, 1, exact, None, None, checker)
+    let mut observer = Observer::new(alloc, 1, exact, None, None, checker)?;
+    observer.shown = observer.needs();
+    Ok(observer)
 }
 
 /// How a tenant ends that is run to its end.
@@ -101,7 +109,6 @@ fn ending_of(
     bench: &mut TenantBench,
     observer: &mut Observer<'_>,
 ) -> TenantEnding {
-    observer.is_watching = observer.needs_each_step();
     let mut out = OutputStream::silent();
     run_slices(bench, observer, &mut out, options, options.length.steps);
     if observer.finding().is_some() {

@@ -1,66 +1,17 @@
-use Rattle.std.proofs.Common.{◌≡◌, ◌-◌, ◌∙◌, suc, true, sym, ap, subst, arith}
-use Rattle.mte_svc.specs.Ready.{IsReady}
-use Rattle.mte_tenant.specs.Machines.{Machine, machine_of, runs, Attempt, after_attempt, after_attempts, after_slice_end, after_slice}
+use Rattle.std.proofs.Common.{◌∙◌, ap}
+use Rattle.mte_tenant.specs.Machines.{machine_of, after_attempts, after_slice, after_slice_end}
 use Rattle.mte_tenant.specs.Watched.{with_shown, shown_of}
-use Rattle.mte_tenant.proofs.MachineLemmas.{after-attempts-ended, attempts_none}
-use Rattle.mte_tenant.proofs.AloneLemmas.{log_ended, log_none, goes_on_next, yielded_next}
-use Rattle.mte_tenant.proofs.alone.slice_watched.Goals.{then-loop-left-test+else-is_running, else-loop-left-test}
 use Rattle.mte_tenant.proofs.alone.slice_watched.Goals as goal
 
 pub returns-clause-machine : goal.returns-clause-machine
 unfolding after_slice
 returns-clause-machine g c =
-    let last : Machine = machine_of c.loop-left.parts (g.M.Tagged.memory c.loop-left.memory) in
-    let done : after_attempts c.loop-left.left last ≡ last = elim c.loop-left-test.branch [
-      | then-loop-left-test+else-is_running w ↦ after-attempts-ended c.loop-left.left last (sym w.is_running.ensures ∙ w.if-is_running.false)
-      | else-loop-left-test w ↦ attempts_none c.loop-left.left last (omega arith)
-    ] in
-    c.settle.ensures.machine ∙ ap after_slice_end (sym done ∙ c.loop-left.invariant.rest)
+    let m = machine_of c.args.parts.now (g.M.Tagged.memory c.args.memory.now) in
+    c.settle.ensures.machine
+    ∙ ap after_slice_end (c.attempt_all.ensures.machine ∙ ap (λ n. after_attempts n m) c.from.ensures)
 
 pub returns-clause-shown : goal.returns-clause-shown
 returns-clause-shown g c =
-    let last : Machine = machine_of c.loop-left.parts (g.M.Tagged.memory c.loop-left.memory) in
-    let log = g.W.Watch.log c.loop-left.watch in
-    let done : with_shown log (shown_of c.loop-left.left last) ≡ log = elim c.loop-left-test.branch [
-      | then-loop-left-test+else-is_running w ↦ log_ended c.loop-left.left last log (sym w.is_running.ensures ∙ w.if-is_running.false)
-      | else-loop-left-test w ↦ log_none c.loop-left.left last log (omega arith)
-    ] in
-    sym done ∙ c.loop-left.invariant.shown
-
-pub loop-left-preserved-then-goes_on : goal.loop-left-preserved-then-goes_on
-loop-left-preserved-then-goes_on g c =
-    let n = c.loop-left.left - 1 in
-    let m : Machine = machine_of c.loop-left.parts (g.M.Tagged.memory c.loop-left.memory) in
-    let k : Machine = machine_of c.attempt-goes_on.new.parts (g.M.Tagged.memory c.after.new.memory) in
-    let a : Attempt = record { machine = machine_of c.attempt-goes_on.new.parts (g.M.Tagged.memory c.attempt-goes_on.new.memory); goes_on = c.attempt-goes_on.result } in
-    let some : c.loop-left.left ≡ suc n = omega (arith, c.loop-left-test.true) in
-    let running : runs m ≡ true = sym c.is_running.ensures ∙ c.if-is_running.true in
-    let is : a ≡ after_attempt n m = c.attempt-goes_on.ensures.machine ∙ ap (λ x. after_attempt n (machine_of c.loop-left.parts x)) c.before-in-loop-left.ensures.memory in
-    let next = goes_on_next c.loop-left.left n m k a (g.W.Watch.log c.loop-left.watch) (g.W.Watch.log c.before-in-loop-left.new.self) (g.W.Watch.log c.after.new.self)
-    some running is c.before-in-loop-left.ensures.log c.after.ensures.log (ap (machine_of c.attempt-goes_on.new.parts) c.after.ensures.memory) c.if-goes_on.true in
-    record {
-      rest = next.0 ∙ c.loop-left.invariant.rest;
-      shown = next.1 ∙ c.loop-left.invariant.shown;
-      ready = subst (IsReady c.attempt-goes_on.new.parts) (sym c.after.ensures.memory) c.attempt-goes_on.ensures.ready;
-      kept = g.met.M.Tagged.kept_on _ _ _ c.loop-left.invariant.kept
-          (g.met.M.Tagged.kept_on _ _ _ c.before-in-loop-left.ensures.kept (g.met.M.Tagged.kept_on _ _ _ c.attempt-goes_on.ensures.kept c.after.ensures.kept));
-    }
-
-pub loop-left-preserved : goal.loop-left-preserved
-loop-left-preserved g c =
-    let n = c.loop-left.left - 1 in
-    let m : Machine = machine_of c.loop-left.parts (g.M.Tagged.memory c.loop-left.memory) in
-    let k : Machine = machine_of c.attempt-goes_on.new.parts (g.M.Tagged.memory c.after.new.memory) in
-    let a : Attempt = record { machine = machine_of c.attempt-goes_on.new.parts (g.M.Tagged.memory c.attempt-goes_on.new.memory); goes_on = c.attempt-goes_on.result } in
-    let some : c.loop-left.left ≡ suc n = omega (arith, c.loop-left-test.true) in
-    let running : runs m ≡ true = sym c.is_running.ensures ∙ c.if-is_running.true in
-    let is : a ≡ after_attempt n m = c.attempt-goes_on.ensures.machine ∙ ap (λ x. after_attempt n (machine_of c.loop-left.parts x)) c.before-in-loop-left.ensures.memory in
-    let next = yielded_next c.loop-left.left n m k a (g.W.Watch.log c.loop-left.watch) (g.W.Watch.log c.before-in-loop-left.new.self) (g.W.Watch.log c.after.new.self)
-    some running is c.before-in-loop-left.ensures.log c.after.ensures.log (ap (machine_of c.attempt-goes_on.new.parts) c.after.ensures.memory) c.if-goes_on.false in
-    record {
-      rest = next.0 ∙ c.loop-left.invariant.rest;
-      shown = next.1 ∙ c.loop-left.invariant.shown;
-      ready = subst (IsReady c.attempt-goes_on.new.parts) (sym c.after.ensures.memory) c.attempt-goes_on.ensures.ready;
-      kept = g.met.M.Tagged.kept_on _ _ _ c.loop-left.invariant.kept
-          (g.met.M.Tagged.kept_on _ _ _ c.before-in-loop-left.ensures.kept (g.met.M.Tagged.kept_on _ _ _ c.attempt-goes_on.ensures.kept c.after.ensures.kept));
-    }
+    let m = machine_of c.args.parts.now (g.M.Tagged.memory c.args.memory.now) in
+    c.attempt_all.ensures.shown
+    ∙ ap (λ n. with_shown (g.W.Watch.log c.args.watch.now) (shown_of n m)) c.from.ensures

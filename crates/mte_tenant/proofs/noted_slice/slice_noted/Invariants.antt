@@ -1,21 +1,19 @@
 use Rattle.std.proofs.Common.{◌≡◌}
+use Rattle.a64_run.specs.OpCaches.{Knows}
 use Rattle.mte_svc.specs.Ready.{IsReady}
 use Rattle.mte_tenant.specs.Machines.{after_attempts, machine_of}
-use Rattle.mte_tenant.specs.Watched.{with_shown, shown_of}
-use Rattle.mte_tenant.proofs.alone.slice_watched.Given as goal
+use Rattle.mte_tenant.proofs.noted_slice.slice_noted.Given as goal
 
 abbrev pub decreases-loop-left : goal.decreases-loop-left
 decreases-loop-left g l = l.left
 
--- what is left from here, and to be shown, is the slice from the start
+-- what is left from here is the slice from the start
 abbrev pub invariant-loop-left : goal.invariant-loop-left
 invariant-loop-left g l = record {
   rest :
       after_attempts l.left (machine_of l.parts (g.M.Tagged.memory l.memory))
       ≡ after_attempts l.fn.steps (machine_of l.fn.parts (g.M.Tagged.memory l.fn.memory));
-  shown :
-      with_shown (g.W.Watch.log l.watch) (shown_of l.left (machine_of l.parts (g.M.Tagged.memory l.memory)))
-      ≡ with_shown (g.W.Watch.log l.fn.watch) (shown_of l.fn.steps (machine_of l.fn.parts (g.M.Tagged.memory l.fn.memory)));
+  known : Knows (g.M.Tagged.memory l.memory) l.ops;
   ready : IsReady l.parts (g.M.Tagged.memory l.memory);
   kept : g.M.Tagged.kept l.fn.memory l.memory;
 }
