@@ -97,16 +97,18 @@ impl<'a> Observer<'a> {
         }
     }
 
-    /// Whether a second run has to show it the attempts in which an access may have been wrong.
+    /// Whether a second run has to show it the attempts in which an access was or may have been
+    /// wrong.
     pub fn is_suspicious(&self) -> bool {
-        self.suspect.is_some()
+        self.suspect.is_some() || self.finding().is_some()
     }
 
     /// Forgets all, for a second run from the first instruction. It is shown the attempts that it
-    /// remembers before the `end` steps of the first run, and those from the first accesses on of
-    /// which one may be wrong.
+    /// remembers before the `end` steps of the first run, or before what that found, and those from
+    /// the first accesses on of which one may be wrong.
     pub fn restart(&mut self, alloc: Global, end: u64) -> Result<(), AllocError> {
-        let wanted = self.suspect.unwrap_or(end);
+        let found = self.finding().map_or(end, |finding| finding.step);
+        let wanted = self.suspect.unwrap_or(found).min(found);
         self.shown_after = wanted.saturating_sub(self.last.capacity() as u64);
         self.suspect = None;
         self.shown = if self.turns.is_some() {
@@ -208,8 +210,7 @@ impl<'a> Watcher for Observer<'a> {
     }
 
     fn has_ended(&self) -> bool {
-        let is_over = self.finding().is_some() || self.full().is_some() || self.is_suspicious();
-        self.shown != Shown::Nothing && is_over
+        self.shown != Shown::Nothing && (self.is_suspicious() || self.full().is_some())
     }
 }
 

@@ -37,12 +37,12 @@ returns-in-Next-clause-rest g c =
     let rest = c.args.left - n + c.run_by_table-unused.result in
     let memory = g.M.Tagged.memory c.pass.new.memory in
     let after : Machine = machine_of
-        (record c.args.parts.now {
-          history = record c.args.parts.now.history { steps = c.saturating_add-parts.result };
-          regs = c.run_by_table-unused.new.regs;
-          left = rest;
-        })
-        memory in
+    (record c.args.parts.now {
+      history = record c.args.parts.now.history { steps = c.saturating_add-parts.result };
+      regs = c.run_by_table-unused.new.regs;
+      left = rest;
+    })
+    memory in
     after_part (c.args.left - n) n rest c.args.left (machine_of c.args.parts.now (g.M.Tagged.memory c.args.memory.now)) (continues after)
     c.run_by_table-unused.new.outcome c.run_by_table-unused.result c.run_by_table-unused.new.regs memory c.saturating_add-parts.result
     refl (omega arith) c.run_by_table-unused.ensures.stop c.run_by_table-unused.ensures.regs (c.pass.ensures.memory ∙ c.run_by_table-unused.ensures.memory)
@@ -60,10 +60,10 @@ returns-then-goes_on g c =
     let some = left_lt n c.args.parts.now.regs (g.M.Tagged.memory c.args.memory.now) (omega arith) in
     let a : Attempt = record { machine = machine_of c.handle-goes_on.new.parts last; goes_on = c.handle-goes_on.result } in
     let all : rest_of rest a ≡ after_attempts c.args.left (machine_of c.args.parts.now (g.M.Tagged.memory c.args.memory.now)) =
-        after_part (c.args.left - n) n rest c.args.left (machine_of c.args.parts.now (g.M.Tagged.memory c.args.memory.now)) a
-        c.run_by_table-unused.new.outcome c.run_by_table-unused.result c.run_by_table-unused.new.regs first c.saturating_add-parts-3.result
-        refl (omega arith) c.run_by_table-unused.ensures.stop c.run_by_table-unused.ensures.regs (stays ∙ c.run_by_table-unused.ensures.memory)
-        (omega (arith, s, some)) c.handle-goes_on.ensures.machine c.requires.running (omega arith) (omega arith) in
+    after_part (c.args.left - n) n rest c.args.left (machine_of c.args.parts.now (g.M.Tagged.memory c.args.memory.now)) a
+    c.run_by_table-unused.new.outcome c.run_by_table-unused.result c.run_by_table-unused.new.regs first c.saturating_add-parts-3.result
+    refl (omega arith) c.run_by_table-unused.ensures.stop c.run_by_table-unused.ensures.regs (stays ∙ c.run_by_table-unused.ensures.memory)
+    (omega (arith, s, some)) c.handle-goes_on.ensures.machine c.requires.running (omega arith) (omega arith) in
     record {
       rest = ap (λ m. after_attempts rest (machine_of c.handle-goes_on.new.parts m)) c.after.ensures.memory ∙ rw (c.if-goes_on.true) at all;
       known =
@@ -91,10 +91,10 @@ returns-else-goes_on g c =
     let some = left_lt n c.args.parts.now.regs (g.M.Tagged.memory c.args.memory.now) (omega arith) in
     let a : Attempt = record { machine = machine_of c.handle-goes_on.new.parts last; goes_on = c.handle-goes_on.result } in
     let all : rest_of rest a ≡ after_attempts c.args.left (machine_of c.args.parts.now (g.M.Tagged.memory c.args.memory.now)) =
-        after_part (c.args.left - n) n rest c.args.left (machine_of c.args.parts.now (g.M.Tagged.memory c.args.memory.now)) a
-        c.run_by_table-unused.new.outcome c.run_by_table-unused.result c.run_by_table-unused.new.regs first c.saturating_add-parts-3.result
-        refl (omega arith) c.run_by_table-unused.ensures.stop c.run_by_table-unused.ensures.regs (stays ∙ c.run_by_table-unused.ensures.memory)
-        (omega (arith, s, some)) c.handle-goes_on.ensures.machine c.requires.running (omega arith) (omega arith) in
+    after_part (c.args.left - n) n rest c.args.left (machine_of c.args.parts.now (g.M.Tagged.memory c.args.memory.now)) a
+    c.run_by_table-unused.new.outcome c.run_by_table-unused.result c.run_by_table-unused.new.regs first c.saturating_add-parts-3.result
+    refl (omega arith) c.run_by_table-unused.ensures.stop c.run_by_table-unused.ensures.regs (stays ∙ c.run_by_table-unused.ensures.memory)
+    (omega (arith, s, some)) c.handle-goes_on.ensures.machine c.requires.running (omega arith) (omega arith) in
     record {
       rest = ap (machine_of c.handle-goes_on.new.parts) c.after.ensures.memory ∙ rw (c.if-goes_on.false) at all;
       known =
