@@ -1,10 +1,9 @@
 //! Why the program has no whole answer.
 
-use crate::merging::MergeFault;
 use crate::part::PartFault;
-use crate::split_fault::SplitFault;
-use mte_session::{ScriptFault, WriteFault};
-use std::alloc::AllocFailed;
+use common::Obstacle;
+use mte_session::{ScriptError, ScriptFault, WriteFault};
+use std::alloc::{AllocError, AllocFailed};
 use std::fmt;
 
 /// Why the program has no whole answer.
@@ -29,25 +28,6 @@ pub enum SplitFailure<'a> {
 }
 
 impl<'a> SplitFailure<'a> {
-    /// The failure of a part that could not be made, of a tenant if there is one.
-    pub fn of_making(fault: SplitFault, id: u16) -> SplitFailure<'a> {
-        match fault {
-            SplitFault::Script(line, fault) => SplitFailure::Script(line, fault),
-            SplitFault::NotAdmitted => SplitFailure::NotAdmitted(id),
-            SplitFault::OutOfMemory => SplitFailure::Memory,
-        }
-    }
-
-    /// The failure of parts with these names that make no report.
-    pub fn of_merging(fault: MergeFault, names: &'a [String]) -> SplitFailure<'a> {
-        match fault {
-            MergeFault::Part(index, fault) => SplitFailure::Part(name_at(names, index), fault),
-            MergeFault::NoLedger => SplitFailure::NoLedger,
-            MergeFault::NoTenant(id) => SplitFailure::NoTenant(id),
-            MergeFault::OutOfMemory => SplitFailure::Memory,
-        }
-    }
-
     /// The exit status.
     fn status(&self) -> u8 {
         match self {
@@ -61,14 +41,6 @@ impl<'a> SplitFailure<'a> {
             SplitFailure::NoLedger | SplitFailure::NoTenant(_) => 10,
             SplitFailure::NotAdmitted(_) => 11,
         }
-    }
-}
-
-/// The name with an index.
-fn name_at(names: &[String], index: usize) -> &str {
-    match names.get(index) {
-        Some(name) => name.as_str(),
-        None => "",
     }
 }
 
@@ -96,9 +68,24 @@ impl<'a> fmt::Display for SplitFailure<'a> {
     }
 }
 
+impl<'a> From<Obstacle<ScriptError>> for SplitFailure<'a> {
+    fn from(obstacle: Obstacle<ScriptError>) -> SplitFailure<'a> {
+        match obstacle {
+            Obstacle::OutOfMemory => SplitFailure::Memory,
+            Obstacle::Refused(error) => SplitFailure::Script(error.line, error.fault),
+        }
+    }
+}
+
 impl<'a> From<WriteFault> for SplitFailure<'a> {
     fn from(_error: WriteFault) -> SplitFailure<'a> {
         SplitFailure::Write
+    }
+}
+
+impl<'a> From<AllocError> for SplitFailure<'a> {
+    fn from(_error: AllocError) -> SplitFailure<'a> {
+        SplitFailure::Memory
     }
 }
 

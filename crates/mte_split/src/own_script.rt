@@ -1,9 +1,8 @@
 //! The lines of a script that are a tenant's own.
 
 use crate::ledger::Ledger;
-use crate::split_fault::SplitFault;
 use mte_session::Event;
-use std::alloc::Global;
+use std::alloc::{AllocError, Global};
 
 /// The lines of the tenant's own events: those that name it and are accepted.
 pub(crate) fn own_script(
@@ -12,7 +11,7 @@ pub(crate) fn own_script(
     events: &[Event],
     ledger: &Ledger,
     id: u16,
-) -> Result<Vec<u8>, SplitFault> {
+) -> Result<Vec<u8>, AllocError> {
     let mut own = Vec::new(alloc);
     let mut number: usize = 0;
     for line in script.split(|byte| *byte == b'\n') {

@@ -1,7 +1,6 @@
 //! Which events of a session are refused, and why, without a step of any tenant.
 
 use crate::positions::Positions;
-use crate::split_fault::SplitFault;
 use common::Obstacle;
 use mte_session::{Event, admission_of};
 use mte_tenant::{Admission, LedgerFacts, Refusal, Refused, accept, charge};
@@ -44,7 +43,7 @@ impl Ledger {
         frames: u32,
         events: &[Event],
         files: &[Vec<u8>],
-    ) -> Result<Ledger, SplitFault> {
+    ) -> Result<Ledger, AllocError> {
         let mut ledger = Ledger::new(alloc, frames)?;
         for event in events {
             ledger.note(alloc, event, files)?;
@@ -71,10 +70,10 @@ impl Ledger {
     }
 
     /// Notes what is decided on the next event.
-    fn note(&mut self, alloc: Global, event: &Event, files: &[Vec<u8>]) -> Result<(), SplitFault> {
+    fn note(&mut self, alloc: Global, event: &Event, files: &[Vec<u8>]) -> Result<(), AllocError> {
         match self.decide(alloc, event, files) {
             Ok(()) => self.accepted.push(true)?,
-            Err(Obstacle::OutOfMemory) => return Err(SplitFault::OutOfMemory),
+            Err(Obstacle::OutOfMemory) => return Err(AllocError),
             Err(Obstacle::Refused(refusal)) => {
                 let event = self.accepted.len() as u64 + 1;
                 self.accepted.push(false)?;

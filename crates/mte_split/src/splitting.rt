@@ -26,12 +26,13 @@ pub fn answer_command_line(rt: &HostRuntime) -> u8 {
 fn run_request<'a>(rt: &HostRuntime, request: &'a SplitRequest) -> Result<(), SplitFailure<'a>> {
     let names = request.names.as_slice();
     let whole = read_files(rt, names)?;
-    let files = whole.as_slice();
-    match request.wanted {
-        Wanted::Ledger => write_ledger(rt, &session_of(request.frames, files)),
-        Wanted::Tenant(id) => write_tenant(rt, &session_of(request.frames, files), id),
-        Wanted::Whole => write_whole(rt, names, files),
-    }
+    let session = session_of(request.frames, whole.as_slice());
+    let text = match request.wanted {
+        Wanted::Ledger => ledger_part(rt.alloc(), &session)?,
+        Wanted::Tenant(id) => tenant_part(rt.alloc(), &session, id)?,
+        Wanted::Whole => return write_whole(rt, names, whole.as_slice()),
+    };
+    write_text(rt, text.as_slice())
 }
 
 /// The session of a script, which is the first file, and of those that it refers to. Without a file
@@ -51,35 +52,13 @@ fn session_of(frames: u32, whole: &[Vec<u8>]) -> Session<'_> {
     }
 }
 
-fn write_ledger<'a>(rt: &HostRuntime, session: &Session<'_>) -> Result<(), SplitFailure<'a>> {
-    match ledger_part(rt.alloc(), session) {
-        Ok(text) => write_text(rt, text.as_slice()),
-        Err(fault) => Err(SplitFailure::of_making(fault, 0)),
-    }
-}
-
-fn write_tenant<'a>(
-    rt: &HostRuntime,
-    session: &Session<'_>,
-    id: u16,
-) -> Result<(), SplitFailure<'a>> {
-    match tenant_part(rt.alloc(), session, id) {
-        Ok(text) => write_text(rt, text.as_slice()),
-        Err(fault) => Err(SplitFailure::of_making(fault, id)),
-    }
-}
-
 /// Writes the report that parts make.
 fn write_whole<'a>(
     rt: &HostRuntime,
     names: &'a [String],
     parts: &[Vec<u8>],
 ) -> Result<(), SplitFailure<'a>> {
-    let pieces = match merge(rt.alloc(), parts) {
-        Ok(pieces) => pieces,
-        Err(fault) => return Err(SplitFailure::of_merging(fault, names)),
-    };
-    for piece in &pieces {
+    for piece in &merge(rt.alloc(), names, parts)? {
         write_text(rt, piece)?;
     }
     Ok(())

@@ -1,28 +1,21 @@
 //! The whole report that parts make.
 
+use crate::failure::SplitFailure;
 use crate::part::{PartFault, PartKind, SessionPart, number_of};
 use crate::positions::Positions;
-use std::alloc::{AllocError, AllocFailed, Global};
-
-/// Why parts do not make a report.
-#[derive(Clone, Copy, Debug, PartialEq, Eq)]
-pub enum MergeFault {
-    /// What is wrong with the part with an index.
-    Part(usize, PartFault),
-    /// The part with the refused events is missing.
-    NoLedger,
-    /// The part of a tenant is missing.
-    NoTenant(u16),
-    /// An allocation failed.
-    OutOfMemory,
-}
+use std::alloc::Global;
 
 /// The report of the session that the parts are of, in pieces: the lines of its refused events, and
-/// the lines of each tenant, in the order of their admissions. The parts may come in any order.
-pub fn merge<'a>(alloc: Global, texts: &'a [Vec<u8>]) -> Result<Vec<&'a [u8]>, MergeFault> {
-    let parts = read_parts(alloc, texts)?;
+/// the lines of each tenant, in the order of their admissions. The parts may come in any order, and
+/// their files' names come in the same.
+pub fn merge<'a, 't>(
+    alloc: Global,
+    names: &'a [String],
+    texts: &'t [Vec<u8>],
+) -> Result<Vec<&'t [u8]>, SplitFailure<'a>> {
+    let parts = read_parts(alloc, names, texts)?;
     let Some(ledger) = find_ledger(parts.as_slice()) else {
-        return Err(MergeFault::NoLedger);
+        return Err(SplitFailure::NoLedger);
     };
     let mut places = enter_parts(alloc, parts.as_slice(), ledger.session)?;
     let mut pieces = Vec::new(alloc);
@@ -37,19 +30,23 @@ pub fn merge<'a>(alloc: Global, texts: &'a [Vec<u8>]) -> Result<Vec<&'a [u8]>, M
 }
 
 /// Reads each part.
-fn read_parts<'a>(alloc: Global, texts: &'a [Vec<u8>]) -> Result<Vec<SessionPart<'a>>, MergeFault> {
+fn read_parts<'a, 't>(
+    alloc: Global,
+    names: &'a [String],
+    texts: &'t [Vec<u8>],
+) -> Result<Vec<SessionPart<'a, 't>>, SplitFailure<'a>> {
     let mut parts = Vec::new(alloc);
-    for (index, text) in texts.iter().enumerate() {
-        match SessionPart::read(text.as_slice()) {
+    for (name, text) in names.iter().zip(texts) {
+        match SessionPart::read(name.as_str(), text.as_slice()) {
             Ok(part) => parts.push(part)?,
-            Err(fault) => return Err(MergeFault::Part(index, fault)),
+            Err(fault) => return Err(SplitFailure::Part(name.as_str(), fault)),
         }
     }
     Ok(parts)
 }
 
 /// The first part that has the ledger.
-fn find_ledger<'a>(parts: &[SessionPart<'a>]) -> Option<SessionPart<'a>> {
+fn find_ledger<'a, 't>(parts: &[SessionPart<'a, 't>]) -> Option<SessionPart<'a, 't>> {
     parts
         .iter()
         .find(|part| part.kind == PartKind::Ledger)
@@ -57,23 +54,23 @@ fn find_ledger<'a>(parts: &[SessionPart<'a>]) -> Option<SessionPart<'a>> {
 }
 
 /// Where the part of each tenant is. All parts are of the session, and none is there twice.
-fn enter_parts(
+fn enter_parts<'a>(
     alloc: Global,
-    parts: &[SessionPart<'_>],
+    parts: &[SessionPart<'a, '_>],
     session: &[u8],
-) -> Result<Positions, MergeFault> {
+) -> Result<Positions, SplitFailure<'a>> {
     let mut places = Positions::new(alloc)?;
     let mut has_ledger = false;
     for (index, part) in parts.iter().enumerate() {
         if part.session != session {
-            return Err(MergeFault::Part(index, PartFault::OtherSession));
+            return Err(SplitFailure::Part(part.name, PartFault::OtherSession));
         }
         let was_there = match part.kind {
             PartKind::Ledger => has_ledger,
             PartKind::Tenant(id) => places.get(id).is_some(),
         };
         if was_there {
-            return Err(MergeFault::Part(index, PartFault::Twice));
+            return Err(SplitFailure::Part(part.name, PartFault::Twice));
         }
         match part.kind {
             PartKind::Ledger => has_ledger = true,
@@ -101,40 +98,31 @@ fn admitted_in(line: &[u8]) -> Option<u16> {
 }
 
 /// The lines of a tenant, whose part is left out from then on.
-fn take_body<'a>(
-    parts: &[SessionPart<'a>],
+fn take_body<'a, 't>(
+    parts: &[SessionPart<'a, 't>],
     places: &mut Positions,
     id: u16,
-) -> Result<&'a [u8], MergeFault> {
+) -> Result<&'t [u8], SplitFailure<'a>> {
     let place = places.get(id);
     places.remove(id);
     match place.and_then(|index| parts.get(index)) {
         Some(part) => Ok(part.body),
-        None => Err(MergeFault::NoTenant(id)),
+        None => Err(SplitFailure::NoTenant(id)),
     }
 }
 
 /// Refuses the part of a tenant that the ledger does not admit, which was made of another session.
-fn refuse_others(parts: &[SessionPart<'_>], places: &Positions) -> Result<(), MergeFault> {
-    for (index, part) in parts.iter().enumerate() {
+fn refuse_others<'a>(
+    parts: &[SessionPart<'a, '_>],
+    places: &Positions,
+) -> Result<(), SplitFailure<'a>> {
+    for part in parts {
         match part.kind {
             PartKind::Tenant(id) if places.get(id).is_some() => {
-                return Err(MergeFault::Part(index, PartFault::OtherSession));
+                return Err(SplitFailure::Part(part.name, PartFault::OtherSession));
             }
             _ => {}
         }
     }
     Ok(())
-}
-
-impl From<AllocError> for MergeFault {
-    fn from(_error: AllocError) -> MergeFault {
-        MergeFault::OutOfMemory
-    }
-}
-
-impl<T: Drop> From<AllocFailed<T>> for MergeFault {
-    fn from(_error: AllocFailed<T>) -> MergeFault {
-        MergeFault::OutOfMemory
-    }
 }

@@ -15,7 +15,7 @@ const LAST: &[u8] = b"sum ";
 const LAST_LEN: usize = 69;
 
 /// What is wrong with a part.
-#[derive(Clone, Copy, Debug, PartialEq, Eq)]
+#[derive(Clone, Copy)]
 pub enum PartFault {
     /// Its sum is not that of its bytes.
     Damaged,
@@ -36,26 +36,28 @@ pub(crate) enum PartKind {
 
 /// A part that was read.
 #[derive(Clone, Copy)]
-pub(crate) struct SessionPart<'a> {
+pub(crate) struct SessionPart<'a, 't> {
+    /// The name of its file.
+    pub(crate) name: &'a str,
     /// The session's sum.
-    pub(crate) session: &'a [u8],
+    pub(crate) session: &'t [u8],
     /// Which part it is.
     pub(crate) kind: PartKind,
     /// The lines between its head and its sum.
-    pub(crate) body: &'a [u8],
+    pub(crate) body: &'t [u8],
 }
 
-impl<'a> SessionPart<'a> {
-    /// Reads a part.
-    pub(crate) fn read(text: &'a [u8]) -> Result<SessionPart<'a>, PartFault> {
+impl<'a, 't> SessionPart<'a, 't> {
+    /// Reads a part of a file with a name.
+    pub(crate) fn read(name: &'a str, text: &'t [u8]) -> Result<SessionPart<'a, 't>, PartFault> {
         let Some(whole) = without_sum(text) else {
             return Err(PartFault::Damaged);
         };
-        SessionPart::without_head(whole).ok_or(PartFault::OtherSession)
+        SessionPart::without_head(name, whole).ok_or(PartFault::OtherSession)
     }
 
     /// Reads what is before the sum.
-    fn without_head(whole: &'a [u8]) -> Option<SessionPart<'a>> {
+    fn without_head(name: &'a str, whole: &'t [u8]) -> Option<SessionPart<'a, 't>> {
         let rest = whole.strip_prefix(HEAD)?;
         let session = rest.get(..DIGITS)?;
         let rest = rest.get(DIGITS..)?;
@@ -63,6 +65,7 @@ impl<'a> SessionPart<'a> {
         let kind = kind_of(rest.get(..end)?)?;
         let body = rest.get(end + 1..)?;
         Some(SessionPart {
+            name,
             session,
             kind,
             body,
