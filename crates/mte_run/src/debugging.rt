@@ -101,18 +101,15 @@ fn debug<'a, 'x>(
     }
 }
 
-/// Answers GDB of a tenant at its first instruction.
+/// Answers GDB of a tenant at its first instruction, up to the end of its packets.
 fn debug_tenant<'a, 'x>(
     rt: &HostRuntime,
     tenant: Debuggee<'x>,
     subject: DebugSubject<'x>,
 ) -> Result<u8, Failure<'a>> {
     let mut front = Front::new(rt.alloc(), tenant, subject);
-    answer_all(rt, &mut front)
-}
-
-/// Answers GDB up to the end of its packets.
-fn answer_all<'a>(rt: &HostRuntime, front: &mut Front<'_>) -> Result<u8, Failure<'a>> {
-    serve(rt.alloc(), front, &mut rt.stdin(), &mut rt.stdout())?;
-    Ok(0)
+    match serve(rt.alloc(), &mut front, &mut rt.stdin(), &mut rt.stdout()) {
+        Ok(()) => Ok(0),
+        Err(error) => Err(Failure::from(error)),
+    }
 }
