@@ -1,33 +1,36 @@
-//! A page, and its data as JSON (RFC 8259).
+//! A page that shows a tenant's heap step by step: one file in HTML, which a browser opens without
+//! a network.
+//!
+//! It is the same text for each run, a frame with a style and a script, but for one value of JSON
+//! in it (RFC 8259), which the script shows. So what a tenant or a file is called is in that value
+//! alone, in which each `<` is written as `\u003c`: nothing in it ends the value.
 
-use crate::calls::{push_frames, shown_calls, write_calls};
-use crate::code::Code;
-use crate::frame::{BEFORE_DATA, BEFORE_SCRIPT, BEFORE_STYLE, END};
-use crate::rows::write_rows;
-use crate::script::SCRIPT;
-use crate::style::STYLE;
+mod calls;
+mod code;
+mod frame;
+mod rows;
+mod script;
+mod step;
+mod style;
+
+use crate::document::Document;
+use calls::{push_frames, shown_calls, write_calls};
+use code::Code;
+use frame::{BEFORE_DATA, BEFORE_SCRIPT, BEFORE_STYLE, END};
 use mte_backtrace::{FrameAddresses, FrameNames};
 use mte_flat::Flat;
 use mte_report::{Context, Report};
+use rows::write_rows;
 use run_book::BookEntry;
+use script::SCRIPT;
 use std::alloc::Global;
 use std::io;
 use std::io::Write;
+use style::STYLE;
 
-/// A page over what happened to a tenant.
-#[derive(Clone, Copy)]
-pub struct HeapPage<'a> {
-    /// What texts and stacks take memory from.
-    pub alloc: Global,
-    /// What happened.
-    pub report: &'a Report<'a>,
-    /// The same as one object of JSON (RFC 8259).
-    pub run: &'a [u8],
-}
-
-impl<'a> HeapPage<'a> {
-    /// Writes the page, in ASCII but for the letters of names.
-    pub fn write<W: Write>(&self, out: &mut W, memory: &mut Flat) -> io::Result<()> {
+impl<'a> Document<'a> {
+    /// Writes it as a page, in ASCII but for the letters of names.
+    pub fn write_page<W: Write>(&self, out: &mut W, memory: &mut Flat) -> io::Result<()> {
         let mut data = Vec::new(self.alloc);
         self.write_data(&mut data, memory)?;
         write!(out, "{BEFORE_STYLE}{STYLE}{BEFORE_DATA}")?;
@@ -40,7 +43,7 @@ impl<'a> HeapPage<'a> {
     fn write_data<W: Write>(&self, out: &mut W, memory: &mut Flat) -> io::Result<()> {
         let (alloc, report) = (self.alloc, self.report);
         write!(out, "{{\"run\":")?;
-        out.write_all(self.run)?;
+        self.write_json(out, memory)?;
         let entries = shown_calls(alloc, report.book)?;
         let code = Code::of(alloc, report)?;
         let mut frames = FrameAddresses::new(alloc);

@@ -1,6 +1,6 @@
 //! The instructions of a page: each word once, and what each step did.
 
-use crate::step::StepText;
+use crate::heap_page::step::StepText;
 use a64_registers::Regs;
 use cxx_names::SymbolName;
 use instruction_trace::Instruction;
