@@ -2,7 +2,7 @@
 
 use crate::heap_page::step::StepText;
 use a64_registers::Regs;
-use cxx_names::SymbolName;
+use elf_symbols::SymbolName;
 use instruction_trace::Instruction;
 use mte_backtrace::{FrameAddresses, FrameName, Quoted, StackFrame};
 use mte_report::{Context, Report};

@@ -1,6 +1,6 @@
 //! The text of a tree.
 
-use crate::pieces::{NamePart, NamePiece};
+use crate::name_parts::{NamePart, NamePiece};
 use crate::questions::{base_name, has_right, pack_in, plain_type, resolve};
 use crate::rust_names::push;
 use arrayvec::{ArrayString, ArrayVec};

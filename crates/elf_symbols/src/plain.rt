@@ -5,28 +5,15 @@ use crate::rust_names::{push_all, write_legacy};
 use arrayvec::ArrayString;
 use cxx_tree::{NameReader, Parser};
 
-/// A name of C++ or Rust as its source has it: at most 4,096 bytes of ASCII.
-#[derive(Drop)]
-pub struct PlainName {
-    text: ArrayString<LONGEST>,
-}
-
-impl PlainName {
-    /// What a linker's name is in the source: as c++filt writes it, with the parameters of
-    /// functions. `None` of a name in another form, and of one that is too deep or too long.
-    pub fn of(name: &str) -> Option<PlainName> {
-        let mut reader = NameReader::new(name);
-        reader.expect("_Z")?;
-        let text = match write_legacy(name) {
-            Some(text) => text,
-            None => cxx_text(reader)?,
-        };
-        Some(PlainName { text })
-    }
-
-    /// The name.
-    pub fn as_str(&self) -> &str {
-        self.text.as_str()
+/// What a linker's name is in the source, at most 4,096 bytes of ASCII: as c++filt writes it, with
+/// the parameters of functions. `None` of a name in another form, and of one that is too deep or
+/// too long.
+pub(crate) fn plain_name(name: &str) -> Option<ArrayString<LONGEST>> {
+    let mut reader = NameReader::new(name);
+    reader.expect("_Z")?;
+    match write_legacy(name) {
+        Some(text) => Some(text),
+        None => cxx_text(reader),
     }
 }
 

@@ -1,10 +1,12 @@
 //! A symbol's name as it is shown.
 
-use crate::plain::PlainName;
+use crate::plain::plain_name;
+use crate::printer::LONGEST;
+use arrayvec::ArrayString;
 use std::fmt;
 
-/// A symbol's name, written as its source has it where that is known, and as the linker has it
-/// where not.
+/// A symbol's name, written as its source has it where that is known (C++, Rust in its legacy
+/// form), and as the linker has it where not.
 #[derive(Clone, Copy)]
 pub struct SymbolName<'a> {
     linked: &'a str,
@@ -20,7 +22,7 @@ impl<'a> SymbolName<'a> {
     pub fn shown(&self) -> ShownName<'a> {
         ShownName {
             linked: self.linked,
-            plain: PlainName::of(self.linked),
+            plain: plain_name(self.linked),
         }
     }
 }
@@ -36,7 +38,7 @@ impl<'a> fmt::Display for SymbolName<'a> {
 #[derive(Drop)]
 pub struct ShownName<'a> {
     linked: &'a str,
-    plain: Option<PlainName>,
+    plain: Option<ArrayString<LONGEST>>,
 }
 
 impl<'a> ShownName<'a> {
