@@ -2,7 +2,7 @@
 
 use crate::declaration::{Declaration, VariableName};
 use crate::search::VariableSearch;
-use debug_entries::DebugSections;
+use debug_info::DebugSections;
 use std::alloc::{AllocError, Global};
 
 /// What the place of a variable is counted from.
