@@ -1,7 +1,7 @@
 //! The chunks that pointers point into.
 
 use a64_bits::plain;
-use heap_functions::HeapFunction;
+use shadow_memory::HeapFunction;
 use std::alloc::{AllocError, Global};
 
 /// A chunk, live or freed.

@@ -1,6 +1,6 @@
 //! Where an image has the functions that make and free chunks.
 
-use crate::function::HeapFunction;
+use crate::heap_function::HeapFunction;
 use elf_sections::Sections;
 use std::alloc::{AllocError, Global};
 use std::str;

@@ -1,11 +1,11 @@
 //! Which function that makes or frees chunks runs.
 
-use crate::function::HeapFunction;
-use crate::table::FunctionTable;
+use crate::function_table::FunctionTable;
+use crate::heap_function::HeapFunction;
+use crate::step::Step;
 use a64_bits::plain;
 use a64_instr::Instr;
 use a64_registers::Regs;
-use shadow_memory::Step;
 use std::alloc::{AllocError, Global};
 
 /// A function that was called and has not returned.
