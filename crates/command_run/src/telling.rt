@@ -3,7 +3,6 @@
 use crate::core_dump::dump_core;
 use crate::lost::lost_chunks;
 use crate::map::draw_map;
-use check_kinds::Suppressions;
 use common::GRANULE_SIZE;
 use debuggee::CoreSubject;
 use heap_bounds::{Allocation, made_by};
@@ -16,7 +15,7 @@ use mte_tenant::Status;
 use pointer_provenance::LostChunk;
 use report_documents::Document;
 use run_request::{Run, RunRequest};
-use run_terms::{Exactness, Failure, FileFault, Options};
+use run_terms::{Exactness, Failure, FileFault, Options, Suppressions};
 use shadow_memory::Full;
 use std::alloc::{AllocError, Global};
 use std::fs::File;

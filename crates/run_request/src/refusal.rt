@@ -4,7 +4,7 @@ use mte_elf::ElfError;
 use mte_tenant::AdmitError;
 
 /// What follows the name of a refusal.
-pub fn remedy_of(error: AdmitError) -> &'static str {
+pub(crate) fn remedy_of(error: AdmitError) -> &'static str {
     match error {
         AdmitError::Image(error) => remedy_of_image(error),
         AdmitError::ReservationTooSmall => ": --pages gives it more",
