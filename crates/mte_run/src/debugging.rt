@@ -5,7 +5,7 @@ ghost use Rattle.std.specs.Prelude.{◌<◌};
 use common::{MAX_STEPS, Obstacle};
 use debuggee::{Cuts, Debuggee};
 use gdb_front::{Front, serve};
-use gdb_monitor::DebugSubject;
+use gdb_travel::DebugSubject;
 use mte_tenant::Admission;
 use run_request::{RunRequest, end_unadmitted, read_course, read_input, refuse};
 use run_terms::{Failure, Options, Replay};

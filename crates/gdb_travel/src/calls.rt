@@ -1,6 +1,6 @@
 //! The heap calls of a tenant.
 
-use gdb_travel::Traveller;
+use crate::traveller::Traveller;
 use heap_bounds::CallText;
 use mte_svc::AnsweredCall;
 use std::alloc::{AllocError, Global};
@@ -12,15 +12,15 @@ const TOLD: usize = 64;
 
 /// A heap call that was answered.
 #[derive(Clone, Copy)]
-pub struct Made {
+pub(crate) struct Made {
     /// Its number among the heap calls, from 1.
-    pub number: u64,
+    pub(crate) number: u64,
     /// The step that made it, from 1.
-    pub step: u64,
+    pub(crate) step: u64,
     /// The address of its SVC.
-    pub pc: u64,
+    pub(crate) pc: u64,
     /// The call.
-    pub call: AnsweredCall,
+    pub(crate) call: AnsweredCall,
 }
 
 impl fmt::Display for Made {
@@ -35,7 +35,7 @@ impl fmt::Display for Made {
 }
 
 /// The heap calls that a tenant has made, the oldest first: it runs anew for them.
-pub fn made_calls(alloc: Global, tenant: &Traveller<'_>) -> Result<Vec<Made>, AllocError> {
+pub(crate) fn made_calls(alloc: Global, tenant: &Traveller<'_>) -> Result<Vec<Made>, AllocError> {
     let mut all = Vec::new(alloc);
     let (mut past, steps) = tenant.past(alloc)?;
     for _ in 0..steps {
@@ -58,8 +58,9 @@ pub fn made_calls(alloc: Global, tenant: &Traveller<'_>) -> Result<Vec<Made>, Al
     Ok(all)
 }
 
-/// Writes the last calls, the oldest first.
-pub fn tell_calls<W: Write>(out: &mut W, calls: &[Made]) -> io::Result<()> {
+/// Writes the last heap calls that a tenant has made, the oldest first.
+pub fn tell_calls<W: Write>(alloc: Global, out: &mut W, tenant: &Traveller<'_>) -> io::Result<()> {
+    let calls = made_calls(alloc, tenant)?;
     if calls.is_empty() {
         return writeln!(out, "no heap calls yet");
     }

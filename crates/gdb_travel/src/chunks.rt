@@ -1,18 +1,31 @@
 //! The chunks that an address was in.
 
-use crate::calls::Made;
+use crate::calls::{Made, made_calls};
+use crate::traveller::Traveller;
 use a64_bits::plain;
-use gdb_travel::Traveller;
 use heap_bounds::{Allocation, freed_by, made_by};
+use std::alloc::Global;
 use std::io;
 use std::io::Write;
 
 /// How many granules are written before an address, and how many from it on.
 const AROUND: u64 = 8;
 
-/// Writes the chunks whose header or bytes an address was in, the oldest first.
-pub fn tell_chunks<W: Write>(out: &mut W, calls: &[Made], address: u64) -> io::Result<()> {
-    let address = plain(address);
+/// Writes the chunks whose header or bytes an address was in, the oldest first, and the tags of the
+/// granules around it.
+pub fn tell_chunks<W: Write>(
+    alloc: Global,
+    out: &mut W,
+    tenant: &mut Traveller<'_>,
+    address: u64,
+) -> io::Result<()> {
+    let calls = made_calls(alloc, tenant)?;
+    write_chunks(out, calls.as_slice(), plain(address))?;
+    tell_tags(out, tenant, address)
+}
+
+/// Writes the chunks whose header or bytes a plain address was in.
+fn write_chunks<W: Write>(out: &mut W, calls: &[Made], address: u64) -> io::Result<()> {
     let mut is_told = false;
     for (index, made) in calls.iter().enumerate() {
         if let Some(chunk) = made_by(&made.call).filter(|chunk| is_in(chunk, address)) {
@@ -70,11 +83,7 @@ fn tell_distance<W: Write>(out: &mut W, start: u64, address: u64) -> io::Result<
 }
 
 /// Writes the tags of the granules around an address, its own granule's in brackets.
-pub fn tell_tags<W: Write>(
-    out: &mut W,
-    tenant: &mut Traveller<'_>,
-    address: u64,
-) -> io::Result<()> {
+fn tell_tags<W: Write>(out: &mut W, tenant: &mut Traveller<'_>, address: u64) -> io::Result<()> {
     let own = plain(address) / 16;
     let first = own.saturating_sub(AROUND);
     write!(out, "tags from {:#018x}:", first.saturating_mul(16))?;

@@ -1,8 +1,8 @@
 //! Why a tenant ended.
 
+use crate::traveller::Traveller;
 use circular_buffer::HeapCircularBuffer;
 use debuggee::Debuggee;
-use gdb_travel::Traveller;
 use mte_backtrace::Names;
 use mte_report::{Book, Moment, Report};
 use mte_tenant::{Status, TenantParts};
