@@ -21,7 +21,7 @@ use mte_backtrace::{FrameAddresses, FrameNames};
 use mte_flat::Flat;
 use mte_report::{Context, Report};
 use rows::write_rows;
-use run_book::BookEntry;
+use run_records::BookEntry;
 use script::SCRIPT;
 use std::alloc::Global;
 use std::io;

@@ -10,7 +10,7 @@ use mte_svc::{FREE, Record, Status};
 use mte_tags::{FaultKind, MemFault, tag_of};
 use named_places::{PlaceKind, PlaceMisuse, PlaceMisuseKind, PlaceText};
 use pointer_provenance::{Misuse, MisuseKind};
-use run_book::{Book, BookChunk, BookEntry, Bytes, ChunkQuery};
+use run_records::{Book, BookChunk, BookEntry, Bytes, ChunkQuery};
 use scudo_heap::HeapCall;
 use shadow_memory::HeapFunction;
 use std::fmt;

@@ -3,10 +3,9 @@
 use a64_registers::Regs;
 use circular_buffer::HeapCircularBuffer;
 use heap_bounds::{Block, CallText};
-use instruction_trace::Moment;
 use mte_backtrace::{FrameAddresses, Quoted};
 use mte_report::{Context, Report};
-use run_book::{Book, BookChunk, BookEntry};
+use run_records::{Book, BookChunk, BookEntry, Moment};
 use std::alloc::{AllocError, Global};
 use std::collections::BTreeMap;
 use std::io;

@@ -3,9 +3,9 @@
 use crate::heap_page::step::StepText;
 use a64_registers::Regs;
 use elf_symbols::SymbolName;
-use instruction_trace::Instruction;
 use mte_backtrace::{FrameAddresses, FrameName, Quoted, StackFrame};
 use mte_report::{Context, Report};
+use run_records::Instruction;
 use std::alloc::{AllocError, Global};
 use std::collections::BTreeMap;
 use std::fmt::Display;

@@ -4,7 +4,7 @@ use a64_bits::plain;
 use common::GRANULE_SIZE;
 use mte_flat::Flat;
 use mte_report::Report;
-use run_book::BookEntry;
+use run_records::BookEntry;
 use std::alloc::{AllocError, Global};
 use std::collections::BTreeMap;
 use std::io;

@@ -4,7 +4,7 @@ use a64_access::{AccessForm, StoredTags};
 use a64_decode::decode;
 use a64_instr::Instr;
 use a64_registers::Regs;
-use instruction_trace::{Moment, Nzcv};
+use run_records::{Moment, Nzcv};
 use std::fmt;
 
 /// A step: the index of its word; the registers that it changed, as `x8=f0`, `sp=3ffffff0`,

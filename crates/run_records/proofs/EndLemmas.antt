@@ -6,8 +6,8 @@ use Rattle.std.specs.List.{slice_get}
 use Rattle.std.proofs.Math.ListN.{drop_of_length-le}
 use Rattle.std.proofs.lemmas.Option.{slice_get_within, slice_get_cases}
 use Rattle.heap_bounds.specs.Chunks.{ended_chunk}
-use Rattle.run_book.specs.declared.book.BookEntry.{BookEntry}
-use Rattle.run_book.specs.Ends.{is_at, ending_call}
+use Rattle.run_records.specs.declared.book.BookEntry.{BookEntry}
+use Rattle.run_records.specs.Ends.{is_at, ending_call}
 
 next_entry : (n : ℕ) (es : List BookEntry) (e : BookEntry) → slice_get es n ≡ Some e → drop n es ≡ e ∷ drop (suc n) es
 next_entry n es e h = drop-cons es n e (slice_get_within es n e h) ∙ ap (λ x. x ∷ drop (suc n) es) (get_or_from_slice_get es n e e h)

@@ -2,7 +2,7 @@
 use Rattle.std.proofs.Common.{◌≡◌, ◌∙◌, ◌-◌, List, [], ◌∷◌, Some, None, length, ap, arith, refl}
 use Rattle.std.specs.List.{slice_get}
 use Rattle.mte_svc.specs.declared.calls.AnsweredCall.{AnsweredCall}
-use Rattle.run_book.specs.Books.{last_or}
+use Rattle.run_records.specs.Books.{last_or}
 
 last_behind : (call : AnsweredCall) (later : List AnsweredCall)
     → last_or (Some call) later ≡ slice_get (call ∷ later) (length later)

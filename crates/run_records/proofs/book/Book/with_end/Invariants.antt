@@ -1,6 +1,6 @@
 use Rattle.std.proofs.Common.{◌≡◌, ◌-◌, drop, length}
-use Rattle.run_book.specs.Ends.{ending_call}
-use Rattle.run_book.proofs.book.Book.with_end.Given as goal
+use Rattle.run_records.specs.Ends.{ending_call}
+use Rattle.run_records.proofs.book.Book.with_end.Given as goal
 
 abbrev pub decreases-loop-entry : goal.decreases-loop-entry
 decreases-loop-entry l = length l.self.entries.items - l.next

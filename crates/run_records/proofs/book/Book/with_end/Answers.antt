@@ -1,12 +1,12 @@
 use Rattle.std.proofs.Common.{rules, arith, ◌≡◌, ◌∙◌, ◌<◌, drop, ap, sym, Some, None, Option, length, true, false, nat_eq}
 use Rattle.std.specs.List.{slice_get}
 use Rattle.std.specs.Option.{option_eq}
-use Rattle.run_book.specs.declared.book.BookChunk.{BookChunk}
-use Rattle.run_book.specs.declared.book.BookEntry.{BookEntry}
-use Rattle.run_book.specs.Ends.{is_at, ending_call}
+use Rattle.run_records.specs.declared.book.BookChunk.{BookChunk}
+use Rattle.run_records.specs.declared.book.BookEntry.{BookEntry}
+use Rattle.run_records.specs.Ends.{is_at, ending_call}
 use Rattle.heap_bounds.specs.Chunks.{ended_chunk}
-use Rattle.run_book.proofs.EndLemmas.{passed_over, is_found, none_left, within}
-use Rattle.run_book.proofs.book.Book.with_end.Goals as goal
+use Rattle.run_records.proofs.EndLemmas.{passed_over, is_found, none_left, within}
+use Rattle.run_records.proofs.book.Book.with_end.Goals as goal
 
 pub returns-then-eq : goal.returns-then-eq
 returns-then-eq c =

@@ -3,8 +3,8 @@
 ghost use Rattle.std.specs.Prelude.{◌≡◌, ◌≢◌, [], drop, option_map, IfOk, IfSome, None};
 ghost use Rattle.a64_bits.specs.Addresses.{plain};
 ghost use Rattle.heap_bounds.specs.Chunks.{returned_chunk, ended_chunk};
-ghost use Rattle.run_book.specs.Ends.{new_chunk, with_ending};
-ghost use Rattle.run_book.specs.Books.{seen_by, entries_of, room_of, newest_call, IsEntered};
+ghost use Rattle.run_records.specs.Ends.{new_chunk, with_ending};
+ghost use Rattle.run_records.specs.Books.{seen_by, entries_of, room_of, newest_call, IsEntered};
 
 use a64_bits::plain;
 use circular_buffer::HeapCircularBuffer;

@@ -5,8 +5,8 @@ use Rattle.mte_backtrace.specs.declared.callers.Callers.{Callers}
 use Rattle.mte_svc.specs.declared.calls.AnsweredCall.{AnsweredCall}
 use Rattle.mte_svc.specs.declared.parts.TenantParts.{TenantParts}
 use Rattle.mte_svc.specs.Calls.{Calls}
-use Rattle.run_book.specs.declared.book.Book.{Book}
-use Rattle.run_book.specs.declared.book.BookEntry.{BookEntry}
+use Rattle.run_records.specs.declared.book.Book.{Book}
+use Rattle.run_records.specs.declared.book.BookEntry.{BookEntry}
 
 -- How many heap calls there were when the book was last shown a record.
 abbrev pub seen_by : Book → ℕ

@@ -5,8 +5,8 @@ use Rattle.std.specs.Option.{option_eq}
 use Rattle.a64_bits.specs.Addresses.{plain}
 use Rattle.heap_bounds.specs.declared.calls.Allocation.{Allocation}
 use Rattle.heap_bounds.specs.Chunks.{ended_chunk}
-use Rattle.run_book.specs.declared.book.BookEntry.{BookEntry}
-use Rattle.run_book.specs.declared.book.BookChunk.{BookChunk}
+use Rattle.run_records.specs.declared.book.BookEntry.{BookEntry}
+use Rattle.run_records.specs.declared.book.BookChunk.{BookChunk}
 
 -- The chunk of an allocation, of which nothing has become yet.
 abbrev pub new_chunk : BookEntry → Allocation → BookChunk
