@@ -5,7 +5,7 @@ use shadow_memory::HeapFunction;
 use std::alloc::{AllocError, Global};
 
 /// A chunk, live or freed.
-#[derive(Clone, Copy, Debug, PartialEq, Eq)]
+#[derive(Clone, Copy, PartialEq, Eq)]
 pub struct TracedChunk {
     /// The number of the heap call that made it, from 1.
     pub number: u64,

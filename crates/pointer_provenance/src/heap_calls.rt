@@ -7,7 +7,7 @@ use a64_registers::Regs;
 use shadow_memory::{AccessedBytes, Full, PointerOrigin, Provenance, ReturnedChunk};
 
 /// What a heap call that was answered did to chunks.
-#[derive(Clone, Copy, Debug, PartialEq, Eq)]
+#[derive(Clone, Copy, PartialEq, Eq)]
 pub struct ChunkChange {
     /// The call's number, from 1.
     pub number: u64,

@@ -29,7 +29,7 @@ pub enum MisuseKind {
 }
 
 /// A use of a pointer that its chunk does not allow.
-#[derive(Clone, Copy, Debug, PartialEq, Eq)]
+#[derive(Clone, Copy, PartialEq, Eq)]
 pub struct Misuse {
     /// What is wrong.
     pub kind: MisuseKind,

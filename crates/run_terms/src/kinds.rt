@@ -1,7 +1,7 @@
 //! What of a tenant is checked.
 
 /// A kind of what is checked.
-#[derive(Clone, Copy, Debug, PartialEq, Eq)]
+#[derive(Clone, Copy, PartialEq, Eq)]
 pub enum CheckKind {
     /// Accesses, by where their pointer came from.
     Provenance,
@@ -45,7 +45,7 @@ impl CheckKind {
 }
 
 /// Which kinds are checked.
-#[derive(Clone, Copy, Debug, PartialEq, Eq)]
+#[derive(Clone, Copy, PartialEq, Eq)]
 pub struct CheckKinds {
     /// Accesses, by where their pointer came from.
     pub provenance: bool,

@@ -9,7 +9,7 @@ use std::fmt;
 const ANY: &str = "*";
 
 /// What of a line is wrong.
-#[derive(Clone, Copy, Debug, PartialEq, Eq)]
+#[derive(Clone, Copy, PartialEq, Eq)]
 pub enum LineFault {
     /// There are fewer than three words.
     Short,
@@ -18,7 +18,7 @@ pub enum LineFault {
 }
 
 /// A line that is none.
-#[derive(Clone, Copy, Debug, PartialEq, Eq)]
+#[derive(Clone, Copy, PartialEq, Eq)]
 pub struct SuppressionFault {
     /// The line's number, from 1.
     pub line: u64,

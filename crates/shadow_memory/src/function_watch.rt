@@ -20,7 +20,7 @@ struct ActiveFunction {
 }
 
 /// A chunk that a function returned.
-#[derive(Clone, Copy, Debug, PartialEq, Eq)]
+#[derive(Clone, Copy, PartialEq, Eq)]
 pub struct ReturnedChunk {
     /// The function.
     pub function: HeapFunction,

@@ -1,7 +1,7 @@
 //! The functions of C and C++ that make and free chunks.
 
 /// A function of C or C++ that makes or frees chunks.
-#[derive(Clone, Copy, Debug, PartialEq, Eq)]
+#[derive(Clone, Copy, PartialEq, Eq)]
 pub enum HeapFunction {
     /// `malloc`, and those of C that make chunks as it does.
     Malloc,
