@@ -97,7 +97,7 @@ def test_a_page_needs_no_network(long: pathlib.Path) -> None:
         assert found
         digest = hashlib.sha256(found[1].encode()).digest()
         total = f"{kind}-src 'sha256-{base64.b64encode(digest).decode()}'"
-        assert total in policy[1], f"crates/heap_page/src/frame.rt should have {total}"
+        assert total in policy[1], f"heap_page/frame.rt of report_documents should have {total}"
 
 
 def test_a_page_has_what_json_has(alone: pathlib.Path, long: pathlib.Path) -> None:

@@ -35,7 +35,7 @@ def source(path: str) -> str:
 
 def constant(file: str, name: str) -> int:
     """The number of a constant of the one source file of this name that has it."""
-    texts = (source(it) for it in files(rf"crates/\w+/src/{file}\.rt"))
+    texts = (source(it) for it in files(rf"crates/\w+/src/(?:\w+/)?{file}\.rt"))
     found = [it for text in texts for it in re.findall(rf"\bconst {name}: \w+ = ([\d_]+)", text)]
     assert len(found) == 1, f"{file}.rt: {name}: {found}"
     return int(found[0])

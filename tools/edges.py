@@ -16,7 +16,6 @@ ROOT = pathlib.Path(__file__).resolve().parent.parent
 # Edges that no file names, by why they are there.
 KNOWN: dict[tuple[str, str], str] = {
     ("run_request", "mte_flat"): "its contracts name the memory of a tenant that is alone",
-    ("heap_page", "mte_tags"): "it reads the tag of the registers' generator",
 }
 
 

@@ -46,7 +46,7 @@ SUITES = {
 }
 PROGRAMS = (*SUITES, "disassemble", "libtombolopan_c.a")
 # The crates whose bodies another program than mte_run shows.
-SHOWN_BY = {"mte_host": "mte_host", "mte_split": "mte_split", "session_split": "mte_split"}
+SHOWN_BY = {"mte_host": "mte_host", "mte_split": "mte_split"}
 
 
 @dataclass(frozen=True)

@@ -9,7 +9,7 @@ from tests.support.checkout import copy_files
 from tests.support.places import ROOT
 
 FOLDERS = ("isa/", "tools/", "docs/", "crates/a64_", "crates/core_tests/",
-           "crates/instruction_trace/", "crates/traced_run/", "crates/run_cause/")
+           "crates/run_records/", "crates/traced_run/", "crates/run_cause/")
 
 
 class AlteredIsa:

@@ -7,7 +7,7 @@ from a64 import layout
 from a64.table import Row, Rows
 
 PATH = "crates/a64_access/src/rows.rt"
-WRITTEN = "crates/instruction_trace/src/written.rt"
+WRITTEN = "crates/run_records/src/written.rt"
 
 # The field that is 0 of a store, by the function that gives the form of an access; none where each
 # is a store.

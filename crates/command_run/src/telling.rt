@@ -3,11 +3,9 @@
 use crate::core_dump::dump_core;
 use crate::lost::lost_chunks;
 use crate::map::draw_map;
-use check_kinds::Suppressions;
 use common::GRANULE_SIZE;
 use debuggee::CoreSubject;
 use heap_bounds::{Allocation, made_by};
-use heap_page::HeapPage;
 use mte_backtrace::Names;
 use mte_flat::Flat;
 use mte_report::Report;
@@ -17,7 +15,7 @@ use mte_tenant::Status;
 use pointer_provenance::LostChunk;
 use report_documents::Document;
 use run_request::{Run, RunRequest};
-use run_terms::{Exactness, Failure, FileFault, Options};
+use run_terms::{Exactness, Failure, FileFault, Options, Suppressions};
 use shadow_memory::Full;
 use std::alloc::{AllocError, Global};
 use std::fs::File;
@@ -284,20 +282,8 @@ fn write_document(
     match form {
         DocumentForm::Json => document.write_json(&mut out, memory),
         DocumentForm::Sarif => document.write_sarif(&mut out, memory),
-        DocumentForm::Page => write_page(document, &mut out, memory),
+        DocumentForm::Page => document.write_page(&mut out, memory),
     }
-}
-
-/// Writes a page for browsers, with what is written for programs in it.
-fn write_page<W: Write>(document: &Document<'_>, out: &mut W, memory: &mut Flat) -> io::Result<()> {
-    let mut run = Vec::new(document.alloc);
-    document.write_json(&mut run, memory)?;
-    let page = HeapPage {
-        alloc: document.alloc,
-        report: document.report,
-        run: run.as_slice(),
-    };
-    page.write(out, memory)
 }
 
 /// Writes what no tag finds, on standard error, of a tenant that exited and had chunks whose last

@@ -1,6 +1,8 @@
 //! What an entry says, as far as inlined calls need it (DWARF 5, 7.5.4).
 
-use debug_entries::{Abbreviation, AttributeValue, Budget};
+use crate::abbreviation::Abbreviation;
+use crate::budget::Budget;
+use crate::value::AttributeValue;
 use debug_lines::Reader;
 
 /// The attributes of an entry: one that it doesn't have is `AttributeValue::Other`.

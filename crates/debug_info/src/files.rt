@@ -1,6 +1,6 @@
 //! The files of a unit, of which some are kept.
 
-use debug_entries::Budget;
+use crate::budget::Budget;
 use debug_lines::{FileLine, UnitFiles};
 
 /// How many files are kept.

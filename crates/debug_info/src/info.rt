@@ -1,12 +1,16 @@
 //! What compilers write of an image's functions.
 
+use crate::abbreviations::Abbreviations;
+use crate::budget::Budget;
 use crate::calls::{DEEPEST, InlinedCalls};
 use crate::entry::Entry;
 use crate::files::KnownFiles;
 use crate::origin::UnitView;
 use crate::scope::Scope;
 use crate::search::Search;
-use debug_entries::{Abbreviations, Budget, CompilationUnit, DebugSections, UnitBytes, number};
+use crate::sections::DebugSections;
+use crate::unit::{CompilationUnit, UnitBytes};
+use crate::value::number;
 use debug_lines::{DebugLines, UnitFiles};
 use std::alloc::{AllocError, Global};
 

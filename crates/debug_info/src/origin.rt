@@ -1,11 +1,12 @@
 //! The names of functions, which other entries than the call's may have (DWARF 5, 3.3.8.2).
 
+use crate::abbreviations::{Abbreviations, find_abbreviation};
+use crate::budget::Budget;
 use crate::entry::Entry;
 use crate::scope::Scope;
-use debug_entries::{
-    Abbreviations, AttributeValue, Budget, CompilationUnit, DebugSections, UnitBytes,
-    find_abbreviation, number,
-};
+use crate::sections::DebugSections;
+use crate::unit::{CompilationUnit, UnitBytes};
+use crate::value::{AttributeValue, number};
 use debug_lines::Reader;
 
 /// How many entries are looked at behind the first.

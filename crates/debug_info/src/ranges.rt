@@ -2,7 +2,8 @@
 
 use crate::entry::Entry;
 use crate::scope::Scope;
-use debug_entries::{AttributeValue, element_at, number, reader_at};
+use crate::sections::{element_at, reader_at};
+use crate::value::{AttributeValue, number};
 use debug_lines::Reader;
 
 /// What says in `.debug_ranges` that an address follows, from which the next ranges go out.

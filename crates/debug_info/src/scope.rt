@@ -1,7 +1,8 @@
 //! What a unit's values mean: where its addresses, texts and lists of ranges stand.
 
 use crate::entry::Entry;
-use debug_entries::{AttributeValue, DebugSections};
+use crate::sections::DebugSections;
+use crate::value::AttributeValue;
 
 /// The most bytes of a name, with the 0 behind it.
 const LONGEST: usize = 80;

@@ -1,11 +1,13 @@
 //! The search for the inlined calls at some addresses.
 
+use crate::abbreviation::Abbreviation;
+use crate::budget::Budget;
 use crate::calls::{DEEPEST, InlinedCall, InlinedCalls, NestedCall};
 use crate::entry::Entry;
 use crate::files::KnownFiles;
 use crate::origin::UnitView;
 use crate::ranges::{AddressRange, Ranges};
-use debug_entries::{Abbreviation, Budget, number};
+use crate::value::number;
 use debug_lines::{FileLine, Reader};
 
 /// DW_TAG_inlined_subroutine.

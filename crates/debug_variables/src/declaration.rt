@@ -6,7 +6,7 @@ use std::{fmt, str};
 const LONGEST: usize = 40;
 
 /// The name of a variable: as many of its first bytes as are kept.
-#[derive(Clone, Copy, Debug, PartialEq, Eq)]
+#[derive(Clone, Copy, PartialEq, Eq)]
 pub struct VariableName {
     bytes: [u8; LONGEST],
     count: usize,
@@ -49,7 +49,7 @@ impl fmt::Display for VariableName {
 }
 
 /// Where a variable is declared.
-#[derive(Clone, Copy, Debug, PartialEq, Eq)]
+#[derive(Clone, Copy, PartialEq, Eq)]
 pub struct Declaration {
     /// The offset of its unit in `.debug_line`.
     pub unit: u64,

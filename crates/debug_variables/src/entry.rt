@@ -1,6 +1,6 @@
 //! What an entry says, as far as variables need it (DWARF 5, 7.5.4).
 
-use debug_entries::{Abbreviation, AttributeValue, Budget};
+use debug_info::{Abbreviation, AttributeValue, Budget};
 use debug_lines::Reader;
 
 /// The attributes of an entry: one that it doesn't have is `AttributeValue::Other`.

@@ -2,11 +2,11 @@
 
 use crate::declaration::{Declaration, VariableName};
 use crate::search::VariableSearch;
-use debug_entries::DebugSections;
+use debug_info::DebugSections;
 use std::alloc::{AllocError, Global};
 
 /// What the place of a variable is counted from.
-#[derive(Clone, Copy, Debug, PartialEq, Eq, PartialOrd, Ord)]
+#[derive(Clone, Copy, PartialEq, Eq, PartialOrd, Ord)]
 pub enum FrameBase {
     /// SP when the function was called.
     Caller,
@@ -24,7 +24,7 @@ const BASES: [FrameBase; 3] = [
 ];
 
 /// The values of the bases of a function that runs.
-#[derive(Clone, Copy, Debug, PartialEq, Eq)]
+#[derive(Clone, Copy, PartialEq, Eq)]
 pub struct FrameBases {
     /// SP when it was called.
     pub caller: u64,
@@ -46,7 +46,7 @@ impl FrameBases {
 }
 
 /// A variable, and its address while its function runs.
-#[derive(Clone, Copy, Debug, PartialEq, Eq)]
+#[derive(Clone, Copy, PartialEq, Eq)]
 pub struct PlacedVariable {
     /// The variable.
     pub variable: FrameVariable,
@@ -57,7 +57,7 @@ pub struct PlacedVariable {
 }
 
 /// A function of an image.
-#[derive(Clone, Copy, Debug, PartialEq, Eq)]
+#[derive(Clone, Copy, PartialEq, Eq)]
 pub struct FrameFunction {
     /// Its first address.
     pub low: u64,
@@ -73,7 +73,7 @@ pub struct FrameFunction {
 }
 
 /// A variable in the frame of a function, or several that share its bytes.
-#[derive(Clone, Copy, Debug, PartialEq, Eq)]
+#[derive(Clone, Copy, PartialEq, Eq)]
 pub struct FrameVariable {
     /// The function, by its place among those that were found.
     pub(crate) function: usize,
@@ -136,7 +136,7 @@ pub struct DeclaredObject {
 }
 
 /// What ends where a variable begins. A pointer to its start may be one to the end of that.
-#[derive(Clone, Copy, Debug, PartialEq, Eq)]
+#[derive(Clone, Copy, PartialEq, Eq)]
 pub enum Neighbor {
     /// Nothing that is known.
     Nothing,

@@ -24,7 +24,7 @@ const LONGEST: usize = 80;
 const MOST: usize = 65_536;
 
 /// A variable of an image.
-#[derive(Clone, Copy, Debug, PartialEq, Eq)]
+#[derive(Clone, Copy, PartialEq, Eq)]
 pub struct ImageObject {
     /// Its address.
     pub start: u64,

@@ -4,7 +4,7 @@ use crate::declaration::{Declaration, VariableName};
 use crate::entry::VariableEntry;
 use crate::frame_table::{DeclaredObject, FrameBase, FrameFunction, FrameVariable};
 use crate::types::{TypeSize, UnitTypes};
-use debug_entries::{
+use debug_info::{
     Abbreviation, Abbreviations, AttributeValue, Budget, CompilationUnit, DebugSections, UnitBytes,
     number,
 };

@@ -1,7 +1,7 @@
 //! How many bytes a type has, by its entries (DWARF 5, 5.1 to 5.15).
 
 use crate::entry::VariableEntry;
-use debug_entries::{Abbreviations, Budget, CompilationUnit, number};
+use debug_info::{Abbreviations, Budget, CompilationUnit, number};
 use debug_lines::Reader;
 
 /// How many types are followed, as a typedef's and an array's.

@@ -15,14 +15,13 @@ use crate::watched::{Hit, Watched, Watchpoint};
 use a64_run::OpCache;
 use a64_step::{Decoder, Regs};
 use common::Obstacle;
-use instruction_trace::Moment;
 use mte_flat::Flat;
 use mte_tags::TagMode;
 use mte_tenant::{
     Admission, AdmitError, TenantParts, admit_alone, attempt, is_bad_reservation, settle, slice,
 };
-use run_book::Book;
 use run_cause::StoreWatch;
+use run_records::{Book, Moment};
 use std::alloc::{AllocError, Global};
 
 /// A tenant alone, which attempts its instructions one at a time, or a slice at a time, and can

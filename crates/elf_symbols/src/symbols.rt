@@ -3,7 +3,7 @@
 //! names.
 
 use crate::pieces::{Piece, Rank, Sweep, SymbolRank};
-use cxx_names::SymbolName;
+use crate::symbol_name::SymbolName;
 use elf_sections::{Sections, double_word, half, word};
 use std::alloc::{AllocError, Global};
 use std::{fmt, str};

@@ -5,9 +5,8 @@ use crate::registers::TargetRegisters;
 use crate::reply::Reply;
 use crate::text::TextBuffer;
 use debuggee::Debuggee;
-use gdb_monitor::DebugSubject;
 use gdb_packets::{Command, parse_command};
-use gdb_travel::{Points, StopReason, Traveller};
+use gdb_travel::{DebugSubject, Points, StopReason, Traveller};
 use std::alloc::Global;
 
 /// A tenant, and what GDB knows of it.

@@ -2,9 +2,8 @@
 
 use crate::front::Front;
 use crate::reply::Reply;
-use gdb_monitor::{made_calls, tell_calls, tell_chunks, tell_tags, tell_why};
 use gdb_packets::{read_hex, read_number};
-use gdb_travel::StopReason;
+use gdb_travel::{StopReason, tell_calls, tell_chunks, tell_why};
 use std::alloc::Global;
 use std::io;
 use std::io::Write;
@@ -87,15 +86,8 @@ impl Front<'_> {
     ) -> io::Result<()> {
         match request {
             UserRequest::Why => tell_why(alloc, out, &self.tenant, &self.subject),
-            UserRequest::Calls => {
-                let calls = made_calls(alloc, &self.tenant)?;
-                tell_calls(out, calls.as_slice())
-            }
-            UserRequest::Chunk(address) => {
-                let calls = made_calls(alloc, &self.tenant)?;
-                tell_chunks(out, calls.as_slice(), address)?;
-                tell_tags(out, &mut self.tenant, address)
-            }
+            UserRequest::Calls => tell_calls(alloc, out, &self.tenant),
+            UserRequest::Chunk(address) => tell_chunks(alloc, out, &mut self.tenant, address),
             UserRequest::Step => writeln!(out, "{}", self.tenant.position()),
             UserRequest::GoTo(_) | UserRequest::Help => {
                 writeln!(out, "why | calls | chunk 0xADDRESS | step | goto STEP")?;

@@ -3,10 +3,9 @@
 
 ghost use Rattle.std.specs.Iterator.{at_most};
 
-use cxx_names::SymbolName;
 use debug_info::{CallsAt, DEEPEST};
 use debug_lines::SourceLine;
-use elf_symbols::SymbolOffset;
+use elf_symbols::{SymbolName, SymbolOffset};
 use std::fmt;
 
 /// What a frame is called.

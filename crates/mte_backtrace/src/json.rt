@@ -3,9 +3,8 @@
 use crate::call_stack::CallStack;
 use crate::frames::{FrameName, FramesAt, StackFrame};
 use crate::names::FrameNames;
-use cxx_names::SymbolName;
 use debug_lines::SourceLine;
-use elf_symbols::SymbolOffset;
+use elf_symbols::{SymbolName, SymbolOffset};
 use std::io::Write;
 use std::{fmt, io};
 

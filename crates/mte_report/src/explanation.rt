@@ -1,11 +1,10 @@
 //! What is known of a tenant's end, and found out once for all that is written of it.
 
 use crate::report::Report;
-use instruction_trace::{Moment, push_turns};
 use mte_backtrace::{CallStack, FrameAddresses, FrameNames};
 use mte_flat::Flat;
-use run_book::BookEntry;
 use run_cause::{Cause, Finding, LastStore, branch_in};
+use run_records::{BookEntry, Moment, push_turns};
 use std::alloc::{AllocError, Global};
 
 /// What is known of a tenant's end.

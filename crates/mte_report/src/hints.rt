@@ -2,10 +2,9 @@
 
 use crate::context::Context;
 use circular_buffer::HeapCircularBuffer;
-use instruction_trace::{Instruction, Moment};
 use mte_backtrace::FrameNames;
-use run_book::{BookEntry, EntryText};
 use run_cause::{Cause, LastStore, TargetLoad, branch_in};
+use run_records::{BookEntry, EntryText, Instruction, Moment};
 use std::io;
 use std::io::Write;
 

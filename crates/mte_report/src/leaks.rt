@@ -2,11 +2,11 @@
 
 use crate::context::Context;
 use crate::report::Report;
-use check_kinds::{CheckKind, Suppressions};
 use mte_backtrace::{FrameAddresses, FrameNames};
 use pointer_provenance::LostChunk;
-use run_book::{BookChunk, BookEntry, Bytes, Count};
 use run_cause::is_hidden;
+use run_records::{BookChunk, BookEntry, Bytes, Count};
+use run_terms::{CheckKind, Suppressions};
 use std::alloc::{AllocError, Global};
 use std::io;
 use std::io::Write;

@@ -13,8 +13,5 @@ mod story;
 
 pub use context::Context;
 pub use explanation::Explanation;
-pub use instruction_trace::{Moment, SVC, Service, Statistics, StatisticsTable, TraceLine, Turn};
 pub use report::Report;
-pub use run_book::Book;
-pub use run_cause::{Exact, Finding, LastStore};
 pub use tenant_map::PictureForm;

@@ -8,15 +8,17 @@ use a64_registers::Regs;
 use circular_buffer::HeapCircularBuffer;
 use elf_symbols::SymbolOffset;
 use heap_bounds::RangeUse;
-use instruction_trace::{Instruction, Moment, Nzcv, StatisticsTable, TraceLine, Turn, tell_turns};
 use mte_backtrace::{FrameNames, Names};
 use mte_flat::Flat;
 use mte_svc::{Status, TenantParts};
 use mte_tags::{FaultKind, MemFault, Tagged};
-use run_book::{Book, Bytes, ChunkOwner, ChunkQuery};
 use run_cause::{
     Cause, Evidence, Finding, ForbiddenAccess, LastStore, Violation, abort_words, breakpoint_words,
     family_of, fault_words, is_undefined,
+};
+use run_records::{
+    Book, Bytes, ChunkOwner, ChunkQuery, Instruction, Moment, Nzcv, StatisticsTable, TraceLine,
+    Turn, tell_turns,
 };
 use scudo_heap::HeapAbort;
 use std::alloc::Global;

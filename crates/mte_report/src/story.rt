@@ -5,7 +5,7 @@ use crate::report::Report;
 use mte_backtrace::{FrameNames, StackFrame};
 use mte_flat::Flat;
 use mte_svc::Status;
-use run_book::BookEntry;
+use run_records::BookEntry;
 use std::alloc::{AllocError, Global};
 use std::fmt;
 

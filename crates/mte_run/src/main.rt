@@ -1,8 +1,10 @@
-//! `mte_run [OPTIONS] ELF`: runs one tenant alone, and says why it ended.
+//! `mte_run [OPTIONS] ELF`: runs one tenant alone, and says why it ended, or lets GDB debug it.
 #![tactic(auto)]
 
+mod debugging;
+
 use command_run::run_program;
-use gdb_run::debug_program;
+use debugging::debug_program;
 use run_options::{EarlyEnd, read_command_line};
 use run_request::{RunRequest, read_files, read_suppressions};
 use run_terms::{Failure, Options, report};

@@ -24,7 +24,7 @@ pub enum PlaceMisuseKind {
 }
 
 /// A use of a pointer to a variable that the variable does not allow.
-#[derive(Clone, Copy, Debug, PartialEq, Eq)]
+#[derive(Clone, Copy, PartialEq, Eq)]
 pub struct PlaceMisuse {
     /// What is wrong.
     pub kind: PlaceMisuseKind,

@@ -4,7 +4,7 @@ use debug_variables::{Declaration, FrameBases, Neighbor, VariableName};
 use std::fmt;
 
 /// What a place is.
-#[derive(Clone, Copy, Debug, PartialEq, Eq)]
+#[derive(Clone, Copy, PartialEq, Eq)]
 pub enum PlaceKind {
     /// A page of the image, from which an address of it is made.
     Page,
@@ -17,7 +17,7 @@ pub enum PlaceKind {
 }
 
 /// What a place is called, and where it is.
-#[derive(Clone, Copy, Debug, PartialEq, Eq)]
+#[derive(Clone, Copy, PartialEq, Eq)]
 pub struct PlaceText {
     /// What it is.
     pub kind: PlaceKind,

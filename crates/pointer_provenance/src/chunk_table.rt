@@ -1,11 +1,11 @@
 //! The chunks that pointers point into.
 
 use a64_bits::plain;
-use heap_functions::HeapFunction;
+use shadow_memory::HeapFunction;
 use std::alloc::{AllocError, Global};
 
 /// A chunk, live or freed.
-#[derive(Clone, Copy, Debug, PartialEq, Eq)]
+#[derive(Clone, Copy, PartialEq, Eq)]
 pub struct TracedChunk {
     /// The number of the heap call that made it, from 1.
     pub number: u64,

@@ -4,11 +4,10 @@ use crate::chunk_table::TracedChunk;
 use crate::shadow::Shadow;
 use a64_bits::plain;
 use a64_registers::Regs;
-use heap_functions::ReturnedChunk;
-use shadow_memory::{AccessedBytes, Full, PointerOrigin, Provenance};
+use shadow_memory::{AccessedBytes, Full, PointerOrigin, Provenance, ReturnedChunk};
 
 /// What a heap call that was answered did to chunks.
-#[derive(Clone, Copy, Debug, PartialEq, Eq)]
+#[derive(Clone, Copy, PartialEq, Eq)]
 pub struct ChunkChange {
     /// The call's number, from 1.
     pub number: u64,

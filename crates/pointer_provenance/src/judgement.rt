@@ -6,8 +6,7 @@ use a64_access::{AccessForm, AddressingMode};
 use a64_bits::plain;
 use a64_instr::fields::RegisterOffset;
 use common::PAGE_SIZE;
-use heap_functions::HeapFunction;
-use shadow_memory::{AccessedBytes, OriginKind, PointerOrigin, Sign, Step};
+use shadow_memory::{AccessedBytes, HeapFunction, OriginKind, PointerOrigin, Sign, Step};
 use std::alloc::AllocError;
 
 /// What a pointer was used for that its chunk does not allow.
@@ -30,7 +29,7 @@ pub enum MisuseKind {
 }
 
 /// A use of a pointer that its chunk does not allow.
-#[derive(Clone, Copy, Debug, PartialEq, Eq)]
+#[derive(Clone, Copy, PartialEq, Eq)]
 pub struct Misuse {
     /// What is wrong.
     pub kind: MisuseKind,

@@ -8,7 +8,7 @@ use shadow_memory::{OriginKind, PointerOrigin};
 use std::alloc::{AllocError, Global};
 
 /// How a chunk is reached.
-#[derive(Clone, Copy, Debug, PartialEq, Eq)]
+#[derive(Clone, Copy, PartialEq, Eq)]
 pub enum Reach {
     /// By no pointer, or it was freed.
     Nothing,
@@ -21,7 +21,7 @@ pub enum Reach {
 }
 
 /// A range of plain addresses whose words are looked at.
-#[derive(Clone, Copy, Debug, PartialEq, Eq)]
+#[derive(Clone, Copy, PartialEq, Eq)]
 pub struct RootRange {
     /// The first address.
     pub start: u64,
@@ -38,7 +38,7 @@ pub struct ReachTable {
 }
 
 /// A live chunk that is not reached.
-#[derive(Clone, Copy, Debug, PartialEq, Eq)]
+#[derive(Clone, Copy, PartialEq, Eq)]
 pub struct LostChunk {
     /// The number of the heap call that made it.
     pub number: u64,

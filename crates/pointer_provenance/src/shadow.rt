@@ -12,7 +12,7 @@ use std::alloc::{AllocError, Global};
 const REGISTERS: usize = 31;
 
 /// Which of the origins of pointers are meant.
-#[derive(Clone, Copy, Debug, PartialEq, Eq)]
+#[derive(Clone, Copy, PartialEq, Eq)]
 pub enum Pointed {
     /// Chunks.
     Chunks,

@@ -3,14 +3,13 @@
 use crate::document::Document;
 use a64_registers::Regs;
 use heap_bounds::CallText;
-use instruction_trace::{Nzcv, Object};
 use mte_backtrace::Quoted;
 use mte_flat::Flat;
 use mte_report::{Context, Explanation, Report};
 use mte_svc::Status;
 use mte_tags::MemFault;
-use run_book::{BookChunk, BookEntry};
 use run_cause::{Cause, Finding};
+use run_records::{BookChunk, BookEntry, Nzcv, Object};
 use std::alloc::Global;
 use std::io::Write;
 use std::{fmt, io};

@@ -11,10 +11,7 @@ use a64_bits::plain;
 use a64_decode::decode;
 use a64_instr::Instr;
 use a64_registers::Regs;
-use check_kinds::CheckKinds;
 use heap_bounds::{Span, freed_by, made_by};
-use heap_functions::HeapFunctionWatch;
-use instruction_trace::{Moment, SVC};
 use mte_backtrace::Callers;
 use mte_svc::{
     AnsweredCall, CALLOC, EXIT, FREE, MALLOC, MEMALIGN, READ, REALLOC, TenantParts, USABLE_SIZE,
@@ -23,8 +20,10 @@ use mte_svc::{
 use mte_tags::Tagged;
 use named_places::{NamedPlaces, PlaceMisuse};
 use pointer_provenance::{ChunkChange, Misuse, Shadow, TracedChunk};
+use run_records::{Moment, SVC};
+use run_terms::CheckKinds;
 use scudo_heap::HeapCall;
-use shadow_memory::{AccessedBytes, Full, RegisterAccess, Step};
+use shadow_memory::{AccessedBytes, Full, HeapFunctionWatch, RegisterAccess, Step};
 use std::alloc::{AllocError, Global};
 use undefined_bits::{ArithmeticFault, ServiceArguments, UndefinedBits, UndefinedUse};
 

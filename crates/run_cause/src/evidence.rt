@@ -4,9 +4,8 @@ use a64_bits::plain;
 use a64_registers::Regs;
 use circular_buffer::HeapCircularBuffer;
 use common::{SECONDARY_END, STACK_START};
-use instruction_trace::Moment;
 use mte_tags::tag_of;
-use run_book::{Book, BookChunk, ChunkQuery};
+use run_records::{Book, BookChunk, ChunkQuery, Moment};
 
 /// How far from a chunk an access is still taken for one past its end or in front of it, and from
 /// the stack or from SP for one of the stack.

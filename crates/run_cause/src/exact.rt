@@ -7,10 +7,10 @@ use a64_bits::plain;
 use a64_registers::Regs;
 use common::{GRANULE_SIZE, REGIONS_START, SECONDARY_END};
 use heap_bounds::{Bounds, Span, span_of};
-use instruction_trace::Moment;
 use mte_backtrace::Callers;
 use mte_svc::{AnsweredCall, TenantParts};
 use mte_tags::Tagged;
+use run_records::Moment;
 use std::alloc::Global;
 
 /// An access to bytes of the heap that no live chunk has, or that its pointer's own chunk has not.

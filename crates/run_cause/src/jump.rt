@@ -8,10 +8,10 @@ use a64_decode::decode;
 use a64_instr::Instr;
 use circular_buffer::HeapCircularBuffer;
 use heap_bounds::span_of;
-use instruction_trace::Moment;
 use mte_backtrace::Callers;
 use mte_svc::{Status, TenantParts};
 use mte_tags::Tagged;
+use run_records::Moment;
 
 /// How many bytes an address has.
 const ADDRESS_SIZE: u64 = 8;

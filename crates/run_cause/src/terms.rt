@@ -1,9 +1,9 @@
 //! What of a tenant is checked, and what of it is not told.
 
-use check_kinds::{CheckKind, CheckKinds, Suppressions};
 use mte_backtrace::{
     CallStack, Callers, FrameAddresses, FrameName, FrameNames, FramesAt, Names, StackFrame,
 };
+use run_terms::{CheckKind, CheckKinds, Suppressions};
 use std::alloc::{AllocError, Global};
 
 /// What of a tenant of an image is checked, and what of it is not told.

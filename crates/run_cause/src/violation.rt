@@ -1,9 +1,9 @@
 //! What is wrong with an access, by what found it.
 
-use check_kinds::CheckKind;
 use heap_bounds::Trespass;
 use named_places::{PlaceMisuse, PlaceMisuseKind};
 use pointer_provenance::{Misuse, MisuseKind};
+use run_terms::CheckKind;
 use std::fmt;
 use undefined_bits::{ArithmeticFault, ArithmeticKind, UndefinedUse, UseKind};
 

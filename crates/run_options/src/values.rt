@@ -1,11 +1,12 @@
 //! The values of a command line that `clap` accepted.
 
 use crate::fault::{Fault, fault_of};
-use check_kinds::CheckKinds;
 use clap::ArgMatches;
 use common::Obstacle;
 use mte_tags::TagMode;
-use run_terms::{Exactness, Options, OutputOptions, Replay, RunLength, RunOptions, Traced};
+use run_terms::{
+    CheckKinds, Exactness, Options, OutputOptions, Replay, RunLength, RunOptions, Traced,
+};
 use std::alloc::{AllocError, Global};
 use tenant_terms::Terms;
 

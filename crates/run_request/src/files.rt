@@ -2,11 +2,10 @@
 
 use crate::session_course::SessionCourse;
 use crate::session_replay::events_of;
-use check_kinds::Suppressions;
 use common::Obstacle;
 use mte_program::StreamSource;
 use mte_session::read_whole;
-use run_terms::{Failure, FileFault, Options, Replay};
+use run_terms::{Failure, FileFault, Options, Replay, Suppressions};
 use std::fs::File;
 use std::str;
 

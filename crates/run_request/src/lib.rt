@@ -3,6 +3,7 @@
 #![tactic(auto)]
 
 mod files;
+mod refusal;
 mod replay;
 mod request;
 mod session_course;

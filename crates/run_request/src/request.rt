@@ -1,9 +1,8 @@
 //! What a command line requests, with the bytes of the files that it names.
 
-use check_kinds::Suppressions;
 use mte_session::file_of;
 use mte_tags::TagMode;
-use run_terms::Options;
+use run_terms::{Options, Suppressions};
 
 /// What a command line requests, with the bytes of the files that it names.
 #[derive(Clone, Copy)]

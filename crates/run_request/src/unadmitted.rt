@@ -1,11 +1,12 @@
 //! Why an image is refused, and why a session never admits a tenant.
 
+use crate::refusal::remedy_of;
 use crate::replay::decide;
 use common::Obstacle;
 use mte_sched::Host;
 use mte_session::Event;
 use mte_tenant::{AdmitError, Refusal, Terms, charge};
-use run_terms::{Failure, Replay, remedy_of};
+use run_terms::{Failure, Replay};
 use std::alloc::Global;
 use std::fmt;
 use tenant_run::REFUSED;

@@ -1,7 +1,7 @@
 //! Why the program has nothing to say of a tenant, or cannot.
 
+use crate::suppressions::SuppressionFault;
 use crate::wrong::WrongWord;
-use check_kinds::SuppressionFault;
 use common::{Obstacle, Printable};
 use mte_script::{ScriptError, ScriptFault};
 use mte_streams::{ReadFault, WriteFault};

@@ -3,12 +3,13 @@
 
 mod failure;
 mod form;
+mod kinds;
 mod options;
-mod refusal;
+mod suppressions;
 mod word;
 mod wrong;
 
 pub use failure::{Failure, FileFault, report};
+pub use kinds::{CheckKind, CheckKinds};
 pub use options::{Exactness, Options, OutputOptions, Replay, RunLength, RunOptions, Traced};
-pub use refusal::remedy_of;
-pub use wrong::WrongWord;
+pub use suppressions::Suppressions;

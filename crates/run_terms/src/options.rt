@@ -2,7 +2,7 @@
 
 ghost use Rattle.std.specs.Prelude.{◌<◌, ◌≤◌};
 
-use check_kinds::CheckKinds;
+use crate::kinds::CheckKinds;
 use tenant_terms::Terms;
 
 /// A tenant of a session.

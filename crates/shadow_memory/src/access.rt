@@ -4,7 +4,7 @@ use a64_access::AccessForm;
 use a64_registers::Regs;
 
 /// The bytes that an instruction loads or stores.
-#[derive(Clone, Copy, Debug, PartialEq, Eq)]
+#[derive(Clone, Copy, PartialEq, Eq)]
 pub struct RegisterAccess {
     /// The bytes of the first register.
     pub bytes: AccessedBytes,
@@ -35,7 +35,7 @@ impl RegisterAccess {
 }
 
 /// Bytes that are accessed.
-#[derive(Clone, Copy, Debug, PartialEq, Eq)]
+#[derive(Clone, Copy, PartialEq, Eq)]
 pub struct AccessedBytes {
     /// The address of the first, with the pointer's tag.
     pub addr: u64,

@@ -1,8 +1,12 @@
 //! What is kept beside a tenant's memory and registers while it runs: of which pages something is
-//! known, where pointers point, and what an instruction did.
+//! known, where pointers point, what an instruction did, and which function of C or C++ makes or
+//! frees a chunk.
 #![tactic(auto)]
 
 mod access;
+mod function_table;
+mod function_watch;
+mod heap_function;
 mod memory_shadow;
 mod origin;
 mod page_numbers;
@@ -11,9 +15,10 @@ mod shadow_page;
 mod step;
 
 pub use access::{AccessedBytes, RegisterAccess};
+pub use function_watch::{HeapFunctionWatch, ReturnedChunk};
+pub use heap_function::HeapFunction;
 pub use memory_shadow::MemoryShadow;
 pub use origin::{OriginKind, PointerOrigin, Provenance};
 pub use page_numbers::PageNumbers;
-pub use pointer_sums::{PointerSum, PointerSums, Sign, Term};
-pub use shadow_page::ShadowPage;
+pub use pointer_sums::{PointerSums, Sign};
 pub use step::{Full, Step};

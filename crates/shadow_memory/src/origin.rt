@@ -1,13 +1,13 @@
 //! Where a value points.
 
 /// Where a value points. It has four bytes, since each word of memory has one.
-#[derive(Clone, Copy, Debug, PartialEq, Eq, PartialOrd, Ord)]
+#[derive(Clone, Copy, PartialEq, Eq, PartialOrd, Ord)]
 pub struct PointerOrigin {
     number: u32,
 }
 
 /// What an origin is.
-#[derive(Clone, Copy, Debug, PartialEq, Eq)]
+#[derive(Clone, Copy, PartialEq, Eq)]
 pub enum OriginKind {
     /// None is known: the value is no pointer, or which one it is was lost.
     Unknown,
@@ -113,7 +113,7 @@ const POINTER_SIZE: u8 = 8;
 
 /// Of which pointer's bytes a value is made: `count` bytes of it from `first` on, the lowest byte
 /// of the value being the first of them.
-#[derive(Clone, Copy, Debug, PartialEq, Eq)]
+#[derive(Clone, Copy, PartialEq, Eq)]
 pub struct Provenance {
     /// Where the pointer points.
     pub origin: PointerOrigin,

@@ -14,7 +14,7 @@ const BOTH_TERMS: usize = 8;
 const MOST_SUMS: usize = 65_536;
 
 /// How a pointer enters a sum.
-#[derive(Clone, Copy, Debug, PartialEq, Eq, PartialOrd, Ord)]
+#[derive(Clone, Copy, PartialEq, Eq, PartialOrd, Ord)]
 pub enum Sign {
     /// It is added.
     Plus,
@@ -46,7 +46,7 @@ impl Sign {
 }
 
 /// A pointer in a sum.
-#[derive(Clone, Copy, Debug, PartialEq, Eq, PartialOrd, Ord)]
+#[derive(Clone, Copy, PartialEq, Eq, PartialOrd, Ord)]
 pub struct Term {
     /// Where it points.
     pub origin: PointerOrigin,
@@ -62,7 +62,7 @@ const NO_TERM: Term = Term {
 
 /// A sum of two to four pointers, or of one that is subtracted, in the order of their origins;
 /// behind them are terms of no pointer.
-#[derive(Clone, Copy, Debug, PartialEq, Eq, PartialOrd, Ord)]
+#[derive(Clone, Copy, PartialEq, Eq, PartialOrd, Ord)]
 pub struct PointerSum {
     first: Term,
     second: Term,

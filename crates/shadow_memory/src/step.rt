@@ -22,7 +22,7 @@ pub struct Step<'a> {
 }
 
 /// Why no more is known.
-#[derive(Clone, Copy, Debug, PartialEq, Eq)]
+#[derive(Clone, Copy, PartialEq, Eq)]
 pub enum Full {
     /// An allocation failed.
     OutOfMemory,

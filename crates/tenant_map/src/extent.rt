@@ -2,7 +2,7 @@
 
 use common::GRANULE_SIZE;
 use heap_picture::{GRANULES, GranuleOwner, PictureRow};
-use run_book::BookChunk;
+use run_records::BookChunk;
 
 /// The bytes of a row.
 pub const ROW_SIZE: u64 = GRANULES as u64 * GRANULE_SIZE;

@@ -1,7 +1,7 @@
 //! The chunks of a tenant in the order in which they were made.
 
 use crate::extent::Extent;
-use run_book::{Book, BookChunk, BookEntry};
+use run_records::{Book, BookChunk, BookEntry};
 use std::alloc::{AllocError, Global};
 use std::collections::BTreeMap;
 

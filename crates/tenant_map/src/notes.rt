@@ -3,7 +3,7 @@
 use crate::extent::Extent;
 use heap_picture::Note;
 use mte_backtrace::FrameNames;
-use run_book::{Bytes, EntryText};
+use run_records::{Bytes, EntryText};
 use std::alloc::Global;
 use std::io::Write;
 use std::{fmt, io};

@@ -5,7 +5,7 @@ use crate::picture::{Picture, Rows};
 use crate::selection::{CandidateRow, row_at};
 use heap_picture::{GranuleOwner, Mark, PictureGranule, PictureRow};
 use mte_flat::Flat;
-use run_book::Bytes;
+use run_records::Bytes;
 use std::io::Write;
 use std::{fmt, io};
 

@@ -2,11 +2,10 @@
 
 use crate::observer::{Observer, checker_of, exact_of, turns_of};
 use crate::tracer::Tracer;
-use check_kinds::Suppressions;
 use either::Either;
 use elf_symbols::Symbols;
 use run_cause::CheckTerms;
-use run_terms::{Failure, Options, OutputOptions, Traced};
+use run_terms::{Failure, Options, OutputOptions, Suppressions, Traced};
 use std::alloc::{AllocError, Global};
 use std::fs::File;
 use std::io::{BufWriter, Stderr};

@@ -9,10 +9,9 @@ use crate::output_stream::OutputStream;
 use crate::slices::run_slices;
 use crate::store_watcher::StoreWatcher;
 use crate::survey::Survey;
-use check_kinds::Suppressions;
 use common::Obstacle;
 use mte_tenant::{Admission, AdmitError, Terms};
-use run_terms::{Failure, Options};
+use run_terms::{Failure, Options, Suppressions};
 use std::alloc::Global;
 
 /// The number of a tenant that is alone.

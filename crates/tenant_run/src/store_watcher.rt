@@ -3,10 +3,10 @@
 ghost use Rattle.std.specs.Prelude.{None};
 
 use crate::bench::{Shown, Watcher};
-use instruction_trace::Moment;
 use mte_tags::Paged;
 use mte_tenant::{NotedAccess, Notes, TenantParts, Watch};
 use run_cause::{LastStore, StoreWatch, TargetLoad};
+use run_records::Moment;
 
 /// Shows a tenant that runs once more to the watch for such a store.
 #[derive(Clone, Copy)]

@@ -7,11 +7,10 @@ use crate::observer::{Observer, checker_of, exact_of};
 use crate::output_stream::OutputStream;
 use crate::seeds::seed_of_run;
 use crate::slices::run_slices;
-use check_kinds::Suppressions;
 use common::Obstacle;
 use mte_tenant::AdmitError;
 use run_cause::CheckTerms;
-use run_terms::Options;
+use run_terms::{Options, Suppressions};
 use std::alloc::{AllocError, Global};
 use std::fmt;
 

@@ -3,7 +3,7 @@
 use crate::line_log::Log;
 use a64_registers::Regs;
 use elf_symbols::Symbols;
-use instruction_trace::{Moment, SVC, Service, TraceLine};
+use run_records::{Moment, SVC, Service, TraceLine};
 use run_terms::Traced;
 use std::io;
 use std::io::Write;

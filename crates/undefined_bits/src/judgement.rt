@@ -26,7 +26,7 @@ pub enum UseKind {
 }
 
 /// A use of undefined bits.
-#[derive(Clone, Copy, Debug, PartialEq, Eq)]
+#[derive(Clone, Copy, PartialEq, Eq)]
 pub struct UndefinedUse {
     /// What depends on them.
     pub kind: UseKind,

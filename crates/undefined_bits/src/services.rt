@@ -8,7 +8,7 @@ use shadow_memory::{AccessedBytes, Full};
 use undefined_values::{UndefinedOrigin, UndefinedValue};
 
 /// Which registers a service takes.
-#[derive(Clone, Copy, Debug, PartialEq, Eq)]
+#[derive(Clone, Copy, PartialEq, Eq)]
 pub enum ServiceArguments {
     /// The lowest byte of x0, which is the exit status.
     ExitStatus,

@@ -3,7 +3,7 @@
 //! result bit is defined where all such values give the same.
 
 /// A value and its undefined bits, in 32 or 64 bits.
-#[derive(Clone, Copy, Debug, PartialEq, Eq)]
+#[derive(Clone, Copy, PartialEq, Eq)]
 pub struct BitOperand {
     /// The value that it happens to have.
     pub value: u64,

@@ -6,7 +6,7 @@ use a64_bits::Flags;
 use a64_registers::conditions::condition_holds;
 
 /// Two values that were compared: as SUBS compares them.
-#[derive(Clone, Copy, Debug, PartialEq, Eq)]
+#[derive(Clone, Copy, PartialEq, Eq)]
 pub struct Comparison {
     /// The first.
     pub x: BitOperand,
@@ -17,7 +17,7 @@ pub struct Comparison {
 }
 
 /// What is known of the flags.
-#[derive(Clone, Copy, Debug, PartialEq, Eq)]
+#[derive(Clone, Copy, PartialEq, Eq)]
 pub enum FlagState {
     /// They are defined.
     Defined,

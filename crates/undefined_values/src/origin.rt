@@ -1,14 +1,14 @@
 //! What undefined bits are a part of.
 
 /// What undefined bits are a part of. It has four bytes, since each word of memory has one.
-#[derive(Clone, Copy, Debug, PartialEq, Eq)]
+#[derive(Clone, Copy, PartialEq, Eq)]
 pub struct UndefinedOrigin {
     /// Twice the number of a heap call, or the address of an instruction and 1.
     number: u32,
 }
 
 /// What undefined bits are a part of.
-#[derive(Clone, Copy, Debug, PartialEq, Eq)]
+#[derive(Clone, Copy, PartialEq, Eq)]
 pub enum UndefinedPlace {
     /// It is not known.
     Unknown,
@@ -56,7 +56,7 @@ impl UndefinedOrigin {
 
 /// Which bits of a value are undefined, and of what they are a part: of one such place, where there
 /// are several.
-#[derive(Clone, Copy, Debug, PartialEq, Eq)]
+#[derive(Clone, Copy, PartialEq, Eq)]
 pub struct UndefinedValue {
     /// A 1 for each undefined bit.
     pub bits: u64,

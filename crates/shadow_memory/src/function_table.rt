@@ -1,0 +1,115 @@
+//! Where an image has the functions that make and free chunks.
+
+use crate::heap_function::HeapFunction;
+use elf_sections::Sections;
+use std::alloc::{AllocError, Global};
+use std::str;
+
+/// SHT_SYMTAB.
+const SYMBOL_TABLE: u32 = 2;
+
+/// The bytes of a symbol (System V ABI, Object Files: `Elf64_Sym`).
+const SYMBOL: usize = 24;
+
+/// STT_FUNC, the lower half of `st_info`.
+const FUNCTION: u8 = 2;
+
+/// The most bytes of a name that is looked at, with the 0 behind it.
+const LONGEST: usize = 64;
+
+/// How many entries are kept.
+const MOST_ENTRIES: usize = 256;
+
+/// A function of an image.
+#[derive(Clone, Copy)]
+pub struct FunctionEntry {
+    /// Its first address.
+    pub addr: u64,
+    /// Which it is; `None` where it has the names of several.
+    pub function: Option<HeapFunction>,
+}
+
+/// The functions of an image that make and free chunks, by the names of its symbol table.
+#[derive(Drop)]
+pub struct FunctionTable {
+    entries: Vec<FunctionEntry>,
+}
+
+impl FunctionTable {
+    /// Those of a file. A file without a symbol table has none.
+    pub fn of(alloc: Global, file: &[u8]) -> Result<FunctionTable, AllocError> {
+        let mut table = FunctionTable {
+            entries: Vec::new(alloc),
+        };
+        table.enter_symbols(file)?;
+        Ok(table)
+    }
+
+    /// The function that begins at a plain address.
+    pub fn at(&self, addr: u64) -> Option<&FunctionEntry> {
+        self.entries.iter().find(|entry| entry.addr == addr)
+    }
+
+    /// Enters the symbols of a file.
+    fn enter_symbols(&mut self, file: &[u8]) -> Result<(), AllocError> {
+        let Some((symbols, names)) = symbols_of(file) else {
+            return Ok(());
+        };
+        let (symbols, _) = symbols.as_chunks::<SYMBOL>();
+        for symbol in symbols {
+            if let Some(entry) = entry_of(symbol.as_slice(), names) {
+                self.enter(entry)?;
+            }
+        }
+        Ok(())
+    }
+
+    /// Enters a function. One with the names of several of them is none of them: linkers fold
+    /// functions that are the same.
+    fn enter(&mut self, entry: FunctionEntry) -> Result<(), AllocError> {
+        let same = self
+            .entries
+            .iter_mut()
+            .find(|other| other.addr == entry.addr);
+        if let Some(other) = same {
+            if other.function != entry.function {
+                other.function = None;
+            }
+            return Ok(());
+        }
+        if self.entries.len() < MOST_ENTRIES {
+            self.entries.push(entry)?;
+        }
+        Ok(())
+    }
+}
+
+/// The first symbol table of a file, and its names.
+fn symbols_of(file: &[u8]) -> Option<(&[u8], &[u8])> {
+    let sections = Sections::of(file);
+    let table = sections.of_type(SYMBOL_TABLE)?;
+    let names = sections.at(table.link()?)?;
+    Some((table.contents()?, names.contents()?))
+}
+
+/// The function that a symbol names, where it is one that makes or frees chunks.
+fn entry_of(symbol: &[u8], names: &[u8]) -> Option<FunctionEntry> {
+    let is_defined = symbol.get(6..8)? != [0, 0].as_slice();
+    if symbol.get(4)? % 16 != FUNCTION || !is_defined {
+        return None;
+    }
+    let at = u32::from_le_bytes(*symbol.first_chunk::<4>()?);
+    let function = HeapFunction::of_name(name_at(names, at as usize)?)?;
+    let addr = u64::from_le_bytes(*symbol.get(8..16)?.first_chunk::<8>()?);
+    Some(FunctionEntry {
+        addr,
+        function: Some(function),
+    })
+}
+
+/// The name that begins at a place of a string table.
+fn name_at(names: &[u8], at: usize) -> Option<&str> {
+    let rest = names.get(at..)?;
+    let end = rest.iter().take(LONGEST).position(|byte| *byte == 0)?;
+    str::from_utf8(rest.get(..end)?).ok()
+}

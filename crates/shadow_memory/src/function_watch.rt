@@ -1,0 +1,119 @@
+//! Which function that makes or frees chunks runs.
+
+use crate::function_table::FunctionTable;
+use crate::heap_function::HeapFunction;
+use crate::step::Step;
+use a64_bits::plain;
+use a64_instr::Instr;
+use a64_registers::Regs;
+use std::alloc::{AllocError, Global};
+
+/// A function that was called and has not returned.
+#[derive(Clone, Copy)]
+struct ActiveFunction {
+    function: Option<HeapFunction>,
+    return_address: u64,
+    /// SP when it began.
+    sp: u64,
+    /// Its first argument.
+    argument: u64,
+}
+
+/// A chunk that a function returned.
+#[derive(Clone, Copy, PartialEq, Eq)]
+pub struct ReturnedChunk {
+    /// The function.
+    pub function: HeapFunction,
+    /// What it returned.
+    pub pointer: u64,
+    /// How many bytes it was asked for, where its first argument says that.
+    pub size: Option<u64>,
+}
+
+/// Which function runs that makes or frees chunks: of several that called one another the
+/// outermost. A function is seen when it is branched to, so that one which ends by a jump to
+/// another is seen too.
+#[derive(Drop)]
+pub struct HeapFunctionWatch {
+    table: FunctionTable,
+    active: Option<ActiveFunction>,
+}
+
+impl HeapFunctionWatch {
+    /// Of a tenant at its first instruction, by the symbols of its image.
+    pub fn new(alloc: Global, image: &[u8]) -> Result<HeapFunctionWatch, AllocError> {
+        Ok(HeapFunctionWatch {
+            table: FunctionTable::of(alloc, image)?,
+            active: None,
+        })
+    }
+
+    /// The function that was called with a pointer, and has not returned; `None` where none was, or
+    /// it is not known which.
+    pub fn freeing(&self, pointer: u64) -> Option<HeapFunction> {
+        let active = self.active.as_ref()?;
+        if active.argument == pointer {
+            active.function
+        } else {
+            None
+        }
+    }
+
+    /// Notes an instruction that completed. Returns what a function returned by it.
+    pub fn note(&mut self, step: &Step<'_>) -> Option<ReturnedChunk> {
+        match *step.instr {
+            Instr::Branch { op, .. } => self.note_branch(step.after, op == 1),
+            Instr::BranchReg { opc: 2, .. } => return self.note_return(step.after),
+            Instr::BranchReg { opc, .. } => self.note_branch(step.after, opc == 1),
+            _ => {}
+        }
+        None
+    }
+
+    /// Notes a branch, which may be a call or the last thing that a function does. A function that
+    /// calls others has a frame, so a call without one, or a branch above it, is no longer its own:
+    /// it was left by an exception.
+    fn note_branch(&mut self, after: &Regs, is_call: bool) {
+        if let Some(active) = &self.active {
+            let is_left = if is_call {
+                after.sp >= active.sp
+            } else {
+                after.sp > active.sp
+            };
+            if !is_left {
+                return;
+            }
+            self.active = None;
+        }
+        if let Some(entry) = self.table.at(plain(after.pc)) {
+            self.active = Some(ActiveFunction {
+                function: entry.function,
+                return_address: plain(after.x[30]),
+                sp: after.sp,
+                argument: after.x[0],
+            });
+        }
+    }
+
+    /// Notes a return.
+    fn note_return(&mut self, after: &Regs) -> Option<ReturnedChunk> {
+        let active = self.active?;
+        let is_own = plain(after.pc) == active.return_address && after.sp == active.sp;
+        if is_own || after.sp > active.sp {
+            self.active = None;
+        }
+        if !is_own {
+            return None;
+        }
+        let function = active.function?;
+        Some(ReturnedChunk {
+            function,
+            pointer: after.x[0],
+            size: if function.takes_size() {
+                Some(active.argument)
+            } else {
+                None
+            },
+        })
+    }
+}
