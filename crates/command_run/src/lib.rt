@@ -8,4 +8,4 @@ mod map;
 mod running;
 mod telling;
 
-pub use running::run_program;
+pub use running::{run_alone, run_replay};

@@ -13,16 +13,8 @@ use run_request::{
 use run_terms::{Failure, Replay};
 use tenant_run::{LoneTenant, Observer, TenantBench, observer_of};
 
-/// Runs the tenant, writes its output and says why it ended; returns the exit status.
-pub fn run_program<'a>(request: &RunRequest<'a, '_>) -> Result<u8, Failure<'a>> {
-    match &request.options.replay {
-        Some(replay) => run_replay(request, replay),
-        None => run_alone(request),
-    }
-}
-
-/// Runs an image alone, and says why it ended.
-fn run_alone<'a>(request: &RunRequest<'a, '_>) -> Result<u8, Failure<'a>> {
+/// Runs an image alone, writes its output and says why it ended; returns the exit status.
+pub fn run_alone<'a>(request: &RunRequest<'a, '_>) -> Result<u8, Failure<'a>> {
     let (rt, options) = (request.rt, request.options);
     let image = request.image(1).bytes;
     let input = read_input(rt, options)?;
@@ -51,8 +43,9 @@ fn run_tenant<'a>(
     tell_end(request, &run, bench, &mut observer)
 }
 
-/// Runs what a session does to one tenant, and says why it ended.
-fn run_replay<'a>(request: &RunRequest<'a, '_>, replay: &'a Replay) -> Result<u8, Failure<'a>> {
+/// Runs what a session does to one tenant, writes its lines of the report and says why it ended;
+/// returns the exit status.
+pub fn run_replay<'a>(request: &RunRequest<'a, '_>, replay: &'a Replay) -> Result<u8, Failure<'a>> {
     let script = read_file(request.rt, replay.script.as_str())?;
     let events = events_of(request.rt.alloc(), script.as_slice(), request.files)?;
     let session = SessionReplay {

@@ -124,7 +124,10 @@ fn tell<'a>(
 ) -> Result<u8, Failure<'a>> {
     let (rt, options) = (request.rt, request.options);
     let has_lost = tell_lost(rt, report, lost, request.suppressions)?;
-    tell_report(rt, report, memory)?;
+    if is_reported(report) {
+        let mut out = BufWriter::new(rt.alloc(), rt.stderr())?;
+        report.write(rt.alloc(), &mut out, memory)?;
+    }
     tell_leaks(rt, report, options)?;
     tell_statistics(rt, report)?;
     let ending = ending_of(report, options);
@@ -196,14 +199,9 @@ fn write_lost(rt: &HostRuntime, report: &Report<'_>, lost: &[LostChunk]) -> io::
     report.write_lost(rt.alloc(), &mut out, lost)
 }
 
-/// Writes what happened, on standard error, unless the tenant exited.
-fn tell_report(rt: &HostRuntime, report: &Report<'_>, memory: &mut Flat) -> io::Result<()> {
-    let log = &report.parts.history;
-    if report.finding.is_none() && matches!(log.status, Status::Exited(_)) {
-        return Ok(());
-    }
-    let mut out = BufWriter::new(rt.alloc(), rt.stderr())?;
-    report.write(rt.alloc(), &mut out, memory)
+/// Whether what happened is written on standard error: not of a tenant that exited.
+fn is_reported(report: &Report<'_>) -> bool {
+    report.finding.is_some() || !matches!(report.parts.history.status, Status::Exited(_))
 }
 
 /// Writes the live chunks, on standard error, where that is requested.

@@ -3,7 +3,7 @@
 
 mod debugging;
 
-use command_run::run_program;
+use command_run::{run_alone, run_replay};
 use debugging::debug_program;
 use run_options::{EarlyEnd, read_command_line};
 use run_request::{RunRequest, read_files, read_suppressions};
@@ -32,9 +32,9 @@ fn run<'a>(rt: &HostRuntime, options: &'a Options) -> Result<u8, Failure<'a>> {
         files: files.as_slice(),
         suppressions: &suppressions,
     };
-    if options.is_debugged {
-        debug_program(&request)
-    } else {
-        run_program(&request)
+    match &options.replay {
+        _ if options.is_debugged => debug_program(&request),
+        Some(replay) => run_replay(&request, replay),
+        None => run_alone(&request),
     }
 }

@@ -101,7 +101,9 @@ impl<'x> LoneTenant<'x> {
         Ok(())
     }
 
-    /// Runs the tenant to its end, from its first instruction, and writes its output.
+    /// Runs the tenant to its end, from its first instruction, shown what is needed of it, and
+    /// writes its output. An end that is explained by the last attempts, and an access that may be
+    /// wrong, take a second run, which is the same.
     pub fn run<'a>(
         &self,
         rt: &HostRuntime,
@@ -110,7 +112,11 @@ impl<'x> LoneTenant<'x> {
         observer: &mut Observer<'_>,
     ) -> Result<(), Failure<'a>> {
         let mut out = OutputStream::new(rt);
-        self.run_watched(rt.alloc(), options, bench, observer, &mut out)?;
+        observer.shown = observer.needs();
+        run_slices(bench, observer, &mut out, options, options.length.steps);
+        if wants_second_run(bench, options, observer) {
+            self.run_again(rt.alloc(), options, bench, observer, &mut out)?;
+        }
         self.run_to_finding(rt.alloc(), options, bench, observer, &mut out)?;
         self.find_store(rt.alloc(), options, bench, observer)?;
         if out.has_failed {
@@ -119,9 +125,8 @@ impl<'x> LoneTenant<'x> {
         Ok(())
     }
 
-    /// Runs the tenant to its end, shown what is needed of it. An end that is explained by the
-    /// last attempts, and an access that may be wrong, take a second run, which is the same.
-    fn run_watched<'a>(
+    /// The second run, which shows what the first one did not.
+    fn run_again<'a>(
         &self,
         alloc: Global,
         options: &Options,
@@ -129,15 +134,9 @@ impl<'x> LoneTenant<'x> {
         observer: &mut Observer<'_>,
         out: &mut OutputStream<'_>,
     ) -> Result<(), Failure<'a>> {
-        let limit = options.length.steps;
-        observer.shown = observer.needs();
-        run_slices(bench, observer, out, options, limit);
-        if !wants_second_run(bench, options, observer) {
-            return Ok(());
-        }
         observer.restart(alloc, bench.parts.history.steps)?;
         self.restart(alloc, options, bench)?;
-        run_slices(bench, observer, out, options, limit);
+        run_slices(bench, observer, out, options, options.length.steps);
         Ok(())
     }
 
