@@ -1,6 +1,7 @@
 #!/usr/bin/env bash
 # The test command: installs what the suite needs, proves every crate, tries every must-fail edit,
-# runs all programs and tests (rt ci), and tries what users touch over the proved programs.
+# runs all programs and tests (rt ci), says what that cost, and tries what users touch over the
+# proved programs.
 #     tests/run.sh                 all of it
 #     tests/run.sh --suite [..]    the suite alone, over programs that are built, with or without
 #                                  proof; files of tests/ and options of pytest
@@ -71,7 +72,7 @@ first=(tests/test_style.py tests/test_border.py tests/test_isa.py tests/test_bel
     tests/test_crates.py tests/test_page_words.py)
 run_cases first "${first[@]}"
 save
-rt ci | tee "$logs/proofs"
+"$python" tools/gate_cost.py rt ci | tee "$logs/proofs"
 run_cases suite -rs "${first[@]/#/--ignore=}"
 
 count_cases first proofs suite

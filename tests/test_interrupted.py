@@ -38,7 +38,8 @@ FILES = {"mte_host": "crates/mte_host/out/mte_host", "mte_run": "crates/mte_run/
 def clone(tmp_path: pathlib.Path) -> pathlib.Path:
     """A checkout with built programs, whose cases take no time."""
     need("bash", "find")
-    top = copy_files(tmp_path / "clone", "tests/run.sh", "tools/sources.sh")
+    top = copy_files(tmp_path / "clone", "tests/run.sh", "tools/sources.sh",
+                     "tools/gate_cost.py", "crates.txt")
     for name in FIRST:
         (top / "tests" / f"test_{name}.py").write_text("def test(): pass\n", encoding="utf-8")
     (top / "tests" / "install.sh").write_text("#!/bin/sh\n", encoding="utf-8")
