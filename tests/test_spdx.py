@@ -23,7 +23,7 @@ PORTED = [it for it in read_components() if it.linked == "crates"]
 # SPDX 2.3, annex D: expressions of the licences that are here.
 LICENCES = {"MIT", "MIT OR Apache-2.0", "BSD-3-Clause", "Apache-2.0 WITH LLVM-exception",
             "NOASSERTION"}
-PROGRAMS = {"mte_host", "mte_split", "mte_run", "disassemble"}
+PROGRAMS = {"mte_host", "mte_split", "mte_run"}
 
 
 @functools.cache
