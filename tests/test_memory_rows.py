@@ -3,6 +3,7 @@ the manual (Arm ARM DDI 0487, D10 and C6.2)."""
 
 import pathlib
 
+from tests.support.places import ROOT
 from tests.test_python_package import told
 
 BEGIN = """
@@ -62,7 +63,7 @@ memory.map(0x3fffe000, 4096, 11)
 memory.map(0x3ffff000, 4096, 1)
 memory.store_tags(0x3fffe000, 1, 1)
 assert fault_of(lambda: memory.write(2 << 56 | 0x3fffeff9, bytes(8))) == (
-    "Permission: a write at 0x3ffff000, pointer tag 2, memory tag 0")
+    "Permission: a write at 0x3ffff000")
 assert not memory.pending
 memory.write(1 << 56 | 0x3fffe00c, b"\\x05" + bytes(7))
 assert memory.pending and memory.read(0x3fffe00c, 8) == b"\\x05" + bytes(7)
@@ -132,15 +133,15 @@ def test_runs_of_a_few_instructions(shared: pathlib.Path) -> None:
 memory, regs = with_program(0x910003e0, 0xd1040000, 0xf9002000, 0x91010001, 0xf8408422,
                             0xd4000001)
 five = run(memory, regs, 5)
-assert [five.steps, *regs.x[:3]] == [5, 0x3fffff00, 0x3fffff48, 0x3fffff00]
+assert [five.left, *regs.x[:3]] == [0, 0x3fffff00, 0x3fffff48, 0x3fffff00]
 more = run(memory, regs, 9)
-assert (more.code, more.steps, regs.pc) == (Code.SERVICE, 1, 0x3fffb014)
+assert (more.code, more.left, regs.pc) == (Code.SVC, 8, 0x3fffb014)
 regs.pc = 0x40000000
 assert str(step(memory, regs).fault) == "Translation: a read at 0x40000000"
 # add x0, x1, x2; b .+8; ldr x0, [x1]
 memory, regs = with_program(0x8b020020, 0x14000002, 0, 0xf9400020)
 regs.x1, regs.x2 = 40, 2
-assert (run(memory, regs, 2).steps, regs.x0, regs.pc) == (2, 42, 0x3fffb00c)
+assert (run(memory, regs, 2).left, regs.x0, regs.pc) == (0, 42, 0x3fffb00c)
 stop = run(memory, regs, 2)
 assert (str(stop.fault), regs.x0, regs.pc) == ("Translation: a read at 0x28", 42, 0x3fffb00c)
 """) == ""
@@ -152,23 +153,23 @@ def test_programs_stop_where_they_should(shared: pathlib.Path) -> None:
     has another tag is not stored at all."""
     assert told(shared, BEGIN + """
 TAGS = (0xd2a7ffe0, 0x91403000, 0x9adf1001, 0xd9200821)
-for words, said, pc, steps in (
+for words, said, pc, left in (
     ((*TAGS, 0xf9000021, 0xf9400022, 0xf9400002),
-     "TagCheck: a read at 0x3fffc000, pointer tag 0, memory tag 1", 0x3fffb018, 7),
+     "TagCheck: a read at 0x3fffc000, pointer tag 0, memory tag 1", 0x3fffb018, 93),
     ((0xd10083ff, 0x9adf13e1, 0xd9200be1, 0xf94003e2, 0xf8400fe2),
-     "TagCheck: a read at 0x3fffffe0, pointer tag 0, memory tag 1", 0x3fffb010, 5),
+     "TagCheck: a read at 0x3fffffe0, pointer tag 0, memory tag 1", 0x3fffb010, 95),
     ((*TAGS, 0xf840c022), "TagCheck: a read at 0x3fffc010, pointer tag 1, memory tag 0",
-     0x3fffb010, 5),
-    ((0,), "None", 0x3fffb000, 1),
-    ((0xd2a00020, 0x91000400, 0xd61f0000), "PcAlignment: a read at 0x10001", 0x10001, 4),
+     0x3fffb010, 95),
+    ((0,), "None", 0x3fffb000, 99),
+    ((0xd2a00020, 0x91000400, 0xd61f0000), "PcAlignment: a read at 0x10001", 0x10001, 96),
     ((*TAGS, 0xa9008c22), "TagCheck: a write at 0x3fffc010, pointer tag 1, memory tag 0",
-     0x3fffb010, 5),
+     0x3fffb010, 95),
 ):
     memory, regs = with_program(*words)
     if words[-1] == 0xa9008c22:
         regs.x2, regs.x3 = 0x1122334455667788, 0x99aabbccddeeff00
     stop = run(memory, regs, 100)
-    assert (str(stop.fault), stop.steps, regs.pc) == (said, steps, pc), (stop, regs)
+    assert (str(stop.fault), stop.left, regs.pc) == (said, left, pc), (stop, regs)
     assert memory.read(0x3fffc010, 16, check=False) == bytes(16)
 assert (stop.code, memory.read(0x3fffc000, 16, check=False)) == (Code.FAULT, bytes(16))
 """) == ""
@@ -263,35 +264,74 @@ assert len({it for it, _ in offsets}) == 16
 
 
 def test_accesses_of_instructions(shared: pathlib.Path) -> None:
-    """Kind, address and size of each access of a trace, over x1 and x2; what a pair writes."""
+    """Kind, address and size of each access of a run, over x1 and x2, and what a pair writes."""
     assert told(shared, """
 READS, WRITES, READS_TAG, WRITES_TAG = ACCESS_READ, ACCESS_WRITE, ACCESS_READ_TAG, ACCESS_WRITE_TAG
-for word, kind, address, size in (
-    (0xf9400820, READS, 0x0200000000021028, 8),  # ldr x0, [x1, #16]
-    (0x38001420, WRITES, 0x0200000000021018, 1),  # strb w0, [x1], #1
-    (0x78e27820, READS, 0x020000000002101e, 2),  # ldrsh w0, [x1, x2, lsl #1]
-    (0x18000040, READS, 0x10008, 4),  # ldr w0, .+8
-    (0xa9bf0820, WRITES, 0x0200000000021008, 16),  # stp x0, x2, [x1, #-16]!
-    (0x69400820, READS, 0x0200000000021018, 8),  # ldpsw x0, x2, [x1]
-    (0xd9600020, READS_TAG, 0x0200000000021010, 16),  # ldg x0, [x1]
-    (0xd9a01820, WRITES_TAG, 0x0200000000021020, 32),  # st2g x0, [x1, #16]
-    (0x69008820, WRITES | WRITES_TAG, 0x0200000000021028, 16),  # stgp x0, x2, [x1, #16]
-):
-    memory, regs, found = Memory(), Regs(pc=0x10000), []
+
+def access_of(word, x1):
+    memory, regs = Memory(), Regs([0, x1, 3], pc=0x10000)
     memory.map(0x10000, 4096, R | X)
-    memory.map(0x21000, 4096, R | W)
-    memory.protect(0x21000, 4096, R | W | T)
-    memory.store_tags(0x21000, 16, 2)
+    memory.map(0x1000, 4096, R | W | T)
+    memory.store_tags(0x1000, 16, 2)
     memory.load(0x10000, word.to_bytes(4, "little"))
-    regs.x1, regs.x2 = 0x0200000000021018, 3
-    if word == 0x69008820:
-        regs.x1 = 0x0200000000021020
-        address = 0x0200000000021030
-    trace(memory, regs, 1, found)
-    assert [(it.kind, it.address, it.size) for it in found[:1]] == [(kind, address, size)], (
-        hex(word), [(it.kind, hex(it.address), it.size) for it in found])
-memory, regs, found = Memory(), Regs(pc=0x10000), []
-memory.map(0x10000, 4096, R | X)
-memory.load(0x10000, (0xd4000001).to_bytes(4, "little"))
-assert trace(memory, regs, 1, found).code == Code.SERVICE and found == []
+    return [it[1:] for it in hook_mem(memory, regs, 1)]
+
+for word, kind, address, size in (
+    (0xf9400820, READS, 0x0200000000001028, 8),  # ldr x0, [x1, #16]
+    (0x38001420, WRITES, 0x0200000000001018, 1),  # strb w0, [x1], #1
+    (0x78e27820, READS, 0x020000000000101e, 2),  # ldrsh w0, [x1, x2, lsl #1]
+    (0x18000040, READS, 0x10008, 4),  # ldr w0, .+8
+    (0xa9bf0820, WRITES, 0x0200000000001008, 16),  # stp x0, x2, [x1, #-16]!
+    (0x69400820, READS, 0x0200000000001018, 8),  # ldpsw x0, x2, [x1]
+    (0xd9600020, READS_TAG, 0x0200000000001010, 16),  # ldg x0, [x1]
+):
+    assert [(it[4], it[0], it[3]) for it in access_of(word, 0x0200000000001018)] == [
+        (kind, address, size)], hex(word)
+# st2g x0, [x1, #16]; stgp x0, x2, [x1, #16]: their granules are whole
+for word, kind, size in ((0xd9a01820, WRITES_TAG, 32), (0x69008820, WRITES | WRITES_TAG, 16)):
+    assert [(it[4], it[0], it[3]) for it in access_of(word, 0x0200000000001020)] == [
+        (kind, 0x0200000000001030, size)], hex(word)
+assert access_of(0xa9bf0820, 0x0200000000001018)[0][1:3] == (0, 3)
+assert access_of(0xd4000001, 0) == []
+""") == ""
+
+
+def test_accesses_of_drawn_words(shared: pathlib.Path) -> None:
+    """Loads and stores of drawn words and registers: whether they read or write, how many bytes
+    and where, by a second decoder and the manual's addresses."""
+    assert told(shared, f"import sys\nsys.path.insert(0, {str(ROOT / 'tools')!r})\n" + """
+from tests.reference import accesses
+from tests.reference.decode import decode
+
+def address_of(it, access, regs):
+    base = regs.sp if access.base == 31 else regs.x[access.base]
+    if access.write_back == "post":
+        return base
+    if access.index is not None:
+        number = 0 if access.index == 31 else regs.x[access.index]
+        return base + (number << (it["size"] if it["s"] else 0))
+    if it.row == "ld_st_imm":
+        return base + (it["imm12"] << it["size"])
+    scale = 16 if it.row == "st_g_p" else access.size
+    return base + (it["imm9"] if "imm9" in it.fields else it["imm7"] * scale)
+
+drawn, seen = random.Random(9), {}
+memory = Memory()
+memory.map(0x100000, 4096, R | X)
+memory.map(0x1000, 0x1e000, R | W)
+for _ in range(12000):
+    word = drawn.getrandbits(32) & 0xf1ffffff | 0x08000000
+    it = decode(word)
+    wanted = accesses.access_of(it) if it else None
+    regs = Regs([drawn.randrange(0x2000, 0x2800) & -16 for _ in range(31)], pc=0x100000, sp=0x2400)
+    memory.load(0x100000, word.to_bytes(4, "little"))
+    before = regs.copy()
+    found = list(hook_mem(memory, regs, 1))
+    assert found == [] or it and (wanted or it.row in accesses.TAGS), hex(word)
+    if wanted and found and wanted.base is not None:
+        size = wanted.size * len(wanted.registers)
+        assert (found[0].write, found[0].size, found[0].address) == (
+            not wanted.is_load, size, address_of(it, wanted, before)), hex(word)
+        seen[it.row] = seen.get(it.row, 0) + 1
+assert set(seen) == accesses.SINGLES | accesses.PAIRS and min(seen.values()) > 20, seen
 """) == ""

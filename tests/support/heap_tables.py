@@ -63,6 +63,23 @@ TABLES = {
         malloc 24 = 0x200000012000050
         read 0x500000012000050 ! TagCheck
     """),
+    # Each kind of operation once, and what a chunk that was freed is kept from.
+    "operations": Table("""
+        malloc 24 = 0x100000012000010
+        usable_size 0x100000012000010 = 24
+        write 0x100000012000010 0x102030405060708
+        read 0x100000012000010 = 0x102030405060708
+        tag 0x100000012000010 = 1
+        free 0x100000012000010
+        tag 0x100000012000010 = 3
+        read 0x100000012000010 ! TagCheck
+        free 0x100000012000010 ! InvalidState
+        calloc 3 8 = 0x500000012000010
+        realloc 0x500000012000010 32 = 0x500000012000010
+        usable_size 0x500000012000010 = 32
+        memalign 24 8 = 0
+        realloc 0x500000012000010 0 = 0
+    """),
     # A shorter chunk leaves tag 0 on the granule after it, where the block had another.
     "shorter": Table("""
         malloc 40 = 0x100000012000010

@@ -1,10 +1,20 @@
-//! The texts of heap calls.
+//! Texts that no program writes: an instruction whose target is a distance, and heap calls as C has
+//! them.
 
+use a64_decode::decode;
+use a64_text::Text;
 use scudo_heap::HeapCall;
 use std::test::Fail;
 
+/// Words whose target is written by its distance.
+static BY_DISTANCE: [(u32, &str); 3] = [
+    (0x1400_0004, "b .+0x10"),
+    (0x54FF_FFE1, "b.ne .-0x4"),
+    (0xF000_0001, "adrp x1, .+0x3000"),
+];
+
 /// Each call as C has it.
-static TABLE: [(HeapCall, &str); 6] = [
+static CALLS: [(HeapCall, &str); 6] = [
     (HeapCall::Malloc { size: 24 }, "malloc(24)"),
     (
         HeapCall::Free {
@@ -31,8 +41,13 @@ static TABLE: [(HeapCall, &str); 6] = [
 ];
 
 #[test]
-fn heap_calls_as_text(rt: HostRuntime) -> Result<(), Fail> {
-    for (call, expected) in TABLE {
+fn texts(rt: HostRuntime) -> Result<(), Fail> {
+    for (word, expected) in BY_DISTANCE {
+        let text = Text(decode(word).ok_or("an instruction")?);
+        let written = format!(in rt.alloc(); "{text}")?;
+        assert_eq!(rt; written.as_str(), expected);
+    }
+    for (call, expected) in CALLS {
         let written = format!(in rt.alloc(); "{call}")?;
         assert_eq!(rt; written.as_str(), expected);
     }

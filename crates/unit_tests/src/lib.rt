@@ -1,5 +1,5 @@
-//! Tests of what no program reaches of sessions, hosts and streams, and of what embedders in
-//! Rattle call.
+//! Tests of what no program and no call of the library reaches: types and laws of Rattle, and what
+//! embedders in Rattle call.
 #![tactic(auto)]
 
 #[cfg(test)]
@@ -9,14 +9,18 @@ mod doubles;
 #[cfg(test)]
 mod embedding;
 #[cfg(test)]
-mod heap_operations;
-#[cfg(test)]
 mod hosts;
 #[cfg(test)]
 mod images;
 #[cfg(test)]
 mod laws;
 #[cfg(test)]
+mod lookaside;
+#[cfg(test)]
+mod sizes;
+#[cfg(test)]
 mod streams;
 #[cfg(test)]
 mod tenants;
+#[cfg(test)]
+mod texts;

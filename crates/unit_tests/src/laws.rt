@@ -1,5 +1,8 @@
 //! The laws, which have no code: a call brings what they say to its caller.
 
+use a64_decode::{words_are_unique, words_mean};
+use a64_run::known_words_stay;
+use a64_step::{steps_keep_fixed_pages, steps_keep_tag_mode, steps_keep_tags};
 use common::{limits_in_digits, ranges_in_digits};
 use heap_laws::{
     careful_runs_are_sound, careful_tenants_are_sound, chunks_are_apart, chunks_are_guarded,
@@ -11,16 +14,64 @@ use heap_laws::{
     other_chunks_stay, reallocations_free, reallocations_keep_bytes, reused_tags_differ,
     reused_tags_of_tenants_differ, tenants_take_turns,
 };
+use mte_elf::loading_keeps_memories_whole;
+use mte_frames::others_are_kept;
 use mte_sched::{
     behaviours_are_alone, behaviours_are_isolated, flag_is_clear, ledger_follows,
     live_limit_in_digits, slices_are_bounded, tenants_are_alone, tenants_are_isolated,
 };
+use mte_space::{other_tenants_stay, pages_of_a_space, written_frames_are_pages};
 use mte_streams::file_limit_in_digits;
 use mte_svc::{kept_calls_in_digits, services_in_digits};
-use scudo_heap::settings_in_digits;
+use mte_tags::{flag_stays_in_sync, mode_stays, no_tag_check_in_async, pages_after_calls};
+use mte_translate::{
+    cached_translations_stay, frames_of_tables, leaves_are_used, pages_are_walks, tables_stay,
+};
+use scudo_heap::{
+    accesses_keep_the_condition, calls_keep_other_pages, calls_keep_the_condition,
+    condition_of_calls, settings_in_digits,
+};
 use session_parts::{
     accepted_alone, decisions_need_no_steps, lines_may_be_left_out, report_in_parts,
 };
+use traced_run::steps_without_access_keep_memory;
+
+#[test]
+fn laws_of_steps() {
+    words_mean();
+    words_are_unique();
+    steps_keep_tags();
+    steps_keep_tag_mode();
+    steps_keep_fixed_pages();
+    steps_without_access_keep_memory();
+    known_words_stay();
+}
+
+#[test]
+fn laws_of_memories() {
+    flag_stays_in_sync();
+    no_tag_check_in_async();
+    mode_stays();
+    pages_after_calls();
+    others_are_kept();
+    pages_are_walks();
+    frames_of_tables();
+    leaves_are_used();
+    cached_translations_stay();
+    tables_stay();
+    written_frames_are_pages();
+    pages_of_a_space();
+    other_tenants_stay();
+    loading_keeps_memories_whole();
+}
+
+#[test]
+fn laws_of_calls() {
+    condition_of_calls();
+    calls_keep_the_condition();
+    accesses_keep_the_condition();
+    calls_keep_other_pages();
+}
 
 #[test]
 fn laws_of_careful_runs() {
