@@ -12,6 +12,7 @@ import sys
 from collections.abc import Iterable
 
 import pytest
+from a64 import table
 from disassembly.absent import ABSENT
 
 from tests.support.drawn_words import Drawn, draw_all
@@ -23,6 +24,7 @@ from tests.support.tools import need
 COUNT = int(os.environ.get("DISASSEMBLY_WORDS", "6000"))
 SEED = int(os.environ.get("DISASSEMBLY_SEED", "2036"))
 
+ASSEMBLER = "aarch64-linux-gnu-as"
 # Each of the aliases that must occur.
 ALIASES = set("""
     asr bfc bfi bfxil cinc cinv cmn cmp cmpp cneg cset csetm lsl lsr mneg mov mul mvn neg negs ngc
@@ -146,3 +148,23 @@ def test_worked_texts(shared: pathlib.Path) -> None:
         f".inst 0x{it:08x} // undefined" for it in REFUSED]
     last = (1 << 64) - 4
     assert texts_of(shared, [(last, 0x14000002), (0, 0x14000002)]) == ["b 0x4", "b 0x8"]
+
+
+def test_examples_of_rows(shared: pathlib.Path, tmp_path: pathlib.Path) -> None:
+    """The example of each row is the word that GNU as makes of its text, and objdump reads our
+    text of it; it has the row's fields."""
+    need(ASSEMBLER, OBJDUMP)
+    rows = table.read_rows()
+    examples = {name: row.said["example"].partition(" ")[::2] for name, row in rows.items()}
+    source, binary = tmp_path / "words.s", tmp_path / "words.o"
+    source.write_text("".join(f"{text}\n" for _, text in examples.values()))
+    succeed([ASSEMBLER, "-march=armv8.5-a+memtag", "-o", binary, source])
+    words = [int(it, 16) for it, _ in examples.values()]
+    told = succeed([OBJDUMP, "-d", binary]).output
+    assert [int(it, 16) for it in re.findall(r"^ *[0-9a-f]+:\t([0-9a-f]{8}) ", told, re.M)] == words
+    assert texts_of(shared, ((START + 4 * at, it) for at, it in enumerate(words))) == (
+        lines_of_objdump(words, tmp_path))
+    for name, word in zip(examples, words):
+        row = table.decode(word, rows)
+        assert row is not None and row.name == name and row.word(row.values(word)) == word
+    assert len(words) >= 41

@@ -154,7 +154,8 @@ def test_headers_that_are_forged(shared: pathlib.Path) -> None:
         (Header(2, QUARANTINED, 0, 24, 0), "InvalidState"),
         (Header(2, RESERVED_STATE, 0, 24, 0), "InvalidState"),
         (Header(2, ALLOCATED, BY_NEW, 24, 0), "OK"), (Header(2, ALLOCATED, 2, 48, 0), "OK"),
-        (Header(2, ALLOCATED, 0, 49, 0), "NotABlock"), (Header(2, ALLOCATED, 0, 24, 1), "NotABlock"),
+        (Header(2, ALLOCATED, 0, 49, 0), "NotABlock"),
+        (Header(2, ALLOCATED, 0, 24, 1), "NotABlock"),
         (Header(0xAB, ALLOCATED, 0, 24, 0), "NotABlock"),
     ):
         for cookie in (0, 0xDEADBEEF):

@@ -1,5 +1,5 @@
-"""Worked accesses, steps and runs over the library's memories: bytes, tags and faults by the rules of
-the manual (Arm ARM DDI 0487, D10 and C6.2)."""
+"""Worked accesses, steps and runs over the library's memories: bytes, tags and faults by the rules
+of the manual (Arm ARM DDI 0487, D10 and C6.2)."""
 
 import pathlib
 
@@ -219,7 +219,7 @@ def test_tags_of_addresses(shared: pathlib.Path) -> None:
     assert told(shared, """
 memory = Memory()
 memory.map(0x234567890b000, 4096, 15)
-memory.load(0x234567890b000, (0xd9200800).to_bytes(4, "little") + (0xd9600001).to_bytes(4, "little"))
+memory.load(0x234567890b000, bytes.fromhex("000820d9" "010060d9"))
 regs = Regs(pc=0x234567890b000)
 regs.x0 = 0xf1 << 56 | 0x234567890b010
 regs.x1 = 0xff << 56 | 0x234567890b5ef

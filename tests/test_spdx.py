@@ -83,7 +83,7 @@ def test_crates() -> None:
             reached.add(it)
             left += {*edges.get(it, ()), *(["strsim"] if it == "clap" else [])} - reached
         assert {second for first, second in linked if first == name} == reached
-    assert not {"core_tests", "session_tests"} & set(names_by_identifier(made).values())
+    assert "unit_tests" not in names_by_identifier(made).values()
 
 
 def related_crates(made: dict[str, Any]) -> set[str]:

@@ -146,8 +146,8 @@ assert int.from_bytes(machine.read(0x132d8, 8), "little") == 0x0123456789abcdef 
     assert "status exit 248\n" in ran.output, ran.output + ran.errors
 
 
-# ---- Pages over frames. The pages 512 and 1023 of a table and its last one, and more pages in a row
-# than a lookaside buffer of 64 holds.
+# ---- Pages over frames. The pages 512 and 1023 of a table and its last one, and more pages in a
+# row than a lookaside buffer of 64 holds.
 AREAS = ((0x200000, 70), (0x3FF000, 1), (0x3FFFC000, 4))
 TAGGED = 15 << 56
 FIRST_TAG, SUM = 0xD9600025, 0xAA0500C6  # ldg x5, [x1]; orr x6, x6, x5
@@ -222,7 +222,7 @@ def test_tenants_keep_their_pages(host: pathlib.Path, tmp_path: pathlib.Path) ->
 
 
 # A program of few instructions over a frame, and how it ends.
-FAULTS = {
+FAULTS: dict[str, tuple[list[Words], str]] = {
     "a write to text": ([move(1, 0x10000), store(1, 1)],
                         "fault Permission write addr 0x0000000000010000"),
     "instructions in data": ([move(1, 0x200000), 0xD61F0020],

@@ -1,6 +1,7 @@
-"""A model of the tenants' heap in Python: Scudo's size classes and headers, one stack of free blocks
-a class, pages of their own by first fit, and tags as IRG chooses them (Arm ARM DDI 0487, RandomTag
-and ChooseNonExcludedTag). It is written from Scudo's sources and the manual, not from the code."""
+"""A model of the tenants' heap in Python: Scudo's size classes and headers, one stack of free
+blocks a class, pages of their own by first fit, and tags as IRG chooses them (Arm ARM DDI 0487,
+RandomTag and ChooseNonExcludedTag). It is written from Scudo's sources and the manual, not from
+the code."""
 
 from dataclasses import dataclass, field
 from typing import Optional

@@ -32,15 +32,17 @@ def answer_of(heap: Heap, before: list[Call], row: Row) -> tuple[list[Call], int
 
 def replayed(table: Table) -> list[str]:
     """The rows of a table that a list of heap calls answers otherwise."""
-    heap, before, wrong = Heap(cookie=0, pages=table.pages, asynchronous=table.asynchronous), [], []
+    heap = Heap(cookie=0, pages=table.pages, asynchronous=table.asynchronous)
+    before: list[Call] = []
+    wrong = []
     for row in table.rows:
         if row.name == "pages_left":
-            mapped = sum(it.length for it in heap.regions(before)) // PAGE
+            mapped = sum(int(it.length) for it in heap.regions(before)) // PAGE
             found = (table.pages - mapped, "")
         else:
-            calls, *rest = answer_of(heap, before, row)
+            calls, answer, refusal = answer_of(heap, before, row)
             before += calls
-            found = (rest[0], rest[1])
+            found = (answer, refusal)
         if found != (row.answer, row.refusal):
             wrong.append(f"{row}: {found[0]:#x} {found[1]}")
     return wrong

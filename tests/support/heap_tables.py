@@ -1,9 +1,9 @@
 """Worked calls of a heap with tags and accesses to its memory, and what each answers. The cookie is
 0; the generator begins with the seed 1 and the tag 0, as a tenant's with the seed 1.
 
-A row is `[N *] NAME NUMBER.. [= ANSWER | ! WHY]`: how often it is made, and what it answers the last
-time. `read` and `write` compare tags; `peek` and `poke` do not; `free_row ADDRESS N` frees chunks
-that are 64 bytes from each other; `flag` is whether an access has set the flag.
+A row is `[N *] NAME NUMBER.. [= ANSWER | ! WHY]`: how often it is made, and what it answers the
+last time. `read` and `write` compare tags; `peek` and `poke` do not; `free_row ADDRESS N` frees
+chunks that are 64 bytes from each other; `flag` is whether an access has set the flag.
 """
 
 import re
