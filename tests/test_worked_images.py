@@ -292,3 +292,36 @@ def test_a_title_that_is_escaped(alone: pathlib.Path, tmp_path: pathlib.Path) ->
     assert run([alone, "--map", drawn, file]).status == 0
     text = drawn.read_text(encoding="utf-8")
     assert "a&lt;b&gt; &amp; ?c" in text and "a<b>" not in text
+
+
+# What a picture has of an access past a chunk of class 2, whose granules 1 and 2 have its tag, in
+# its own row: tags, blocks, the chunk, the mark, and a label. A granule is 16 units wide.
+OF_A_CHUNK = (
+    ">0x12000000</text>", ">class 2</text>", ">0x12000000 to 0x12001000: 1 page, class 2</text>",
+    '<use href="#t0" x="0"/><use href="#t1" x="16"/><use href="#t1" x="32"/><use href="#t0" x="48"/>',
+    'M0,-2v22M64,-2v22M128,-2v22"/>', '<rect class="live" y="1" height="16" x="24" width="32"/>',
+    '<rect class="mark" x="48" y="-1" width="16" height="20"/>',
+    '<path class="mark" d="M56,-2v-12"/><g transform="translate(0 -32)"><use href="#t1" x="48"/></g>',
+    '<text class="says" x="70" y="-19">access at 0x12000038 with tag 0x1, memory has 0x0</text>',
+    '<text class="label" y="28">#1 24 B</text>', ' d="M40,45Q48,34 56,45"/>',
+)
+# Of an access in the row after the one in which its chunk begins; rows without tags are left out.
+OF_TWO_ROWS = (
+    ' d="M1016,79Q552,68 88,147"/>', '<text class="label" y="28">#2 1000 B</text>',
+    '<text class="says" x="102" y="-19">access at 0x20000450 with tag 0x1, memory has 0x0</text>',
+)
+
+
+@pytest.mark.parametrize(("words", "parts"), [
+    ([call(3, 24), add(0, 0, 40), load(1, 0)], OF_A_CHUNK),
+    ([call(3, 24), call(3, 1000), add(0, 0, 1088), load(1, 0)], OF_TWO_ROWS),
+], ids=["chunk", "rows"])
+def test_parts_of_a_picture(alone: pathlib.Path, tmp_path: pathlib.Path, words: list[Words],
+                            parts: tuple[str, ...]) -> None:
+    """A mark is in the row of its address alone, and an arrow leads there from the chunk."""
+    file, drawn = tmp_path / "tenant", tmp_path / "heap.svg"
+    file.write_bytes(program(*words))
+    assert run([alone, "--map", drawn, file]).status == 129
+    text = drawn.read_text(encoding="utf-8")
+    assert [it for it in parts if it not in text] == []
+    assert text.count('class="says"') == 1
