@@ -298,10 +298,12 @@ def test_a_title_that_is_escaped(alone: pathlib.Path, tmp_path: pathlib.Path) ->
 # its own row: tags, blocks, the chunk, the mark, and a label. A granule is 16 units wide.
 OF_A_CHUNK = (
     ">0x12000000</text>", ">class 2</text>", ">0x12000000 to 0x12001000: 1 page, class 2</text>",
-    '<use href="#t0" x="0"/><use href="#t1" x="16"/><use href="#t1" x="32"/><use href="#t0" x="48"/>',
+    '<use href="#t0" x="0"/><use href="#t1" x="16"/><use href="#t1" x="32"/>'
+    '<use href="#t0" x="48"/>',
     'M0,-2v22M64,-2v22M128,-2v22"/>', '<rect class="live" y="1" height="16" x="24" width="32"/>',
     '<rect class="mark" x="48" y="-1" width="16" height="20"/>',
-    '<path class="mark" d="M56,-2v-12"/><g transform="translate(0 -32)"><use href="#t1" x="48"/></g>',
+    '<path class="mark" d="M56,-2v-12"/><g transform="translate(0 -32)">'
+    '<use href="#t1" x="48"/></g>',
     '<text class="says" x="70" y="-19">access at 0x12000038 with tag 0x1, memory has 0x0</text>',
     '<text class="label" y="28">#1 24 B</text>', ' d="M40,45Q48,34 56,45"/>',
 )
