@@ -34,12 +34,6 @@ def alone() -> pathlib.Path:
 
 
 @pytest.fixture(scope="session")
-def disassemble() -> pathlib.Path:
-    """The program disassemble."""
-    return built("disassemble")
-
-
-@pytest.fixture(scope="session")
 def shared(tmp_path_factory: pytest.TempPathFactory) -> pathlib.Path:
     """A folder that all workers of this run share."""
     base = tmp_path_factory.getbasetemp()

@@ -26,7 +26,7 @@ export RT_JOBS
 saved=$logs/saved
 save() {
     local file
-    for file in crates/*/out/{mte_{host,split,run},disassemble,*_c.a}{,.unproved,.sources}; do
+    for file in crates/*/out/{mte_{host,split,run},*_c.a}{,.unproved,.sources}; do
         [[ ! -f $file ]] || (mkdir -p "$saved/${file%/*}" && cp -p "$file" "$saved/$file")
     done
 }

@@ -15,7 +15,7 @@ from tests.support.checkout import copy_files, make_stub
 from tests.support.places import ROOT
 from tests.support.running import Ran, run
 
-PROGRAMS = ("disassemble", "mte_host", "mte_run", "mte_split")
+PROGRAMS = ("mte_host", "mte_run", "mte_split")
 LIBRARY = "libtombolopan_c.a"
 # Proves a crate: its lines, and its program or library.
 TOOLCHAIN = """\
@@ -52,10 +52,9 @@ class Clone:
     """A checkout in which nothing was built, with stubs."""
 
     def __init__(self, folder: pathlib.Path) -> None:
-        self.top = copy_files(folder / "clone", "crates/disassemble/", "crates/mte_host/",
-                              "crates/mte_split/", "crates/mte_run/", "crates/tombolopan_c/",
-                              "crates.txt", "tools/build.sh", "tools/sources.sh",
-                              "examples/libc/")
+        self.top = copy_files(folder / "clone", "crates/mte_host/", "crates/mte_split/",
+                              "crates/mte_run/", "crates/tombolopan_c/", "crates.txt",
+                              "tools/build.sh", "tools/sources.sh", "examples/libc/")
         self.tried = folder / "tried"
         for name, text in (("tools/unproved.py", UNPROVED), ("tools/mark.py", MARK),
                            ("tools/install.sh", INSTALL), ("examples/libc/build.py", LIBC)):
@@ -86,9 +85,8 @@ def clone(tmp_path: pathlib.Path) -> Clone:
     return Clone(tmp_path)
 
 
-PROOFS = ["disassemble: run -- 0", *(f"mark.py proved {it}" for it in (*PROGRAMS, LIBRARY)),
-          "mte_host: run -- --help", "mte_run: run -- --help", "mte_split: run -- --help",
-          "tombolopan_c: lib --jobs 1"]
+PROOFS = [*(f"mark.py proved {it}" for it in (*PROGRAMS, LIBRARY)),
+          *(f"{it}: run -- --help" for it in PROGRAMS), "tombolopan_c: lib --jobs 1"]
 
 
 def crates_of(name: str) -> list[str]:

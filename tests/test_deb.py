@@ -25,7 +25,7 @@ NAMES = {"tombolopan", "libtombolopan2", "libtombolopan-dev", "python3-tombolopa
          "tombolopan-doc"}
 # Some files of each package, by patterns of their names.
 FILES = {
-    "tombolopan": ("usr/bin/(mte_host|mte_split|mte_run|disassemble|mte_why|tenant-cc)",
+    "tombolopan": ("usr/bin/(mte_host|mte_split|mte_run|mte_why|tenant-cc)",
                    "usr/share/man/man1/mte_run.1.gz", "usr/include/tenant.h",
                    "usr/lib/tombolopan/libc/lib/(libc.a|start.o|large_blocks.o)",
                    "usr/share/bash-completion/completions/mte_run",
@@ -116,8 +116,7 @@ def test_sums(packages: dict[str, pathlib.Path], tmp_path: pathlib.Path) -> None
     told = {it["name"]: it["checksums"] for it in json.loads(text)["packages"]
             if "checksums" in it}
     files = {"tombolopan_c": next(usr.glob("lib/*/libtombolopan.so.2")),
-             **{it: usr / "bin" / it
-                for it in ("mte_host", "mte_split", "mte_run", "disassemble")}}
+             **{it: usr / "bin" / it for it in ("mte_host", "mte_split", "mte_run")}}
     assert told == {name: [{"algorithm": "SHA256",
                             "checksumValue": hashlib.sha256(it.read_bytes()).hexdigest()}]
                     for name, it in files.items()}

@@ -1,4 +1,4 @@
-"""The text of instructions, as `disassemble` prints it, beside GNU objdump's.
+"""The text of instructions, as the library for C has it, compared with GNU objdump's.
 
 The variables DISASSEMBLY_WORDS and DISASSEMBLY_SEED draw other words: how many (6000), and which
 (2036, by which each alias occurs).
@@ -8,19 +8,23 @@ import os
 import pathlib
 import random
 import re
-from collections.abc import Sequence
+import sys
+from collections.abc import Iterable
 
 import pytest
+from a64 import table
 from disassembly.absent import ABSENT
 
 from tests.support.drawn_words import Drawn, draw_all
+from tests.support.embedding.built import EMBED, in_python
 from tests.support.objdump import OBJDUMP, START, lines_of_objdump
-from tests.support.running import Ran, run
+from tests.support.running import succeed
 from tests.support.tools import need
 
 COUNT = int(os.environ.get("DISASSEMBLY_WORDS", "6000"))
 SEED = int(os.environ.get("DISASSEMBLY_SEED", "2036"))
 
+ASSEMBLER = "aarch64-linux-gnu-as"
 # Each of the aliases that must occur.
 ALIASES = set("""
     asr bfc bfi bfxil cinc cinv cmn cmp cmpp cneg cset csetm lsl lsr mneg mov mul mvn neg negs ngc
@@ -28,10 +32,25 @@ ALIASES = set("""
 """.split())
 
 
-def disassembled(program: pathlib.Path, words: Sequence[int]) -> Ran:
-    """What our program prints of words."""
-    text = "\n".join(f"{word:08x}" for word in words)
-    return run([program, f"{START:x}"], stdin=text.encode())
+# Prints the texts of words, a line each; each has its address in front of it.
+PRINTS = """
+import sys
+from tombolopan import disassemble
+numbers = [int(it, 16) for it in sys.stdin.read().split()]
+for pc, word in zip(numbers[::2], numbers[1::2]):
+    try:
+        print(disassemble(word, pc))
+    except ValueError:
+        print(f".inst 0x{word:08x} // undefined")
+"""
+
+
+def texts_of(shared: pathlib.Path, words: Iterable[tuple[int, int]]) -> list[str]:
+    """The library's texts of words, each after its address."""
+    text = " ".join(f"{pc:x} {word:x}" for pc, word in words)
+    extra = in_python(shared, EMBED / "tombolopan").extra
+    return succeed([sys.executable, "-B", "-c", PRINTS], stdin=text.encode(),
+                   extra=extra).output.splitlines()
 
 
 def is_unpredictable(theirs: str) -> bool:
@@ -61,17 +80,12 @@ def made() -> list[Drawn]:
     return draw_all(random.Random(SEED), COUNT)
 
 
-def test_text_is_objdumps(disassemble: pathlib.Path, made: list[Drawn],
+def test_text_is_objdumps(shared: pathlib.Path, made: list[Drawn],
                           tmp_path: pathlib.Path) -> None:
     """Each instruction of the profile has objdump's text, and a word that is none is refused."""
     need(OBJDUMP)
     words = [drawn.word for drawn in made]
-    ran = disassembled(disassemble, words)
-    assert (ran.status, ran.errors) == (0, "")
-    places = [line.split(" ", 2)[:2] for line in ran.output.splitlines()]
-    assert places == [[f"{START + 4 * number:x}:", f"{word:08x}"]
-                      for number, word in enumerate(words)]
-    ours = [line.split(" ", 2)[2] for line in ran.output.splitlines()]
+    ours = texts_of(shared, ((START + 4 * at, it) for at, it in enumerate(words)))
     theirs = lines_of_objdump(words, tmp_path)
     assert len(ours) == len(theirs) == len(words) >= COUNT
     wrong = [f"{drawn.word:08x} ({drawn.row}): {mine!r}, objdump {other!r}"
@@ -89,26 +103,68 @@ def test_words_are_of_all_kinds(made: list[Drawn], tmp_path: pathlib.Path) -> No
     assert None in rows and len(rows) >= 41
 
 
-def test_words_on_standard_input(disassemble: pathlib.Path) -> None:
-    """Words are separated by blanks or ends of lines; without any nothing is printed."""
-    ran = run([disassemble, "400000"], stdin=b"9adf13e1 14000002")
-    lines = run([disassemble, "400000"], stdin=b"\n9adf13e1\n\n  14000002\n")
-    assert ran == lines and ran.output.count("\n") == 2
-    assert run([disassemble, "400000"], stdin=b"") == Ran(0, b"", b"")
+# Words, each at START, and their texts.
+WORKED = {
+    0x910003FF: "mov sp, sp",
+    0x8B226BFF: "add sp, sp, x2, lsl #2",
+    0xEB0103FF: "cmp xzr, x1",
+    0x4B811003: "sub w3, w0, w1, asr #4",
+    0xB204CFE0: "mov x0, #0xf0f0f0f0f0f0f0f0",
+    0x320003E0: "orr w0, wzr, #0x1",
+    0x92800000: "mov x0, #0xffffffffffffffff",
+    0xD2A00000: "movz x0, #0x0, lsl #16",
+    0xD37DF041: "lsl x1, x2, #3",
+    0x53001C20: "uxtb w0, w1",
+    0xB37D0FE0: "bfc x0, #3, #4",
+    0x93C10C20: "ror x0, x1, #3",
+    0xF0000001: "adrp x1, 0x403000",
+    0x97FFFFFF: "bl 0x3ffffc",
+    0x54000041: "b.ne 0x400008",
+    0xB6080041: "tbz x1, #33, 0x400008",
+    0xD65F03C0: "ret",
+    0xFA42A02F: "ccmp x1, x2, #0xf, ge",
+    0x9A9F17E0: "cset x0, eq",
+    0x9B02FC20: "mneg x0, x1, x2",
+    0x78800041: "ldursh x1, [x2]",
+    0xB862D820: "ldr w0, [x1, w2, sxtw #2]",
+    0x98FFFFE2: "ldrsw x2, 0x3ffffc",
+    0xA8C17BFD: "ldp x29, x30, [sp], #16",
+    0xD503245F: "bti c",
+    0xBAC2003F: "cmpp x1, x2",
+    0x91BF3C41: "addg x1, x2, #0x3f0, #0xf",
+    0xD96FF89F: "stzg sp, [x4, #4080]",
+    0x9ADF13E1: "irg x1, sp",
+}
+# Words that are none of the profile's: data, LDP and LDR with equal registers, SVC with an
+# immediate, ADDG with bit 14 set, the unallocated mode 0 of STGP.
+REFUSED = (0, 0x00006948, 0xA9400000, 0xF8008400, 0xD4000021, 0x91804000, 0x68000000)
 
 
-@pytest.mark.parametrize(("words", "text", "output", "errors"), [
-    ("", "9adf13e1", "0: 9adf13e1 irg x1, sp\n", ""),
-    ("0x10", "0x9adf13e1", "10: 9adf13e1 irg x1, sp\n", ""),
-    ("fffffffffffffffc", "d503201f 14000002",
-     "fffffffffffffffc: d503201f nop\n0: 14000002 b 0x8\n", ""),
-    ("", "d503201f zz", "0: d503201f nop\n", "Error: zz is no word in hexadecimal\n"),
-    ("", "123456789", "", "Error: 123456789 is no word in hexadecimal\n"),
-    ("zz", "d503201f", "",
-     "Error: usage: disassemble [ADDRESS], in hexadecimal; the words come by standard input\n"),
-])
-def test_command_lines(disassemble: pathlib.Path, words: str, text: str, output: str,
-                       errors: str) -> None:
-    """The address is 0 where none is given, and what is no number ends it with status 1."""
-    ran = run([disassemble, *words.split()], stdin=text.encode())
-    assert (ran.status, ran.output, ran.errors) == (1 if errors else 0, output, errors)
+def test_worked_texts(shared: pathlib.Path) -> None:
+    """Aliases, targets and immediates of each kind, and words that are refused; the address after
+    the last one is 0."""
+    assert dict(zip(WORKED, texts_of(shared, ((START, it) for it in WORKED)))) == WORKED
+    assert texts_of(shared, ((START, it) for it in REFUSED)) == [
+        f".inst 0x{it:08x} // undefined" for it in REFUSED]
+    last = (1 << 64) - 4
+    assert texts_of(shared, [(last, 0x14000002), (0, 0x14000002)]) == ["b 0x4", "b 0x8"]
+
+
+def test_examples_of_rows(shared: pathlib.Path, tmp_path: pathlib.Path) -> None:
+    """The example of each row is the word that GNU as makes of its text, and objdump reads our
+    text of it; it has the row's fields."""
+    need(ASSEMBLER, OBJDUMP)
+    rows = table.read_rows()
+    examples = {name: row.said["example"].partition(" ")[::2] for name, row in rows.items()}
+    source, binary = tmp_path / "words.s", tmp_path / "words.o"
+    source.write_text("".join(f"{text}\n" for _, text in examples.values()))
+    succeed([ASSEMBLER, "-march=armv8.5-a+memtag", "-o", binary, source])
+    words = [int(it, 16) for it, _ in examples.values()]
+    told = succeed([OBJDUMP, "-d", binary]).output
+    assert [int(it, 16) for it in re.findall(r"^ *[0-9a-f]+:\t([0-9a-f]{8}) ", told, re.M)] == words
+    assert texts_of(shared, ((START + 4 * at, it) for at, it in enumerate(words))) == (
+        lines_of_objdump(words, tmp_path))
+    for name, word in zip(examples, words):
+        row = table.decode(word, rows)
+        assert row is not None and row.name == name and row.word(row.values(word)) == word
+    assert len(words) >= 41

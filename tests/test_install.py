@@ -28,16 +28,13 @@ SHARE, LIBC = "share/tombolopan", "share/tombolopan/examples/libc/out"
 TENANTS = {path.name: ast.get_docstring(ast.parse(path.read_text(encoding="utf-8"))) or ""
            for path in sorted((EXAMPLES / "libc").glob("tenant-*"))}
 COMPLETED = ("mte_host", "mte_split", "mte_run", "mte_why", *TENANTS)
-PROGRAMS = (*COMPLETED, "disassemble")
-WITH_STATUSES = ("mte_host", "mte_split", "mte_run", "mte_why", "tenant-cc",
-                          "disassemble")
+WITH_STATUSES = ("mte_host", "mte_split", "mte_run", "mte_why", "tenant-cc")
 FILES = {
     "bin/mte_host": EXECUTABLE, "bin/mte_split": EXECUTABLE, "bin/mte_run": EXECUTABLE,
-    "bin/disassemble": EXECUTABLE,
     "include/tombolopan.h": READABLE, "include/tenant.h": READABLE,
     "lib/libtombolopan.a": READABLE, "lib/libtombolopan.so.2": EXECUTABLE,
     "lib/pkgconfig/tombolopan.pc": READABLE,
-    **{f"share/man/man1/{name}.1": READABLE for name in PROGRAMS},
+    **{f"share/man/man1/{name}.1": READABLE for name in COMPLETED},
     "share/man/man3/tombolopan.3": READABLE,
     **{f"share/bash-completion/completions/{name}": READABLE for name in COMPLETED},
     **{f"share/zsh/site-functions/_{name}": READABLE for name in COMPLETED},
@@ -57,7 +54,7 @@ LINKS = {
     "bin/mte_why": "../share/tombolopan/examples/why.sh",
     **{f"bin/{name}": f"../share/tombolopan/examples/libc/{name}" for name in TENANTS},
     **{f"{SHARE}/crates/{name}/out/{name}": f"../../../../../bin/{name}"
-       for name in ("mte_host", "mte_split", "mte_run", "disassemble")},
+       for name in ("mte_host", "mte_split", "mte_run")},
 }
 HEADER = ROOT / "include" / "tombolopan.h"
 FIRST = "breakpoint 1, x0 is 42\n"
@@ -142,7 +139,7 @@ def test_which_build_it_is(prefix: pathlib.Path) -> None:
     """Programs and the library say the commit of the checkout that they were built in."""
     need("readelf")
     built = prefix.parent / "built"
-    for name in ("mte_host", "mte_run", "disassemble"):
+    for name in ("mte_host", "mte_run"):
         wanted = rf"\d\.\d\n{lines_of(built / name)}"
         assert re.fullmatch(wanted, noted(prefix / "bin" / name)), name
     ran = run([prefix / "bin" / "mte_run", "--version"])
@@ -231,12 +228,6 @@ def test_programs(moved: pathlib.Path, tmp_path: pathlib.Path) -> None:
     assert (ran.status, ran.output, ran.errors) == (0, HI_REPORT, "")
     ran = run([moved / "bin" / "mte_run", "hi.elf"], cwd=folder)
     assert (ran.status, ran.output, ran.errors) == (0, "Hi", "")
-
-
-def test_disassemble(moved: pathlib.Path) -> None:
-    """A word's text."""
-    ran = run([moved / "bin" / "disassemble", "400000"], stdin=b"9adf13e1")
-    assert (ran.status, ran.output) == (0, "400000: 9adf13e1 irg x1, sp\n")
 
 
 def test_tenant_cc(moved: pathlib.Path, tmp_path: pathlib.Path) -> None:

@@ -32,8 +32,8 @@ from tests.support.samples import (
 )
 from tests.support.tools import need
 
-COPIED = ("crates/mte_host/", "crates/mte_run/", "crates/disassemble/", "crates/tombolopan_c/",
-          "crates.txt", "examples/", "include/", "isa/", "tools/", "VERSION")
+COPIED = ("crates/mte_host/", "crates/mte_run/", "crates/tombolopan_c/", "crates.txt", "examples/",
+          "include/", "isa/", "tools/", "VERSION")
 WORDS = "pear\napple\nplum\n"
 
 
@@ -48,7 +48,6 @@ class Built:
 
     host: pathlib.Path
     alone: pathlib.Path
-    disassemble: pathlib.Path
     shared: pathlib.Path
     folder: pathlib.Path
 
@@ -65,10 +64,10 @@ class Built:
 
 
 @pytest.fixture
-def built(host: pathlib.Path, alone: pathlib.Path, disassemble: pathlib.Path,
-          shared: pathlib.Path, tmp_path: pathlib.Path) -> Built:
+def built(host: pathlib.Path, alone: pathlib.Path, shared: pathlib.Path,
+          tmp_path: pathlib.Path) -> Built:
     """What samples and commands need."""
-    return Built(host, alone, disassemble, shared, tmp_path)
+    return Built(host, alone, shared, tmp_path)
 
 
 # Samples. Each has a page, the line with which it begins, who prints it, and the beginning of the
@@ -77,11 +76,6 @@ def built(host: pathlib.Path, alone: pathlib.Path, disassemble: pathlib.Path,
 FREED = "examples/c/use_after_free.c"
 OVERFLOW = "examples/c/heap_overflow.c"
 IN_BLOCK, INSTRUCTION, LAST = "0x0000000012000010 is in", "instruction at", "mte_run: ended by"
-
-
-def printed_by_disassemble(built: Built) -> str:
-    """The text of the words of the page."""
-    return run([built.disassemble, "400000"], stdin=b"9adf13e1 14000002").output
 
 
 def reported_of_freed(built: Built) -> str:
@@ -131,7 +125,6 @@ SAMPLES = [
                                EXAMPLES / "hi.elf"]).output),
     Sample("README.md", "mte_run: fault TagCheck",
            lambda it: it.told(str(it.tenant(FREED))), IN_BLOCK),
-    Sample("docs/HOST.md", "400000: ", printed_by_disassemble),
     Sample("docs/REPORT.md", "tenant 1\n", reported_of_freed),
     Sample("docs/MTE_RUN.md", "mte_run: statistics",
            lambda it: it.told("--statistics", str(it.tenant(FREED))), LAST),
@@ -288,7 +281,7 @@ def test_commands(built: Built, part: Part) -> None:
     folder = copy_files(built.folder / "copy", *COPIED)
     is_installed = re.search(r"PREFIX|pkg-config", part.text)
     prefix = installed.prefix(built.shared) if is_installed else built.folder / "nowhere"
-    copy = copy_with_programs(folder, str(prefix), built.host, built.alone, built.disassemble)
+    copy = copy_with_programs(folder, str(prefix), built.host, built.alone)
     prepare(copy, part, built)
     result = copy.run(part)
     for command, status in result.statuses.items():

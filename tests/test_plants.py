@@ -6,7 +6,8 @@ import sys
 import pytest
 from plants import Plant, read_plants
 
-from tests.support.places import ROOT
+from tests.support.host_sessions import HI_REPORT
+from tests.support.places import EXAMPLES, ROOT
 from tests.support.running import Word, succeed
 from tests.support.tools import need
 
@@ -39,12 +40,11 @@ def test_one_is_noticed(tmp_path: pathlib.Path) -> None:
     assert succeed(words).output.endswith("1 of 1 noticed\n")
 
 
-def test_a_build_without_proof(disassemble: pathlib.Path, tmp_path: pathlib.Path) -> None:
+def test_a_build_without_proof(host: pathlib.Path, tmp_path: pathlib.Path) -> None:
     """It writes what the proved program writes."""
     need("rt")
-    made = tmp_path / "disassemble"
-    words: list[Word] = [sys.executable, ROOT / "tools" / "unproved.py", ROOT, made, "disassemble"]
+    made = tmp_path / "mte_host"
+    words: list[Word] = [sys.executable, ROOT / "tools" / "unproved.py", ROOT, made, "mte_host"]
     succeed(words, seconds=900)
-    text = b"9adf13e1 14000002"
-    built = [succeed([it, "400000"], stdin=text).output for it in (made, disassemble)]
-    assert built[0] == built[1] != ""
+    session: list[Word] = ["--frames", "11", EXAMPLES / "hi.script", EXAMPLES / "hi.elf"]
+    assert [succeed([it, *session]).output for it in (made, host)] == [HI_REPORT, HI_REPORT]

@@ -23,7 +23,7 @@ PORTED = [it for it in read_components() if it.linked == "crates"]
 # SPDX 2.3, annex D: expressions of the licences that are here.
 LICENCES = {"MIT", "MIT OR Apache-2.0", "BSD-3-Clause", "Apache-2.0 WITH LLVM-exception",
             "NOASSERTION"}
-PROGRAMS = {"mte_host", "mte_split", "mte_run", "disassemble"}
+PROGRAMS = {"mte_host", "mte_split", "mte_run"}
 
 
 @functools.cache
@@ -83,7 +83,7 @@ def test_crates() -> None:
             reached.add(it)
             left += {*edges.get(it, ()), *(["strsim"] if it == "clap" else [])} - reached
         assert {second for first, second in linked if first == name} == reached
-    assert not {"core_tests", "session_tests"} & set(names_by_identifier(made).values())
+    assert "unit_tests" not in names_by_identifier(made).values()
 
 
 def related_crates(made: dict[str, Any]) -> set[str]:

@@ -1,5 +1,5 @@
 #!/usr/bin/env bash
-# Builds mte_host, mte_split, mte_run, disassemble, the library for C, and the C library of tenants.
+# Builds mte_host, mte_split, mte_run, the library for C, and the C library of tenants.
 #     tools/build.sh [--unproved] [--only NAME] [--jobs N] [PREFIX]
 #
 # What is built from the sources that are there stays: their sum is kept (sources.sh). Programs and
@@ -8,7 +8,7 @@
 # (tools/install.sh). It says of how many crates or steps how many are done.
 #     --unproved   builds without proof, in minutes. Beside each such file is NAME.unproved, with
 #                  its sum. What is proved of these sources stays as it is.
-#     --only NAME  this one alone: a program, libtombolopan_c.a, programs for these five, or tenants
+#     --only NAME  this one alone: a program, libtombolopan_c.a, programs for these four, or tenants
 #                  for the C library of tenants
 #     --jobs N     how many are built at a time without proof (as processors and memory allow)
 set -euo pipefail
@@ -18,7 +18,7 @@ source "$here/sources.sh"
 top=$(cd "$here/.." && pwd)
 crates=$top/crates
 libc=$top/examples/libc
-every=(disassemble mte_host mte_split libtombolopan_c.a mte_run)
+every=(mte_host mte_split libtombolopan_c.a mte_run)
 
 leave() {
     echo "build.sh: $1" >&2
@@ -116,13 +116,12 @@ watched() {
 
 # A program is run once, with words that it takes.
 prove() {
-    local file last=(--help)
+    local file
     file=$(place "$1")
-    [[ $1 != disassemble ]] || last=(0)
     if [[ $1 == *.a ]]; then
         (cd "${file%/out/*}" && rt lib --jobs 1)
     else
-        (cd "${file%/out/*}" && rt run -- "${last[@]}" </dev/null)
+        (cd "${file%/out/*}" && rt run -- --help </dev/null)
     fi
     "$here/mark.py" "$file"
     rm -f "$file.unproved"

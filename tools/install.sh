@@ -3,8 +3,8 @@
 #     tools/install.sh PREFIX [FOLDER]
 #     tools/install.sh --uninstall PREFIX
 #
-#     PREFIX/bin                  mte_host, mte_split, mte_run, disassemble, mte_why (why.sh),
-#                                 tenant-cc and what else is named tenant-.. in examples/libc
+#     PREFIX/bin                  mte_host, mte_split, mte_run, mte_why (why.sh), tenant-cc
+#                                 and what else is named tenant-.. in examples/libc
 #     PREFIX/lib                  libtombolopan.a, libtombolopan.so.2 (libtombolopan.so leads to it)
 #     PREFIX/include              tombolopan.h, tenant.h
 #     PREFIX/lib/pkgconfig        tombolopan.pc
@@ -16,8 +16,8 @@
 #     PREFIX/share/doc/tombolopan the pages
 #
 # A copy of PREFIX elsewhere works too. What is not built yet is proved and built first
-# (tools/build.sh; with its --unproved it takes minutes). FOLDER has mte_host, mte_split, mte_run,
-# disassemble and libtombolopan_c.a that were built elsewhere, and may have libc, what
+# (tools/build.sh; with its --unproved it takes minutes). FOLDER has mte_host, mte_split, mte_run
+# and libtombolopan_c.a that were built elsewhere, and may have libc, what
 # examples/libc/build.py made. DESTDIR, a variable, is put in front of PREFIX.
 set -euo pipefail
 here=$(cd "$(dirname "$0")" && pwd)
@@ -146,7 +146,7 @@ put_examples() {
     put share/tombolopan/isa "$top/isa/a64.rows" "$top/isa/a64.forms"
     ln -s ../share/tombolopan/examples/why.sh "$stage/bin/mte_why"
     # The examples find the programs as in a checkout.
-    for file in mte_host mte_split mte_run disassemble; do
+    for file in mte_host mte_split mte_run; do
         mkdir -p "$stage/share/tombolopan/crates/$file/out"
         ln -s "../../../../../bin/$file" "$stage/share/tombolopan/crates/$file/out/$file"
     done
@@ -192,9 +192,8 @@ put_texts() {
     for name in mte_host mte_split mte_run; do
         "$work/$name" --help >"$work/$name.help"
     done
-    : >"$work/disassemble.help"
     (cd "$stage/bin" && ./mte_why --help) >"$work/mte_why.help"
-    for name in mte_host mte_split mte_run mte_why disassemble "${tenants[@]}"; do
+    for name in mte_host mte_split mte_run mte_why "${tenants[@]}"; do
         "$here/manual.py" program "$name" <"$work/$name.help" >"$work/$name.1"
         put share/man/man1 "$work/$name.1"
     done
@@ -254,11 +253,11 @@ copy_all() {
 }
 
 umask 022
-for name in mte_host mte_split mte_run disassemble libtombolopan_c.a; do
+for name in mte_host mte_split mte_run libtombolopan_c.a; do
     take "$name"
 done
 mkdir -p "$stage/bin"
-put bin "$work/mte_host" "$work/mte_split" "$work/mte_run" "$work/disassemble"
+put bin "$work/mte_host" "$work/mte_split" "$work/mte_run"
 put_libraries
 put_examples
 put_libc

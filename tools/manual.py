@@ -41,7 +41,6 @@ class Manual:
     examples: dict[str, str]
     files: dict[str, str]
     also: str
-    help: str = ""
 
 
 MANUALS = {
@@ -53,7 +52,7 @@ MANUALS = {
                   "prints the report of a tenant that writes Hi and exits"},
         files={f"{EXAMPLES}/hi.script, {EXAMPLES}/hi.elf": "a first session",
                "share/doc/tombolopan/docs/HOST.md": "more on sessions"},
-        also="mte_split(1), mte_run(1), disassemble(1), tenant-cc(1), tombolopan(3)"),
+        also="mte_split(1), mte_run(1), tenant-cc(1), tombolopan(3)"),
     "mte_split": Manual(
         page="MANY_SESSIONS.md", parts={"One long session": "DESCRIPTION"},
         statuses="One long session",
@@ -97,16 +96,6 @@ MANUALS = {
                f"{EXAMPLES}/programs": "ordinary programs that are tenants too",
                "share/doc/tombolopan/docs/TENANTS.md": "more on writing tenants"},
         also="mte_run(1), mte_why(1), mte_host(1)"),
-    "disassemble": Manual(
-        page="", parts={}, statuses="0, or 1 where an argument or a word is none.\n",
-        examples={"disassemble 400000 <<< '9adf13e1 14000002'": "prints two instructions"},
-        files={"share/doc/tombolopan/docs/project/INSTRUCTIONS.md": "the instructions"},
-        also="mte_host(1), mte_run(1)",
-        help="Prints what instruction words mean\n\nReads words of 8 hexadecimal digits, with "
-             "white space between them, from standard input, and writes a line for each: its "
-             "address, the word and its text.\n\nUsage: disassemble [ADDRESS]\n\n"
-             "Arguments:\n  [ADDRESS]  The address of the first word, in hexadecimal; the words "
-             "come by standard input\n"),
 }
 
 
@@ -184,7 +173,6 @@ def of_comment(name: str, text: str) -> dict[str, str]:
 def of_program(name: str, text: str) -> str:
     """The page of a program."""
     manual = MANUALS.get(name, OTHER)
-    text = manual.help or text
     made = of_help(text) if "\nUsage: " in text else of_comment(name, text)
     made = {**made, **from_pages(manual)}
     made["NAME"] = f"{escaped(name)} \\- {escaped(made['NAME'])}"

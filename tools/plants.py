@@ -13,7 +13,7 @@ this copies the checkout, changes the file and tries what the test command has:
     with --proofs the proof of the crate, by `rt ci CRATE`, where nothing else noticed it
 
 With --draw N of the bodies that mte_run shows are drawn, and the whole suite is tried. FOLDER has
-the right programs (mte_host, mte_split, mte_run, disassemble, libtombolopan_c.a); they are those of
+the right programs (mte_host, mte_split, mte_run, libtombolopan_c.a); they are those of
 crates/*/out where none is named. Exit status 1 where one is not noticed.
 """
 import argparse
@@ -44,7 +44,7 @@ SUITES = {
     "mte_host": ["tests/test_host.py"],
     "mte_split": ["tests/test_split.py"],
 }
-PROGRAMS = (*SUITES, "disassemble", "libtombolopan_c.a")
+PROGRAMS = (*SUITES, "libtombolopan_c.a")
 # The crates whose bodies another program than mte_run shows.
 SHOWN_BY = {"mte_host": "mte_host", "mte_split": "mte_split"}
 

@@ -13,7 +13,7 @@ from tests.support.running import Ran, run
 from tests.support.tools import need
 
 INSTALLER = ROOT / "tools" / "install.sh"
-PROGRAMS = ("mte_host", "mte_split", "mte_run", "disassemble")
+PROGRAMS = ("mte_host", "mte_split", "mte_run")
 # A program for the host or for a tenant, which reads what it has freed.
 FREED = """\
 #include <stdio.h>

@@ -49,7 +49,6 @@ def written(rows: Rows) -> dict[str, str]:
         "crates/a64_decode/proofs/RowLemmas.antt": lemmas_file(listed, ways),
         "crates/a64_text/src/rows.rt": text_file(
             listed, calls.read_sources(set(), calls.TEXT_CRATES)),
-        "crates/core_tests/src/instructions/row_words.rt": words_file(listed),
         "tools/disassembly/rows.py": objdump_file(listed),
     }
 
@@ -503,38 +502,6 @@ def text_file(rows: list[Row], sources: Sources) -> str:
         written=WRITTEN, structs=functions_used({"a64_instr::fields": used}),
         arms="\n".join(arm(pattern(row, left_out(row, "text")), call.text)
                        for row, call in called))
-
-
-# ---- core_tests
-
-
-WORDS_FILE = """\
-// {written}
-//! For each row a word as an assembler gives it, with its instruction.
-
-use a64_asm::Instr;
-
-#[rattlefmt::skip]
-pub const ROWS: &[(u32, Instr)] = &[
-{lines}
-];
-"""
-
-
-def word_of_example(row: Row) -> str:
-    """The example of a row: its word, with the fields that stand in it."""
-    digits, _, text = row.said["example"].partition(" ")
-    word = int(digits, 16)
-    fields = ", ".join(f"{name}: {value}" for name, value in row.values(word).items())
-    instr = f"Instr::{row.name} {{ {fields} }}" if fields else f"Instr::{row.name}"
-    line = one_line_or(f"    ({hexadecimal(word)}, {instr}),",
-                       f"    ({hexadecimal(word)},\n        {instr}),")
-    return f"    // {text.strip()}\n{line}"
-
-
-def words_file(rows: list[Row]) -> str:
-    return WORDS_FILE.format(
-        written=WRITTEN, lines="\n".join(map(word_of_example, rows)))
 
 
 # ---- tools/disassembly

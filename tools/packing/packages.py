@@ -17,7 +17,7 @@ from packing.notices import notice
 from packing.parts import LINKS, PAGES, PROGRAMS, Place, pkg_config, place_of
 from packing.release import Release
 
-PROGRAM_NAMES = ("mte_host", "mte_split", "mte_run", "disassemble")
+PROGRAM_NAMES = ("mte_host", "mte_split", "mte_run")
 CHANGELOG = """\
 tombolopan ({version}) unstable; urgency=medium
 

@@ -1,5 +1,0 @@
-use Rattle.scudo_cache.specs.Caches.{IsAbove}
-use Rattle.core_tests.proofs.heap.cache.gives_nine.Given as goal
-
-abbrev pub invariant-loop-number : goal.invariant-loop-number
-invariant-loop-number l = IsAbove l.cache l.pool
