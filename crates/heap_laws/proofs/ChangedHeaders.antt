@@ -78,55 +78,55 @@ AreSame v w place = (i : ℕ) → i < 8 → i ≢ place → byte_of v i ≡ byte
 -- one of the six bytes that are summed
 summed : (s v w place : ℕ) → place < 6 → AreSame v w place
     → sum_of s (byte_of v 0) (byte_of v 1) (byte_of v 2) (byte_of v 3) (byte_of v 4) (byte_of v 5) ≡ sum_of s (byte_of w 0) (byte_of w 1) (byte_of w 2) (byte_of w 3) (byte_of w 4) (byte_of w 5) → byte_of v place ≡ byte_of w place
-summed s v w zero low same e =
+summed s v w zero low same =
     let b = same 1 (omega arith) (omega arith) in
     let c = same 2 (omega arith) (omega arith) in
     let d = same 3 (omega arith) (omega arith) in
     let f = same 4 (omega arith) (omega arith) in
     let g = same 5 (omega arith) (omega arith) in
-    byte-apart s (byte_of v 0) (byte_of w 0) (byte_of w 1 ∷ byte_of w 2 ∷ byte_of w 3 ∷ byte_of w 4 ∷ byte_of w 5 ∷ 0 ∷ 0 ∷ []) (byte-small v 0) (byte-small w 0)
+    λ e. byte-apart s (byte_of v 0) (byte_of w 0) (byte_of w 1 ∷ byte_of w 2 ∷ byte_of w 3 ∷ byte_of w 4 ∷ byte_of w 5 ∷ 0 ∷ 0 ∷ []) (byte-small v 0) (byte-small w 0)
     ((λ i. sum_of s (byte_of v 0) (sym b i) (sym c i) (sym d i) (sym f i) (sym g i)) ∙ e)
-summed s v w (suc zero) low same e =
+summed s v w (suc zero) low same =
     let a = same 0 (omega arith) (omega arith) in
     let c = same 2 (omega arith) (omega arith) in
     let d = same 3 (omega arith) (omega arith) in
     let f = same 4 (omega arith) (omega arith) in
     let g = same 5 (omega arith) (omega arith) in
-    byte-apart (with_byte s (byte_of w 0)) (byte_of v 1) (byte_of w 1) (byte_of w 2 ∷ byte_of w 3 ∷ byte_of w 4 ∷ byte_of w 5 ∷ 0 ∷ 0 ∷ []) (byte-small v 1) (byte-small w 1)
+    λ e. byte-apart (with_byte s (byte_of w 0)) (byte_of v 1) (byte_of w 1) (byte_of w 2 ∷ byte_of w 3 ∷ byte_of w 4 ∷ byte_of w 5 ∷ 0 ∷ 0 ∷ []) (byte-small v 1) (byte-small w 1)
     ((λ i. sum_of s (sym a i) (byte_of v 1) (sym c i) (sym d i) (sym f i) (sym g i)) ∙ e)
-summed s v w (suc (suc zero)) low same e =
+summed s v w (suc (suc zero)) low same =
     let a = same 0 (omega arith) (omega arith) in
     let b = same 1 (omega arith) (omega arith) in
     let d = same 3 (omega arith) (omega arith) in
     let f = same 4 (omega arith) (omega arith) in
     let g = same 5 (omega arith) (omega arith) in
-    byte-apart (with_byte (with_byte s (byte_of w 0)) (byte_of w 1)) (byte_of v 2) (byte_of w 2) (byte_of w 3 ∷ byte_of w 4 ∷ byte_of w 5 ∷ 0 ∷ 0 ∷ []) (byte-small v 2) (byte-small w 2)
+    λ e. byte-apart (with_byte (with_byte s (byte_of w 0)) (byte_of w 1)) (byte_of v 2) (byte_of w 2) (byte_of w 3 ∷ byte_of w 4 ∷ byte_of w 5 ∷ 0 ∷ 0 ∷ []) (byte-small v 2) (byte-small w 2)
     ((λ i. sum_of s (sym a i) (sym b i) (byte_of v 2) (sym d i) (sym f i) (sym g i)) ∙ e)
-summed s v w (suc (suc (suc zero))) low same e =
+summed s v w (suc (suc (suc zero))) low same =
     let a = same 0 (omega arith) (omega arith) in
     let b = same 1 (omega arith) (omega arith) in
     let c = same 2 (omega arith) (omega arith) in
     let f = same 4 (omega arith) (omega arith) in
     let g = same 5 (omega arith) (omega arith) in
-    byte-apart (with_byte (with_byte (with_byte s (byte_of w 0)) (byte_of w 1)) (byte_of w 2)) (byte_of v 3) (byte_of w 3) (byte_of w 4 ∷ byte_of w 5 ∷ 0 ∷ 0 ∷ []) (byte-small v 3) (byte-small w 3)
+    λ e. byte-apart (with_byte (with_byte (with_byte s (byte_of w 0)) (byte_of w 1)) (byte_of w 2)) (byte_of v 3) (byte_of w 3) (byte_of w 4 ∷ byte_of w 5 ∷ 0 ∷ 0 ∷ []) (byte-small v 3) (byte-small w 3)
     ((λ i. sum_of s (sym a i) (sym b i) (sym c i) (byte_of v 3) (sym f i) (sym g i)) ∙ e)
-summed s v w (suc (suc (suc (suc zero)))) low same e =
+summed s v w (suc (suc (suc (suc zero)))) low same =
     let a = same 0 (omega arith) (omega arith) in
     let b = same 1 (omega arith) (omega arith) in
     let c = same 2 (omega arith) (omega arith) in
     let d = same 3 (omega arith) (omega arith) in
     let g = same 5 (omega arith) (omega arith) in
-    byte-apart (with_byte (with_byte (with_byte (with_byte s (byte_of w 0)) (byte_of w 1)) (byte_of w 2)) (byte_of w 3)) (byte_of v 4) (byte_of w 4) (byte_of w 5 ∷ 0 ∷ 0 ∷ []) (byte-small v 4) (byte-small w 4)
+    λ e. byte-apart (with_byte (with_byte (with_byte (with_byte s (byte_of w 0)) (byte_of w 1)) (byte_of w 2)) (byte_of w 3)) (byte_of v 4) (byte_of w 4) (byte_of w 5 ∷ 0 ∷ 0 ∷ []) (byte-small v 4) (byte-small w 4)
     ((λ i. sum_of s (sym a i) (sym b i) (sym c i) (sym d i) (byte_of v 4) (sym g i)) ∙ e)
-summed s v w (suc (suc (suc (suc (suc zero))))) low same e =
+summed s v w (suc (suc (suc (suc (suc zero))))) low same =
     let a = same 0 (omega arith) (omega arith) in
     let b = same 1 (omega arith) (omega arith) in
     let c = same 2 (omega arith) (omega arith) in
     let d = same 3 (omega arith) (omega arith) in
     let f = same 4 (omega arith) (omega arith) in
-    byte-apart (with_byte (with_byte (with_byte (with_byte (with_byte s (byte_of w 0)) (byte_of w 1)) (byte_of w 2)) (byte_of w 3)) (byte_of w 4)) (byte_of v 5) (byte_of w 5) (0 ∷ 0 ∷ []) (byte-small v 5) (byte-small w 5)
+    λ e. byte-apart (with_byte (with_byte (with_byte (with_byte (with_byte s (byte_of w 0)) (byte_of w 1)) (byte_of w 2)) (byte_of w 3)) (byte_of w 4)) (byte_of v 5) (byte_of w 5) (0 ∷ 0 ∷ []) (byte-small v 5) (byte-small w 5)
     ((λ i. sum_of s (sym a i) (sym b i) (sym c i) (sym d i) (sym f i) (byte_of v 5)) ∙ e)
-summed s v w (suc (suc (suc (suc (suc (suc n)))))) low same e = absurd (omega arith)
+summed s v w (suc (suc (suc (suc (suc (suc n)))))) low same = absurd (omega arith)
 
 -- one of the two bytes of the checksum
 kept : (s v w place : ℕ) → 6 ≤ place → AreSame v w place
@@ -140,14 +140,14 @@ kept s v w place high same =
     let g = same 5 (omega arith) (omega arith) in
     λ i. sum_of s (a i) (b i) (c i) (d i) (f i) (g i)
 
-topped : (v w place : ℕ) → 6 ≤ place → place < 8 → AreSame v w place → byte_of v 6 + 256 * byte_of v 7 ≡ byte_of w 6 + 256 * byte_of w 7 → byte_of v place ≡ byte_of w place
-topped v w place high below same e =
-    let six : byte_of v 6 ≡ byte_of w 6 = omega arith in
-    let seven : byte_of v 7 ≡ byte_of w 7 = omega arith in
-    elim (cases_lt place 7) [
-      | inl l ↦ (let q : place ≡ 6 = omega arith in ap (byte_of v) q ∙ six ∙ ap (byte_of w) (sym q))
-      | inr l ↦ (let q : place ≡ 7 = omega arith in ap (byte_of v) q ∙ seven ∙ ap (byte_of w) (sym q))
-    ]
+two-bytes : (a b c d : ℕ) → a < 256 → c < 256 → a + 256 * b ≡ c + 256 * d → (a ≡ c) × (b ≡ d)
+two-bytes a b c d u v e = (omega arith, omega arith)
+
+topped : (v w place : ℕ) → 6 ≤ place → place < 8 → byte_of v 6 ≡ byte_of w 6 → byte_of v 7 ≡ byte_of w 7 → byte_of v place ≡ byte_of w place
+topped v w place high below = elim (cases_lt place 7) [
+  | inl l ↦ (let q : place ≡ 6 = omega arith in λ six seven. ap (byte_of v) q ∙ six ∙ ap (byte_of w) (sym q))
+  | inr l ↦ (let q : place ≡ 7 = omega arith in λ six seven. ap (byte_of v) q ∙ seven ∙ ap (byte_of w) (sym q))
+]
 
 -- ---- so the checksum is another one than the word has
 
@@ -159,22 +159,22 @@ right : (cookie pointer word : ℕ) (b : Bool) (h : Header) → cond b (Some (he
 right cookie pointer word true h e = refl
 right cookie pointer word false h e = cc
 
+low-place : (v w place : ℕ) → place < 6 → AreSame v w place → field_of 48 16 v ≡ field_of 48 16 w
+low-place v w place low same =
+    let six = same 6 (omega arith) (omega arith) in
+    let seven = same 7 (omega arith) (omega arith) in
+    top-is v ∙ (λ i. six i + 256 * seven i) ∙ sym (top-is w)
+
 differs : (cookie pointer word changed : ℕ) (d : DifferInOneByte word changed) → field_of 48 16 word ≡ checksum_of cookie pointer word → field_of 48 16 changed ≡ checksum_of cookie pointer changed → byte_of changed d.place ≡ byte_of word d.place
-differs cookie pointer word changed d e f =
-    let s = start_of cookie pointer in
-    let w = checksum-is cookie pointer word in
-    let v = checksum-is cookie pointer changed in
-    elim (cases_lt d.place 6) [
-      | inl low ↦ (
-          let six = d.same 6 (omega arith) (omega arith) in
-          let seven = d.same 7 (omega arith) (omega arith) in
-          let top : field_of 48 16 changed ≡ field_of 48 16 word = top-is changed ∙ (λ i. six i + 256 * seven i) ∙ sym (top-is word) in
-          summed s changed word d.place low d.same (sym v ∙ sym f ∙ top ∙ e ∙ w))
-      | inr high ↦ (
-          let sums = kept s changed word d.place high d.same in
-          let top : field_of 48 16 changed ≡ field_of 48 16 word = f ∙ v ∙ sums ∙ sym w ∙ sym e in
-          topped changed word d.place high d.below d.same (sym (top-is changed) ∙ top ∙ top-is word))
-    ]
+differs cookie pointer word changed d = elim (cases_lt d.place 6) [
+  | inl low ↦ (
+      let top = low-place changed word d.place low d.same in
+      λ e f. summed (start_of cookie pointer) changed word d.place low d.same (sym (checksum-is cookie pointer changed) ∙ sym f ∙ top ∙ e ∙ checksum-is cookie pointer word))
+  | inr high ↦ λ e f. (
+      let top : field_of 48 16 changed ≡ field_of 48 16 word = f ∙ checksum-is cookie pointer changed ∙ kept (start_of cookie pointer) changed word d.place high d.same ∙ sym (checksum-is cookie pointer word) ∙ sym e in
+      let both = two-bytes (byte_of changed 6) (byte_of changed 7) (byte_of word 6) (byte_of word 7) (byte-small changed 6) (byte-small word 6) (sym (top-is changed) ∙ top ∙ top-is word) in
+      topped changed word d.place high d.below both.0 both.1)
+]
 
 words-refused : (cookie pointer word changed : ℕ) (h : Header) → unpacked_header cookie pointer word ≡ Some h → DifferInOneByte word changed → unpacked_header cookie pointer changed ≡ None
 unfolding unpacked_header
