@@ -16,6 +16,7 @@ use Rattle.scudo_header.specs.declared.headers.Origin.TheVariants.{Malloc}
 use Rattle.scudo_header.specs.declared.headers.State.TheVariants.{Available}
 use Rattle.scudo_header.proofs.HeaderLemmas.{checksum_of-small, unpacked-header-packed-header}
 use Rattle.scudo_primary.proofs.BlockLemmas.{size-IsSize}
+use Rattle.scudo_heap.specs.declared.abort.HeapAbort.{HeapAbort}
 use Rattle.scudo_heap.specs.declared.abort.HeapAbort.TheVariants.{InvalidState}
 use Rattle.scudo_header.specs.declared.config.TheConstants.{MAX_REQUEST}
 use Rattle.scudo_heap.specs.declared.call.HeapCall.{HeapCall}
@@ -35,7 +36,7 @@ use Rattle.scudo_heap.proofs.OpenLemmas.{open-mapped}
 use Rattle.heap_laws.specs.LiveChunks.{BlockChunk, LiveBlocks, IsPlace, chunk_at}
 use Rattle.heap_laws.specs.CarefulRuns.{State, found_at, with_made_chunk, state_after_call, IsLiveBlock}
 use Rattle.heap_laws.specs.SoundHeaps.{Sound}
-use Rattle.heap_laws.specs.Discipline.{Deallocation}
+use Rattle.heap_laws.specs.Discipline.{Deallocation, KeepsFree}
 use Rattle.heap_laws.proofs.SoundAllocations.{IsSoundIn, branch}
 use Rattle.heap_laws.proofs.BlockCalls.{room, block-open, with-chunk-tag-call}
 use Rattle.heap_laws.proofs.SoundFrees.{AreSmall, origin_small, small}
@@ -48,7 +49,7 @@ use Rattle.heap_laws.proofs.Freeings.{IsFreeIn, named, not-free, not-null, free-
 use Rattle.heap_laws.proofs.Freed.{IsStale}
 use Rattle.heap_laws.proofs.Runs.{call-kept, run-sound, run-stale}
 use Rattle.heap_laws.proofs.Disciplines.{not-zero, block-careful, stale-by}
-use Rattle.heap_laws.specs.Frees.{freed_header, HasFreedHeader, IsAborted, DoubleFreesAbort}
+use Rattle.heap_laws.specs.Frees.{freed_header, HasFreedHeader, AbortsBy, IsAborted}
 
 -- ---- a call that frees a chunk gives its block back in a sound state
 
@@ -182,9 +183,9 @@ check-freed w l x s i sm header =
     let aligned : (p.user % 16 == 0) ≡ true = eq-eqb _ _ i.aligned in
     cond-true _ _ _ aligned ∙ cond-true _ _ _ mapped ∙ ap (check_header w.heap p.user) (available-back w.memory w.heap.cookie p.user x.header sm header)
 
-pub aborted-at : (w : World) (pointer : ℕ) → pointer ≢ 0 → found_at w pointer ≡ Err InvalidState → IsAborted w pointer
+pub aborted-by : (a : HeapAbort) (w : World) (pointer : ℕ) → pointer ≢ 0 → found_at w pointer ≡ Err a → AbortsBy a w pointer
 unfolding after_call free_of after_realloc usable_size_of
-aborted-at w pointer n e =
+aborted-by a w pointer n e =
     let some = not-null pointer n in
     record {
       free = ap call_of_free (cond-false _ _ _ some ∙ ap (free_cases w) e);
@@ -195,13 +196,14 @@ aborted-at w pointer n e =
 -- ---- a run
 
 -- the freed chunk's place, as long as its block is free
-pub freed-aborts : (a : State) (d : Deallocation a) (b : State) → Sound a → Sound b → IsPlace b.world.heap.stacks d.chunk.place → HasFreedHeader b.world d.chunk → IsAborted b.world d.pointer
-freed-aborts a d b k sound place header =
+pub freed-aborts : (a : State) (d : Deallocation a) (b : State) (pointer : ℕ) → Sound a → Sound b → IsPlace b.world.heap.stacks d.chunk.place → HasFreedHeader b.world d.chunk → plain pointer ≡ plain d.pointer → IsAborted b.world pointer
+freed-aborts a d b pointer k sound place header same =
     let x = d.chunk in
     let here : x.place.user ≡ plain d.pointer = k.placed.user (plain d.pointer) x d.live.live in
-    let n = not-zero a d.pointer x k d.live in
+    let above = (k.placed.place (plain d.pointer) x d.live.live).above in
+    let n : pointer ≢ 0 = λ z. omega arith in
     let c = check-freed b.world b.live.blocks x (blocks-of b sound) place (header-small a (plain d.pointer) x k d.live.live) header in
-    aborted-at b.world d.pointer n (ap (check_pointer b.world.memory b.world.heap) (sym here) ∙ c)
+    aborted-by InvalidState b.world pointer n (ap (check_pointer b.world.memory b.world.heap) (same ∙ sym here) ∙ c)
 
 abbrev pub IsStaleChunk : {a : State} → Deallocation a → State → Type 0
 IsStaleChunk {a} d b = IsStale b.world.memory b.world.heap.stacks (record { place = d.chunk.place; tag = d.chunk.tag; given = (state_after_call d.call a).world.rgsr.tag })
@@ -212,12 +214,18 @@ freed-sound a d k = (call-kept a d.call k (block-careful a d.pointer d.call d.ch
 pub freed-stale-chunk : (a : State) (d : Deallocation a) → Sound a → IsStaleChunk d (state_after_call d.call a)
 freed-stale-chunk a d k = stale-by a d.pointer d.call d.chunk k (not-zero a d.pointer d.chunk k d.live) d.live d.may d.free
 
-pub double-frees : DoubleFreesAbort
-double-frees = record {
-  header = λ a d k. freed-header d.chunk (state_after_call d.call a).world (given-back a d k);
-  direct = λ a d k. freed-aborts a d (state_after_call d.call a) k (freed-sound a d k) (freed-stale-chunk a d k).place (freed-header d.chunk (state_after_call d.call a).world (given-back a d k));
-  later = λ a b d k run header.
-      let first = freed-sound a d k in
-      let stale = run-stale (record { place = d.chunk.place; tag = d.chunk.tag; given = (state_after_call d.call a).world.rgsr.tag }) run first (freed-stale-chunk a d k) in
-      freed-aborts a d b k (run-sound run first) stale.place header;
-}
+-- what a run keeps of a freed chunk while its block is free
+pub record IsFreedIn (a : State) (d : Deallocation a) (b : State) : Type 0 where
+  pub sound : Sound b
+  pub stale : IsStaleChunk d b
+
+pub freed-in : (a : State) (d : Deallocation a) (b : State) → Sound a → KeepsFree d b → IsFreedIn a d b
+freed-in a d b k run =
+    let first = freed-sound a d k in
+    record {
+      sound = run-sound run first;
+      stale = run-stale (record { place = d.chunk.place; tag = d.chunk.tag; given = (state_after_call d.call a).world.rgsr.tag }) run first (freed-stale-chunk a d k);
+    }
+
+pub header-after : (a : State) (d : Deallocation a) → Sound a → HasFreedHeader (state_after_call d.call a).world d.chunk
+header-after a d k = freed-header d.chunk (state_after_call d.call a).world (given-back a d k)

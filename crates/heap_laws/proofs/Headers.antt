@@ -118,7 +118,7 @@ module _ (s : State) (k : Sound s) where
 
 -- ---- a header whose bytes and cookie stay
 
-pub header-stays : (v w : World) (u : ℕ) (header : Header) → 16 ≤ u → u ≤ 2 ^ 40 → w.heap.cookie ≡ v.heap.cookie → AreSame v.memory w.memory (u - 16) u → HasHeader v u header → HasHeader w u header
+pub header-stays : (v w : World) (u : ℕ) (header : Header) → 16 ≤ u → u ≤ 2 ^ 40 → w.heap.cookie ≡ v.heap.cookie → AreSame v.memory w.memory (u - 16) (u - 8) → HasHeader v u header → HasHeader w u header
 header-stays v w u header low high cookie same h =
     read_bytes-same w.memory v.memory (u - 16) 8 (λ i l. same ((plain (u - 16) + i) % 2 ^ 56) (omega arith) (omega arith))
     ∙ h ∙ ap (λ c. to_le_bytes w64 (packed_header c u header)) (sym cookie)

@@ -43,3 +43,14 @@ pub mod Turns
 pub mod Distances
 pub mod Lifetimes
 pub mod Answers
+pub mod TenantCalls
+pub mod OtherTags
+pub mod LargeGuards
+pub mod LargeFrees
+pub mod Requests
+pub mod Refusals
+pub mod Clearing
+pub mod FreedHeaders
+pub mod ChangedHeaders
+pub mod DrawnTags
+pub mod StaleCalls

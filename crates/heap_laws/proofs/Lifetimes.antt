@@ -1,30 +1,30 @@
 -- The life of a chunk in a tenant of a session.
-use Rattle.std.proofs.Common.{◌≡◌, ◌≢◌, ℕ, ◌<◌, ◌≤◌, Some, refl, sym, ap, subst, ◌∙◌, inl, inr, arith}
+use Rattle.std.proofs.Common.{◌≡◌, ℕ, refl, sym, ap, subst, ◌∙◌, inl, arith}
 use Rattle.a64_bits.specs.Addresses.{plain}
 use Rattle.scudo_header.specs.declared.headers.Origin.TheVariants as origin
 use Rattle.scudo_heap.specs.declared.call.HeapCall.TheVariants.{Malloc, Free}
 use Rattle.scudo_heap.specs.declared.chunk.Chunk.TheVariants.{Small}
-use Rattle.scudo_heap.specs.Chunks.{end_of}
 use Rattle.scudo_heap.specs.Allocation.{after_malloc}
 use Rattle.mte_tenant.specs.Machines.{Machine, after_attempt}
-use Rattle.heap_laws.specs.LiveChunks.{BlockChunk, chunk_at, new_chunk}
-use Rattle.heap_laws.specs.Laws.{IsRefused, IsOutOfReach}
+use Rattle.heap_laws.specs.LiveChunks.{BlockChunk, new_chunk}
+use Rattle.heap_laws.specs.Laws.{IsOutOfReach}
 use Rattle.heap_laws.specs.CarefulRuns.{State, Live, state_after_call, IsLiveBlock, call as call_step, next, stop}
 use Rattle.heap_laws.specs.CarefulTenants.{state_of, before_service, live_after}
 use Rattle.heap_laws.specs.SoundHeaps.{Sound}
 use Rattle.heap_laws.specs.Discipline.{Deallocation, malloc}
 use Rattle.heap_laws.proofs.BlockCalls.{block-open}
-use Rattle.heap_laws.proofs.Faults.{refused}
+use Rattle.heap_laws.proofs.OtherTags.{other-tags}
 use Rattle.heap_laws.proofs.Serving.{blocks-of}
 use Rattle.heap_laws.proofs.Tenants.{step-quiet, after-attempt-kept, after-attempt-done}
-use Rattle.heap_laws.proofs.Disciplines.{stays, chunks-tagged, guarded, freed-free, freed-blocks}
-use Rattle.heap_laws.specs.Frees.{HasFreedHeader, IsAborted}
+use Rattle.heap_laws.proofs.Disciplines.{stays, guarded, freed-free, freed-blocks}
+use Rattle.heap_laws.specs.Frees.{HasFreedHeader}
 use Rattle.heap_laws.specs.NewChunks.{IsZero}
 use Rattle.heap_laws.specs.Lifetimes.{NextMalloc, chunk_made, LifetimesAreGuarded, ChunksFreedAtOnce}
 use Rattle.heap_laws.proofs.NewChunks.{new-live, new-zero}
 use Rattle.heap_laws.proofs.Uses.{chunks-usable}
 use Rattle.heap_laws.proofs.Distances.{odd-distances}
-use Rattle.heap_laws.proofs.Frees.{double-frees}
+use Rattle.heap_laws.proofs.FreedHeaders.{double-frees}
+use Rattle.heap_laws.specs.Turns.{LeavesHeader}
 use Rattle.heap_laws.proofs.Turns.{turns-sound, turns-hold, turns-stay, freed-in-turns}
 
 -- ---- a malloc
@@ -46,16 +46,6 @@ made-at n m l c k =
       live = subst (λ (t : State). IsLiveBlock t x.place.user x) (sym done) (new-live.malloc s c.size (Small c.place c.tag) first.sound c.made);
       zero = subst (λ (t : State). IsZero t.world.memory (Small c.place c.tag)) (sym done) (new-zero.malloc s c.size (Small c.place c.tag) first.sound c.made);
     }
-
--- an access through a pointer with another tag faults in a live chunk
-other-refused : (s : State) (u tag addr : ℕ) (x : BlockChunk) → Sound s → chunk_at s.live.blocks u ≡ Some x → x.tag ≢ tag → x.place.user ≤ addr → addr < end_of x.place → IsRefused s.world.memory tag addr
-other-refused s u tag addr x k e n from to =
-    let b = blocks-of s k in
-    let i = k.placed.place u x e in
-    let above = i.above in
-    let within = i.within in
-    let around = block-open s.world.memory s.world.heap.stacks x.place b.stacked b.served i in
-    refused s.world.memory tag addr k.sync (inr (around.at addr (omega arith) (omega arith))) (λ q. n (sym (chunks-tagged.blocks s u addr x k e from to) ∙ q))
 
 -- ---- the whole life
 
@@ -82,12 +72,13 @@ lifetimes = λ s life admitted sync h.
       after = λ addr from to. guarded.after now p.user addr x sound1 live.live from to;
       apart = λ u addr y e far from to. (odd-distances now p.user u x y sound1 live.live e far).1 addr from to;
       refused = subst (IsOutOfReach h.taker.memory) h.same (freed-in-turns.refused h.user h.taker h.live_now h.live_later d sound1 free);
-      aborted = subst (λ y. HasFreedHeader (state_of h.taker h.live_later).world y → IsAborted (state_of h.taker h.live_later).world d.freed.pointer) h.same (freed-in-turns.aborted h.user h.taker h.live_now h.live_later d sound1 free);
+      aborted = λ pointer q header. freed-in-turns.aborted h.user h.taker h.live_now h.live_later d pointer sound1 free (subst (HasFreedHeader (state_of h.taker h.live_later).world) (sym h.same) header) q;
+      left = λ pointer q keeps. freed-in-turns.left h.user h.taker h.live_now h.live_later d pointer sound1 free (subst (λ u. LeavesHeader u free.1) here keeps) q;
       reused = freed-in-turns.reused h.user h.taker h.live_now h.live_later d sound1 free h.taken.careful
           (after_malloc (state_of (before_service h.taker) h.live_later).world h.taken.size) h.taken.place h.taken.tag (malloc h.taken.size refl) h.taken.made (h.again ∙ here);
       old = λ left addr n from to.
           let again = made-at left h.taker h.live_later h.taken sound2 in
-          other-refused (state_of (after_attempt left h.taker).machine (live_after h.taker h.live_later)) h.taken.place.user h.made.tag addr (chunk_made h.taken) again.sound again.live.live n from to;
+          other-tags.blocks (state_of (after_attempt left h.taker).machine (live_after h.taker h.live_later)) h.taken.place.user h.made.tag addr (chunk_made h.taken) again.sound again.live.live (λ q. n (sym q)) from to;
     }
 
 -- ---- a chunk that is freed at once
@@ -106,4 +97,4 @@ freed-at-once = λ s size p t k e.
     let same : p.user ≡ plain p.user = omega arith in
     let live = subst (λ u. IsLiveBlock s1 u x) same l in
     let d : Deallocation s1 = record { pointer = p.user; call = Free p.user; chunk = x; live = live; may = inl refl; free = freed-free s1 p.user x k1 live } in
-    (freed-blocks s1 (state_after_call (Free p.user) s1) d k1 stop, double-frees.direct s1 d k1)
+    (freed-blocks s1 (state_after_call (Free p.user) s1) d k1 stop, double-frees.direct s1 d p.user k1 refl)

@@ -158,7 +158,7 @@ module _ (s : State) (c : Chunk) (k : Sound s) where
       let w = freed_world i.world f in
       let header = header-stays r.world w (user_of_chunk d) (header_of y) within.low within.high (freed-cookie i.world f)
       (λ a from to.
-      freed-byte i a copied.sound listed (λ p q. is-apart i (user_of_chunk d) v a y x copied.sound here old other (within.own a from to) (p, q))
+      freed-byte i a copied.sound listed (λ p q. is-apart i (user_of_chunk d) v a y x copied.sound here old other (within.own a from (omega arith)) (p, q))
       ∙ byte_at-written_other r.world.memory (user_of_chunk d) bs a (λ j l q. omega arith))
       (new-header t d new) in
       let live : HasChunk (record { world = w; live = without_freed_chunk t.live f }) d = has-chunk (record { world = w; live = without_freed_chunk t.live f }) d (still-freed t.live f (user_of_chunk d) y (λ q. other (q ∙ user)) here) header in

@@ -58,7 +58,7 @@ use Rattle.heap_laws.proofs.Chunks.{AnyChunk, IsIn, found_of, IsOwn, IsTaken, Is
 
 -- ---- an allocation
 
-place-byte : (w : World) (l : LiveBlocks) (o : Origin) (p : Place) → IsSoundIn w l → IsPlace w.heap.stacks p → (a : ℕ) → (p.block ≤ a → a < block_end p → ⊥) → byte_at (after_place w o p).memory a ≡ byte_at w.memory a
+pub place-byte : (w : World) (l : LiveBlocks) (o : Origin) (p : Place) → IsSoundIn w l → IsPlace w.heap.stacks p → (a : ℕ) → (p.block ≤ a → a < block_end p → ⊥) → byte_at (after_place w o p).memory a ≡ byte_at w.memory a
 unfolding after_place with_header with_end_tag_0 with_header_tag_0 with_chunk_tag
 place-byte w l o p s i a far =
     let t = (after_draw w.rgsr (excluded_tags w.memory p)).tag in
@@ -77,7 +77,7 @@ place-byte w l o p s i a far =
     ∙ byte_at-with_granules_kept 1 m1 (p.user - 16) 0 a
     ∙ byte_at-with_granules_out (granules_of p.size) w.memory p.user t a true (omega arith) (λ j k q. far (omega arith) (omega arith)) s.served.whole
 
-pages-byte : (s : State) (o : Origin) (align size n start a : ℕ) → Sound s → IsAlign align → IsMappable s align size n start → (start ≤ a → a < start + PAGE_SIZE * n → ⊥)
+pub pages-byte : (s : State) (o : Origin) (align size n start a : ℕ) → Sound s → IsAlign align → IsMappable s align size n start → (start ≤ a → a < start + PAGE_SIZE * n → ⊥)
     → byte_at (large_placed s.world o (mapping_for start n align size) size).memory a ≡ byte_at s.world.memory a
 unfolding large_placed with_header byte_at
 pages-byte s o align size n start a k al g far =
@@ -162,7 +162,7 @@ tail-byte m p size a whole al above within old below far =
     (λ v. grown-byte m p size a whole al above within old below far))
     (λ t. byte_at-with_granules_kept (granules_of p.size - granules_of size) m (end_of q) 0 a)
 
-resized-byte : (s : State) (x : BlockChunk) (size a : ℕ) → Sound s → chunk_at s.live.blocks x.place.user ≡ Some x → end_of (with_size x.place size) ≤ block_end x.place → (x.place.block ≤ a → a < block_end x.place → ⊥)
+pub resized-byte : (s : State) (x : BlockChunk) (size a : ℕ) → Sound s → chunk_at s.live.blocks x.place.user ≡ Some x → end_of (with_size x.place size) ≤ block_end x.place → (x.place.block ≤ a → a < block_end x.place → ⊥)
     → byte_at (after_resize s.world x.place x.header size).memory a ≡ byte_at s.world.memory a
 unfolding after_resize with_header
 resized-byte s x size a k e within far =

@@ -102,6 +102,27 @@ other-service p m l k =
     (λ h. pick p m l (n == 10) _ _ (λ i. same)
     (λ i. pick p m l (n == 11) _ _ (λ j. same) (λ j. same))))))
 
+ended-heap : (e : SvcEnd) (k : Machine) → (after_service e k).machine.parts.heap ≡ k.parts.heap
+ended-heap end.Resume k = refl
+ended-heap end.Yield k = refl
+ended-heap (end.Exit code) k = refl
+ended-heap (end.Fault f) k = refl
+ended-heap (end.Abort a pointer) k = refl
+
+heap-by : (p : TenantParts) (b : Bool) (x y : Served) → x.parts.heap ≡ p.heap → y.parts.heap ≡ p.heap → (cond b x y).parts.heap ≡ p.heap
+heap-by p true x y f g = f
+heap-by p false x y f g = g
+
+write-heap : (p : TenantParts) (m : Memory) (f : Option MemFault) → (write_cases f p m (write_count p)).parts.heap ≡ p.heap
+unfolding with_answer
+write-heap p m (Some f) = refl
+write-heap p m None = refl
+
+read-heap : (p : TenantParts) (m : Memory) (f : Option MemFault) → (read_cases f p m (read_count p)).parts.heap ≡ p.heap
+unfolding with_answer
+read-heap p m (Some f) = refl
+read-heap p m None = refl
+
 abbrev MayServe : Option HeapCall → TenantParts → Memory → Live → Type 0
 MayServe o p m l = (c : HeapCall) → o ≡ Some c → heap.IsCareful (before p m l) c
 
@@ -214,6 +235,58 @@ after-attempt-done n m l c e =
     let p = with_steps 1 n q in
     let f : call_at o (machine_of p memory) ≡ Some c = sym (call-with-steps o n q memory) ∙ e in
     ap (λ r. state_of (after_outcome o (machine_of p memory)).machine (live_after_cases r (before p memory l))) e ∙ after-outcome-done o p memory l c f
+
+-- ---- a service finds the state of before its instruction
+
+not-next : (o : Outcome) (k : Machine) (c : HeapCall) → call_at o k ≡ Some c → o ≡ outcome.Next → ⊥
+not-next outcome.Next k c e f = cc
+not-next outcome.Svc k c e f = cc
+not-next (outcome.Fault a) k c e f = cc
+not-next (outcome.Illegal w) k c e f = cc
+not-next (outcome.Breakpoint i) k c e f = cc
+
+pub service-same : (m : Machine) (l : Live) (c : HeapCall) → next_call m ≡ Some c → state_of (before_service m) l ≡ state_of m l
+unfolding next_call
+service-same m l c e =
+    let o = step_orderly m.parts.regs m.memory in
+    let n = not-next (step_of m.parts.regs m.memory).outcome (before_service m) c e in
+    let regs = o.regs n in
+    let memory = o.memory n in
+    λ i. record { world = world_of (memory i) m.parts.heap (regs i).rgsr; live = l }
+
+-- ---- an instruction that is no heap call leaves the heap
+
+other-heap : (p : TenantParts) (m : Memory) → (after_other_service p m).parts.heap ≡ p.heap
+unfolding after_other_service after_write_service after_read_service with_answer
+other-heap p m =
+    let n = x_of p 8 in
+    heap-by p (n == 0) _ _ refl (heap-by p (n == 1) _ _ (write-heap p m (read_fault m (x_of p 0) (write_count p) true)) (heap-by p (n == 2) _ _ (read-heap p m (write_fault m (x_of p 0) (read_count p) true))
+    (heap-by p (n == 9) _ _ refl (heap-by p (n == 10) _ _ refl (heap-by p (n == 11) _ _ refl refl)))))
+
+cases-heap : (o : Option HeapCall) (p : TenantParts) (m : Memory) → o ≡ None → (with_service (service_cases o p m)).machine.parts.heap ≡ p.heap
+cases-heap None p m e = ended-heap (after_other_service p m).end (machine_of (after_other_service p m).parts (after_other_service p m).memory) ∙ other-heap p m
+cases-heap (Some c) p m e = cc
+
+flag-heap : (b : Bool) (p : TenantParts) (m : Memory) → cond b None (heap_call_in p) ≡ None → (cond b (continues (stop_by_tag (machine_of p m))) (with_service (after_svc p m))).machine.parts.heap ≡ p.heap
+unfolding after_svc
+flag-heap true p m e = refl
+flag-heap false p m e = cases-heap (heap_call_in p) p m e
+
+outcome-heap : (o : Outcome) (p : TenantParts) (m : Memory) → call_at o (machine_of p m) ≡ None → (after_outcome o (machine_of p m)).machine.parts.heap ≡ p.heap
+unfolding after_outcome
+outcome-heap outcome.Next p m e = refl
+outcome-heap outcome.Svc p m e = flag-heap m.state.pending p m e
+outcome-heap (outcome.Fault f) p m e = refl
+outcome-heap (outcome.Illegal w) p m e = refl
+outcome-heap (outcome.Breakpoint i) p m e = refl
+
+pub attempt-heap : (n : ℕ) (m : Machine) → next_call m ≡ None → (after_attempt n m).machine.parts.heap ≡ m.parts.heap
+unfolding after_attempt next_call
+attempt-heap n m e =
+    let o = (step_of m.parts.regs m.memory).outcome in
+    let memory = (step_of m.parts.regs m.memory).memory in
+    let q = with_regs m.parts (step_of m.parts.regs m.memory).regs in
+    outcome-heap o (with_steps 1 n q) memory (sym (call-with-steps o n q memory) ∙ e)
 
 -- ---- a slice
 

@@ -1,22 +1,28 @@
 -- A tenant's chunks through careful instructions, over the ends of its slices.
-use Rattle.std.proofs.Common.{◌≡◌, ℕ, zero, suc, ◌&&◌, Bool, true, false, cond, List, [], ◌∷◌, refl, sym, subst}
+use Rattle.std.proofs.Common.{◌≡◌, ℕ, zero, suc, ◌&&◌, Bool, true, false, cond, Option, Some, None, List, [], ◌∷◌, refl, sym, ap, subst, ◌∙◌}
 use Rattle.mte_tenant.specs.Machines.{Machine, runs, stop_by_tag, after_attempt, after_attempts, after_slice_end, after_slice}
 use Rattle.mte_sched.specs.Lives.{TenantEvent, OwnSlice, OwnStop}
 use Rattle.mte_sched.specs.Contents as contents
 use Rattle.mte_sched.specs.Contents.{after_own_events}
-use Rattle.heap_laws.specs.CarefulRuns.{State, Live, no_chunks, HasFree, state_after_call}
-use Rattle.heap_laws.specs.CarefulTenants.{state_of, before_service, live_after, live_through, IsCareful}
+use Rattle.heap_laws.specs.CarefulRuns.{State, Live, no_chunks, HasFree, HasFreeBlock, IsCareful as IsCarefulCall, state_after_call}
+use Rattle.heap_laws.specs.CarefulTenants.{state_of, before_service, next_call, live_after, live_through, IsCareful, IsCarefulNext}
 use Rattle.heap_laws.specs.CarefulSessions.{live_of, AreCareful, first_machine}
 use Rattle.heap_laws.specs.SoundHeaps.{Sound}
 use Rattle.heap_laws.specs.Discipline.{Deallocation}
 use Rattle.heap_laws.specs.TenantLaws.{NextDeallocation}
 use Rattle.heap_laws.proofs.Freed.{Freed, IsStale}
-use Rattle.heap_laws.proofs.Tenants.{step-quiet, after-attempt-kept, after-attempt-done}
+use Rattle.heap_laws.proofs.Tenants.{step-quiet, service-same, attempt-heap, after-attempt-kept, after-attempt-done}
 use Rattle.heap_laws.proofs.Starts.{tenants-start}
 use Rattle.heap_laws.proofs.Disciplines.{stale-refused, others-in, stale-tag}
 use Rattle.heap_laws.proofs.Sessions.{accepted, machine-of, gone-stays, live-is}
-use Rattle.heap_laws.specs.Turns.{Turns, stop, next, pause, AnyTurns, TenantsTakeTurns, TurnsStaySound, KeepsFreeThrough, FreedChunksInTurns}
-use Rattle.heap_laws.proofs.Frees.{IsStaleChunk, freed-stale-chunk, freed-aborts}
+use Rattle.heap_laws.specs.Turns.{Turns, stop, next, pause, AnyTurns, TenantsTakeTurns, TurnsStaySound, KeepsFreeThrough, KeepsHeader, LeavesHeader, FreedChunksInTurns}
+use Rattle.heap_laws.proofs.Frees.{IsStaleChunk, freed-stale-chunk, freed-aborts, header-after}
+use Rattle.heap_laws.proofs.FreedHeaders.{header-kept, quiet-header}
+use Rattle.heap_laws.specs.Frees.{HasFreedHeader, IsAborted}
+use Rattle.heap_laws.specs.LiveChunks.{BlockChunk, IsPlace}
+use Rattle.a64_bits.specs.Addresses.{plain}
+use Rattle.scudo_heap.specs.declared.call.HeapCall.{HeapCall}
+use Rattle.scudo_heap.specs.declared.chunk.Place.{Place}
 
 -- ---- the end of a slice changes no state
 
@@ -113,15 +119,54 @@ freed-at {m} {k} {l} {j} d sound r =
     let after = (after-attempt-kept r.0 m l sound d.careful).sound in
     record { sound = turns-sound r.1 after; stale = turns-stale f r.1 after stale }
 
+-- ---- its header
+
+HasHeaderAt : BlockChunk → State → Type 0
+HasHeaderAt x s = HasFreedHeader s.world x
+
+attempt-header : (n : ℕ) (m : Machine) (l : Live) (x : BlockChunk) (o : Option HeapCall) → next_call m ≡ o → Sound (state_of m l) → IsCarefulNext m l → IsPlace m.parts.heap.stacks x.place → HasFreeBlock x (state_of m l)
+    → HasFreeBlock x (state_of (after_attempt n m).machine (live_after m l)) → KeepsHeader x.place.user n m → HasFreedHeader (state_of m l).world x → HasFreedHeader (state_of (after_attempt n m).machine (live_after m l)).world x
+attempt-header n m l x None e k c i free on keeps header =
+    quiet-header (state_of m l) (state_of (after_attempt n m).machine (live_after m l)) x k i (attempt-heap n m e) (keeps e) header
+attempt-header n m l x (Some call) e k c i free on keeps header =
+    let done = after-attempt-done n m l call e ∙ ap (state_after_call call) (service-same m l call e) in
+    subst (λ (t : State). HasFreedHeader t.world x) (sym done)
+    (header-kept (state_of m l) x call k i free (subst (λ (t : State). IsCarefulCall t call) (service-same m l call e) (c.call call e)) (subst (HasFreeBlock x) done on) header)
+
+turns-header : (f : Freed) (x : BlockChunk) → f.place ≡ x.place → {m k : Machine} {l j : Live} (r : Turns (HasFreeBlock x) m l k j) → Sound (state_of m l) → IsStale m.memory m.parts.heap.stacks f → LeavesHeader x.place.user r → HasFreedHeader (state_of m l).world x → HasFreedHeader (state_of k j).world x
+unfolding LeavesHeader IsStaleAt HasHeaderAt
+turns-header f x same stop k st keeps header = header
+turns-header f x same (next {m = m} {l = l} n c p r) k st keeps header =
+    let h = after-attempt-kept n m l k c in
+    let on : HasFree f.place.class f.place.block (state_of (after_attempt n m).machine (live_after m l)) = subst (λ (q : Place). HasFree q.class q.block (state_of (after_attempt n m).machine (live_after m l))) (sym same) p in
+    let free : HasFreeBlock x (state_of m l) = subst (λ (q : Place). HasFree q.class q.block (state_of m l)) same st.stacked in
+    turns-header f x same r h.sound (h.stale f st on) keeps.1 (attempt-header n m l x (next_call m) refl k c (subst (IsPlace m.parts.heap.stacks) same st.place) free p keeps.0 header)
+turns-header f x same (pause {m = m} {l = l} r) k st keeps header =
+    turns-header f x same r (slice-end-keeps Sound m l k) (slice-end-keeps (IsStaleAt f) m l st) keeps (slice-end-keeps (HasHeaderAt x) m l header)
+
+header-at : {m k : Machine} {l j : Live} (d : NextDeallocation m l) → Sound (state_of m l) → (r : KeepsFreeThrough d k j) → LeavesHeader d.freed.chunk.place.user r.1 → HasFreedHeader (state_of k j).world d.freed.chunk
+header-at {m} {k} {l} {j} d sound r keeps =
+    let s = state_of (before_service m) l in
+    let first = step-quiet m l d.careful.tags sound in
+    let done = after-attempt-done r.0 m l d.freed.call d.call in
+    let f : Freed = record { place = d.freed.chunk.place; tag = d.freed.chunk.tag; given = (state_after_call d.freed.call s).world.rgsr.tag } in
+    let stale = subst (λ (t : State). IsStale t.world.memory t.world.heap.stacks f) (sym done) (freed-stale-chunk s d.freed first.sound) in
+    let header = subst (λ (t : State). HasFreedHeader t.world d.freed.chunk) (sym done) (header-after s d.freed first.sound) in
+    turns-header f d.freed.chunk refl r.1 (after-attempt-kept r.0 m l sound d.careful).sound stale keeps header
+
+named-aborts : {m k : Machine} {l j : Live} (d : NextDeallocation m l) (pointer : ℕ) → Sound (state_of m l) → KeepsFreeThrough d k j → HasFreedHeader (state_of k j).world d.freed.chunk → plain pointer ≡ plain d.freed.pointer → IsAborted (state_of k j).world pointer
+named-aborts {m} {k} {l} {j} d pointer sound r header same =
+    let h = freed-at d sound r in
+    let first = step-quiet m l d.careful.tags sound in
+    freed-aborts (state_of (before_service m) l) d.freed (state_of k j) pointer first.sound h.sound h.stale.place header same
+
 pub freed-in-turns : FreedChunksInTurns
 freed-in-turns = record {
   refused = λ m k l j d sound r.
       let h = freed-at d sound r in
       λ addr low high. stale-refused (state_of k j) h.sound (record { place = d.freed.chunk.place; tag = d.freed.chunk.tag; given = (state_after_call d.freed.call (state_of (before_service m) l)).world.rgsr.tag }) h.stale addr low high;
-  aborted = λ m k l j d sound r header.
-      let h = freed-at d sound r in
-      let first = step-quiet m l d.careful.tags sound in
-      freed-aborts (state_of (before_service m) l) d.freed (state_of k j) first.sound h.sound h.stale.place header;
+  aborted = λ m k l j d pointer sound r header same. named-aborts d pointer sound r header same;
+  left = λ m k l j d pointer sound r keeps same. named-aborts d pointer sound r (header-at d sound r keeps) same;
   reused = λ m k l j d sound r then.
       let s = state_of (before_service m) l in
       let f : Freed = record { place = d.freed.chunk.place; tag = d.freed.chunk.tag; given = (state_after_call d.freed.call s).world.rgsr.tag } in

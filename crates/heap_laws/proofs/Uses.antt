@@ -11,13 +11,11 @@ use Rattle.scudo_secondary.specs.Mappings as secondary
 use Rattle.scudo_heap.specs.Chunks.{end_of}
 use Rattle.scudo_heap.specs.Served.{heap_page}
 use Rattle.scudo_heap.proofs.MapLemmas.{without, inside-in}
-use Rattle.heap_laws.specs.CarefulSessions.{state_in}
 use Rattle.heap_laws.proofs.Serving.{blocks-of}
 use Rattle.heap_laws.proofs.BlockCalls.{block-open}
 use Rattle.heap_laws.proofs.Larges.{check-pointer-of}
 use Rattle.heap_laws.proofs.Disciplines.{chunks-tagged}
-use Rattle.heap_laws.proofs.Sessions.{tenants-stay}
-use Rattle.heap_laws.specs.Uses.{IsUsable, ChunksMayBeUsed, ChunksOfTenantsMayBeUsed}
+use Rattle.heap_laws.specs.Uses.{IsUsable, ChunksMayBeUsed}
 
 -- the addresses between two are in pages of the heap, with a tag
 record IsOpenWith (m : Memory) (tag from to : ℕ) : Type 0 where
@@ -67,10 +65,4 @@ chunks-usable = record {
         tags = λ a l r. chunks-tagged.pages s u a x k e l r;
         below = omega arith;
       });
-}
-
-pub chunks-of-tenants-usable : ChunksOfTenantsMayBeUsed
-chunks-of-tenants-usable = record {
-  blocks = λ s life m u x h e. chunks-usable.blocks (state_in life m) u x (tenants-stay s life m h) e;
-  pages = λ s life m u x h e. chunks-usable.pages (state_in life m) u x (tenants-stay s life m h) e;
 }

@@ -1,7 +1,7 @@
 -- What a call answers is the pointer to its chunk, which may be used through it.
 --     AnswersPointerTo s c x    the call c answers the pointer to the chunk x
 --     asked_bytes c             how many bytes a call asks for
-use Rattle.std.specs.Prelude.{◌≡◌, ◌≢◌, ℕ, ◌+◌, ◌*◌, max, Some, Ok, true}
+use Rattle.std.specs.Prelude.{◌≡◌, ◌≢◌, ℕ, ◌+◌, ◌*◌, max, Some, Ok}
 use Rattle.a64_bits.specs.Addresses.{plain, address_tag}
 use Rattle.mte_tags.specs.Memory.{Memory}
 use Rattle.scudo_secondary.specs.Mappings as secondary
@@ -14,10 +14,7 @@ use Rattle.scudo_heap.specs.Chunks.{end_of}
 use Rattle.scudo_heap.specs.Allocation.{after_malloc, after_calloc, after_memalign}
 use Rattle.scudo_heap.specs.Realloc.{user_of_chunk, after_realloc}
 use Rattle.scudo_heap.specs.Calls.{after_call}
-use Rattle.mte_svc.specs.Results.{x_of}
-use Rattle.mte_tenant.specs.Machines.{Machine, runs, after_attempt}
-use Rattle.heap_laws.specs.CarefulRuns.{State, Live, IsCareful}
-use Rattle.heap_laws.specs.CarefulTenants.{state_of, next_call, IsCarefulNext}
+use Rattle.heap_laws.specs.CarefulRuns.{State, IsCareful}
 use Rattle.heap_laws.specs.SoundHeaps.{Sound}
 use Rattle.heap_laws.specs.Uses.{IsUsable}
 
@@ -88,12 +85,3 @@ AskedBytesMayBeUsed =
     (s : State) (c : HeapCall) (pointer : ℕ) → Sound s → IsCareful s c
     → (after_call s.world c).answer ≡ Ok pointer → pointer ≢ 0
     → HasUsableBytes (after_call s.world c).world.memory pointer (asked_bytes c)
-
--- The same of a tenant, after whose careful service x0 has the pointer, whatever slice it is in.
-abbrev pub AskedBytesOfTenantsMayBeUsed : Type 0
-AskedBytesOfTenantsMayBeUsed =
-    (left : ℕ) (m : Machine) (l : Live) (c : HeapCall) → Sound (state_of m l) → IsCarefulNext m l
-    → next_call m ≡ Some c → runs (after_attempt left m).machine ≡ true
-    → x_of (after_attempt left m).machine.parts 0 ≢ 0
-    → HasUsableBytes (after_attempt left m).machine.memory
-    (x_of (after_attempt left m).machine.parts 0) (asked_bytes c)

@@ -16,3 +16,11 @@ pub mod Turns
 pub mod Distances
 pub mod Lifetimes
 pub mod Answers
+pub mod TenantCalls
+pub mod OtherTags
+pub mod LargeChunks
+pub mod Requests
+pub mod Clearing
+pub mod ChangedHeaders
+pub mod DrawnTags
+pub mod StaleCalls

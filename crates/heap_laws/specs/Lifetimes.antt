@@ -1,6 +1,7 @@
 -- The life of a chunk of a size class in a tenant of a session: malloc makes it, it is used and
 -- freed, and malloc gives out its address again.
 use Rattle.std.specs.Prelude.{◌≡◌, ◌≢◌, ℕ, ◌+◌, ◌<◌, ◌≤◌, Some}
+use Rattle.a64_bits.specs.Addresses.{plain}
 use Rattle.mte_tags.specs.declared.state.TagMode.TheVariants.{Sync}
 use Rattle.scudo_header.specs.declared.headers.Origin.TheVariants as origin
 use Rattle.scudo_heap.specs.declared.call.HeapCall.TheVariants.{Malloc, Free}
@@ -24,7 +25,7 @@ use Rattle.heap_laws.specs.NewChunks.{IsZero}
 use Rattle.heap_laws.specs.Uses.{IsUsable}
 use Rattle.heap_laws.specs.Distances.{AreOddBlocksApart}
 use Rattle.heap_laws.specs.Frees.{HasFreedHeader, IsAborted}
-use Rattle.heap_laws.specs.Turns.{Turns, AnyTurns, KeepsFreeThrough}
+use Rattle.heap_laws.specs.Turns.{Turns, AnyTurns, KeepsFreeThrough, LeavesHeader}
 
 -- The next instruction is careful, and a malloc that makes a chunk in a block.
 pub record NextMalloc (m : Machine) (l : Live) : Type 0 where
@@ -71,7 +72,9 @@ new_state h = state_of (after_attempt h.left h.maker).machine (live_after h.make
 -- before, after: each checked access through it to the granule before or after them does
 -- apart: so does each to another live chunk an odd number of blocks apart
 -- refused: once it is freed, each checked access through the pointer that touches its granules does
--- aborted: and each call that names it aborts, while its header is as the free wrote it
+-- aborted: and each call that names it, by whatever tag, aborts, while its header is as the free
+-- wrote it
+-- left: so it does where the instructions that are no heap calls leave the header
 -- reused: malloc gives the address out with another tag than the free gave
 -- old: where that is not the chunk's tag either, each checked access through the old pointer to the
 -- new chunk faults
@@ -91,8 +94,13 @@ pub record IsGuarded {first : Machine} (h : Lifetime first) : Type 0 where
       → IsRefused h.user.memory h.made.tag addr
   pub refused : IsOutOfReach h.taker.memory (chunk_made h.made)
   pub aborted :
-      HasFreedHeader (state_of h.taker h.live_later).world (chunk_made h.made)
-      → IsAborted (state_of h.taker h.live_later).world h.freed.freed.pointer
+      (pointer : ℕ) → plain pointer ≡ plain h.freed.freed.pointer
+      → HasFreedHeader (state_of h.taker h.live_later).world (chunk_made h.made)
+      → IsAborted (state_of h.taker h.live_later).world pointer
+  pub left :
+      (pointer : ℕ) → plain pointer ≡ plain h.freed.freed.pointer
+      → LeavesHeader h.made.place.user h.free.1
+      → IsAborted (state_of h.taker h.live_later).world pointer
   pub reused : h.taken.tag ≢ given_tag h.freed.freed
   pub old :
       (left addr : ℕ) → h.taken.tag ≢ h.made.tag

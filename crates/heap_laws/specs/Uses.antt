@@ -5,12 +5,9 @@ use Rattle.mte_tags.specs.Memory.{Memory}
 use Rattle.mte_tags.specs.Accesses.{read_fault, write_fault}
 use Rattle.scudo_secondary.specs.Mappings as secondary
 use Rattle.scudo_heap.specs.Chunks.{end_of}
-use Rattle.mte_tenant.specs.Machines.{Machine}
-use Rattle.mte_sched.specs.Lives.{Session, Life}
 use Rattle.heap_laws.specs.LiveChunks.{BlockChunk, chunk_at}
 use Rattle.heap_laws.specs.LivePages.{PageChunk, large_at}
 use Rattle.heap_laws.specs.CarefulRuns.{State}
-use Rattle.heap_laws.specs.CarefulSessions.{IsCarefulIn, state_in}
 use Rattle.heap_laws.specs.SoundHeaps.{Sound}
 
 -- No read and no write through a pointer with a tag faults, checked or not, whose bytes are between
@@ -30,14 +27,3 @@ pub record ChunksMayBeUsed : Type 0 where
   pub pages :
       (s : State) (u : ℕ) (x : PageChunk) → Sound s → large_at s.live.pages u ≡ Some x
       → IsUsable s.world.memory 0 x.mapping.start (secondary.end_of x.mapping)
-
--- The same of a tenant of a session whose slices were careful.
-pub record ChunksOfTenantsMayBeUsed : Type 0 where
-  pub blocks :
-      (s : Session) (life : Life) (m : Machine) (u : ℕ) (x : BlockChunk)
-      → IsCarefulIn s life m → chunk_at (state_in life m).live.blocks u ≡ Some x
-      → IsUsable m.memory x.tag x.place.user (end_of x.place)
-  pub pages :
-      (s : Session) (life : Life) (m : Machine) (u : ℕ) (x : PageChunk)
-      → IsCarefulIn s life m → large_at (state_in life m).live.pages u ≡ Some x
-      → IsUsable m.memory 0 x.mapping.start (secondary.end_of x.mapping)

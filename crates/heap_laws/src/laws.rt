@@ -7,11 +7,9 @@
 
 ghost use Rattle.heap_laws.specs.NewChunks.{NewChunksAreLive, NewChunksAreZero};
 ghost use Rattle.heap_laws.specs.NewChunks.{SizesAndAlignments};
-ghost use Rattle.heap_laws.specs.Uses.{ChunksMayBeUsed, ChunksOfTenantsMayBeUsed};
+ghost use Rattle.heap_laws.specs.Uses.{ChunksMayBeUsed};
 ghost use Rattle.heap_laws.specs.Answers.{AnswersArePointers, AskedBytesMayBeUsed};
-ghost use Rattle.heap_laws.specs.Answers.{AskedBytesOfTenantsMayBeUsed};
 ghost use Rattle.heap_laws.specs.OtherChunks.{OtherChunksStay, OtherHeadersStay};
-ghost use Rattle.heap_laws.specs.Frees.{DoubleFreesAbort};
 ghost use Rattle.heap_laws.specs.Reallocs.{ReallocKeepsBytes, ReallocFreesBlocks};
 ghost use Rattle.heap_laws.specs.Reallocs.{ReallocUnmapsPages, ReallocatedChunksAreLive};
 ghost use Rattle.heap_laws.specs.Distances.{OddDistancesDiffer, NeighboursAreOddBlocksApart};
@@ -39,11 +37,6 @@ pub fn chunks_may_be_used()
     ensures { ChunksMayBeUsed }
 {}
 
-/// The same of a tenant of a session whose slices were careful, beside any other tenants.
-pub fn chunks_of_tenants_may_be_used()
-    ensures { ChunksOfTenantsMayBeUsed }
-{}
-
 /// The chunk that malloc, calloc or memalign makes, or a careful realloc answers, has the size that
 /// was asked for, or 1 for 0. What the call answers is the pointer to it, with the tag of its
 /// granules, and no read and no write through this pointer faults up to the chunk's end. So the
@@ -53,23 +46,11 @@ pub fn answers_are_pointers()
     ensures asked { AskedBytesMayBeUsed }
 {}
 
-/// The same of a tenant, which finds the answer in x0 after the service.
-pub fn answers_of_tenants_are_pointers()
-    ensures { AskedBytesOfTenantsMayBeUsed }
-{}
-
 /// A careful call leaves each live chunk that it neither frees nor reallocates live, with its bytes
 /// and its header.
 pub fn other_chunks_stay()
     ensures bytes { OtherChunksStay }
     ensures headers { OtherHeadersStay }
-{}
-
-/// After the free of a chunk of a size class, by `free` or `realloc`, each call that names it
-/// aborts and changes nothing: directly after the free, and later in a careful run until an
-/// allocation takes its block, while its header is the one that the free wrote.
-pub fn double_frees_abort()
-    ensures { DoubleFreesAbort }
 {}
 
 /// A reallocation of a live chunk keeps the bytes that both sizes have, in place or moved, from

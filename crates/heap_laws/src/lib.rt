@@ -3,22 +3,33 @@
 //! its bytes, is guarded by its tag, is freed once, and is then out of reach.
 #![tactic(auto)]
 
+mod call_laws;
+mod free_laws;
 mod laws;
 mod tag_laws;
 mod tenant_laws;
 
+pub use call_laws::{
+    freed_chunks_are_zero, grown_granules_are_zero, mallocs_are_answered,
+    refused_calls_change_nothing,
+};
+pub use free_laws::{
+    changed_headers_are_refused, double_frees_abort, freed_headers_stay, large_double_frees_abort,
+    stale_calls_are_served,
+};
 pub use laws::{
-    answers_are_pointers, answers_of_tenants_are_pointers, chunks_may_be_used,
-    chunks_of_tenants_may_be_used, double_frees_abort, freed_chunks_stay_freed,
-    lifetimes_are_guarded, new_chunks_are_live, new_chunks_are_zero, odd_distances_differ,
-    other_chunks_stay, reallocations_free, reallocations_keep_bytes, tenants_take_turns,
+    answers_are_pointers, chunks_may_be_used, freed_chunks_stay_freed, lifetimes_are_guarded,
+    new_chunks_are_live, new_chunks_are_zero, odd_distances_differ, other_chunks_stay,
+    reallocations_free, reallocations_keep_bytes, tenants_take_turns,
 };
 pub use tag_laws::{
-    careful_runs_are_sound, chunks_are_apart, chunks_are_guarded, chunks_are_tagged,
-    freed_chunks_are_refused, freed_pages_are_refused, neighbours_differ, new_tags_differ,
+    allowed_tags_are_drawn, careful_runs_are_sound, chunks_are_apart, chunks_are_guarded,
+    chunks_are_tagged, freed_chunks_are_refused, freed_pages_are_refused, freed_tags_differ,
+    large_chunks_are_guarded, neighbours_differ, new_tags_differ, other_tags_are_refused,
     reused_tags_differ,
 };
 pub use tenant_laws::{
-    careful_tenants_are_sound, chunks_of_tenants_are_guarded, freed_chunks_of_tenants_are_refused,
-    freed_pages_of_tenants_are_refused, reused_tags_of_tenants_differ,
+    answers_of_tenants_are_pointers, careful_tenants_are_sound, chunks_of_tenants_are_guarded,
+    chunks_of_tenants_may_be_used, freed_chunks_of_tenants_are_refused,
+    freed_pages_of_tenants_are_refused, reused_tags_of_tenants_differ, services_are_calls,
 };

@@ -11,6 +11,9 @@ ghost use Rattle.heap_laws.specs.Discipline.{NewTagsDiffer, NeighboursDiffer, Ch
 ghost use Rattle.heap_laws.specs.Discipline.{FreedBlocksAreFree, FreedPagesAreRefused};
 ghost use Rattle.heap_laws.specs.Discipline.{ChunksAreApart, ChunksAreGuarded};
 ghost use Rattle.heap_laws.specs.Discipline.{ReusedTagsDiffer};
+ghost use Rattle.heap_laws.specs.OtherTags.{OtherTagsAreRefused, FreedTagsDiffer};
+ghost use Rattle.heap_laws.specs.LargeChunks.{LargeChunksAreGuarded};
+ghost use Rattle.heap_laws.specs.DrawnTags.{AllowedTagsAreDrawn};
 
 /// What the other laws rest on holds of a new heap, and after each step of a careful run.
 pub fn careful_runs_are_sound()
@@ -67,4 +70,30 @@ pub fn reused_tags_differ()
 /// such a chunk until its pages are mapped again.
 pub fn freed_pages_are_refused()
     ensures { FreedPagesAreRefused }
+{}
+
+/// Each checked access by another tag than a live chunk's that touches one of its granules faults:
+/// by tag 0 too where it is of a size class, and by each tag but 0 where it has pages of its own.
+pub fn other_tags_are_refused()
+    ensures { OtherTagsAreRefused }
+{}
+
+/// The tag that a free gives the granules of a chunk of a size class is neither 0 nor the chunk's.
+/// Until an allocation takes the block, each checked access by another tag than this that touches
+/// one of them faults.
+pub fn freed_tags_differ()
+    ensures { FreedTagsDiffer }
+{}
+
+/// Each access, checked or not, to the page just before or just after the pages of a live chunk
+/// that has its own faults.
+pub fn large_chunks_are_guarded()
+    ensures { LargeChunksAreGuarded }
+{}
+
+/// From each last tag, each tag that a mask allows is drawn by some seed, if the mask excludes one,
+/// as all of the heap's do. So malloc gives a chunk of a size class each tag that is allowed at its
+/// place, by some seed.
+pub fn allowed_tags_are_drawn()
+    ensures { AllowedTagsAreDrawn }
 {}

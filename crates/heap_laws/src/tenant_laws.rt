@@ -8,6 +8,8 @@ ghost use Rattle.heap_laws.specs.TenantLaws.{FreedBlocksStayRefused};
 ghost use Rattle.heap_laws.specs.TenantLaws.{FreedBlocksOfTenantsAreRefused};
 ghost use Rattle.heap_laws.specs.TenantLaws.{FreedPagesOfTenantsAreRefused};
 ghost use Rattle.heap_laws.specs.TenantLaws.{ChunksOfTenantsAreGuarded};
+ghost use Rattle.heap_laws.specs.TenantCalls.{ChunksOfTenantsMayBeUsed, ServicesAreCalls};
+ghost use Rattle.heap_laws.specs.TenantCalls.{AskedBytesOfTenantsMayBeUsed};
 
 /// What the laws rest on holds of a tenant that is admitted, and after each slice of careful
 /// instructions: of each tenant of a host whose slices were careful, whatever the other tenants
@@ -43,4 +45,22 @@ pub fn chunks_of_tenants_are_guarded()
 /// instructions come between.
 pub fn reused_tags_of_tenants_differ()
     ensures { ReusedTagsStayDifferent }
+{}
+
+/// In a session no read and no write through the pointer to a live chunk of the tenant faults,
+/// checked or not, whose bytes lie in the chunk's granules or in pages of its own.
+pub fn chunks_of_tenants_may_be_used()
+    ensures { ChunksOfTenantsMayBeUsed }
+{}
+
+/// The bytes that a careful service of the heap asks for may be used through what the tenant finds
+/// in x0 after it, where this is not the null pointer.
+pub fn answers_of_tenants_are_pointers()
+    ensures { AskedBytesOfTenantsMayBeUsed }
+{}
+
+/// The next heap call of a careful tenant is a careful call of a sound state, and leaves the state
+/// that the call leaves. So what a law says of calls it says of a tenant's.
+pub fn services_are_calls()
+    ensures { ServicesAreCalls }
 {}
