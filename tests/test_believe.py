@@ -298,3 +298,16 @@ def test_a_theorem_that_is_not_listed(tmp_path: pathlib.Path) -> None:
         encoding="utf-8")
     ran = believe("--root", str(root), "--check")
     assert ran.status == 1 and "README.md names chunks_are_apart" in ran.errors
+
+
+def test_a_verdict_of_other_sources(tmp_path: pathlib.Path) -> None:
+    """A law more than a verdict counts is found, and so is one less."""
+    root = copy_read_files(tmp_path)
+    path = root / "crates/heap_laws/src/free_laws.rt"
+    text = path.read_text(encoding="utf-8")
+    more = "/// Another.\npub fn another()\n    ensures { FreedHeadersStay }\n{}\n"
+    for changed in (f"{text}\n{more}",
+                    text[:text.rindex("\n///")]):
+        path.write_text(changed, encoding="utf-8")
+        ran = believe("--root", str(root), "--check")
+        assert ran.status == 1 and "the verdict of heap_laws is of" in ran.errors

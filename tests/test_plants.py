@@ -1,9 +1,10 @@
-"""The wrong bodies that are planted by hand, and what builds and tries them."""
+"""The wrong bodies and definitions that are planted by hand, and what builds and tries them."""
 
 import pathlib
 import sys
 
 import pytest
+import wrong_definitions
 from plants import Plant, read_plants
 
 from tests.support.host_sessions import HI_REPORT
@@ -48,3 +49,20 @@ def test_a_build_without_proof(host: pathlib.Path, tmp_path: pathlib.Path) -> No
     succeed(words, seconds=900)
     session: list[Word] = ["--frames", "11", EXAMPLES / "hi.script", EXAMPLES / "hi.elf"]
     assert [succeed([it, *session]).output for it in (made, host)] == [HI_REPORT, HI_REPORT]
+
+
+WRONG = wrong_definitions.read_data()
+
+
+@pytest.mark.parametrize("wrong", WRONG, ids=[wrong.name for wrong in WRONG])
+def test_a_wrong_definition_is_of_what_is_there(
+        wrong: wrong_definitions.WrongDefinition, tmp_path: pathlib.Path) -> None:
+    """What it changes is there once, and its laws are those of its crate that name no tenant."""
+    for file, old, _ in wrong.changes:
+        assert (ROOT / file).read_text(encoding="utf-8").count(old) == 1
+    if wrong.crate == wrong_definitions.LAWS:
+        laws = wrong_definitions.copy_laws(ROOT / "crates" / wrong.crate, tmp_path)
+        assert set(wrong.laws) <= set(laws) and "careful_tenants_are_sound" not in laws
+    row = ", ".join(f"`{law}`" for law in wrong.laws)
+    page = (ROOT / "docs/project/CHECKED.md").read_text(encoding="utf-8")
+    assert f" | {row} |\n" in page

@@ -31,14 +31,16 @@ ASKED: list[list[str]] = [
     ["--exact"], ["--exact=writes"], ["--statistics"], ["--exact", "--statistics", "--leaks"],
     ["--exact", "--last", "40", "--map", "text"], ["--statistics", "--steps", "1500"],
 ]
-SLICES = ([], ["--slices", "1,7,1000,1,1048576"], ["--async", "--slices", "999,1,1000000"])
+SLICES: list[list[str]] = [
+    [], ["--slices", "1,7,1000,1,1048576"], ["--async", "--slices", "999,1,1000000"],
+]
 
 
 def differs(alone: pathlib.Path, folder: pathlib.Path, words: list[Word]) -> str:
     """Where a run whose accesses are noted is another than one that is shown each attempt."""
     said = []
-    for name, more in (("noted", []), ("shown", [
-            f"--trace={NEVER}-{NEVER}", "--trace-file", str(folder / "lines")])):
+    each: list[Word] = [f"--trace={NEVER}-{NEVER}", "--trace-file", folder / "lines"]
+    for name, more in {"noted": [], "shown": each}.items():
         file = folder / f"{name}.json"
         file.unlink(missing_ok=True)
         ran = run([alone, "--json", file, *more, *words])
@@ -96,15 +98,15 @@ def loop(times: int, *parts: int) -> list[int]:
 # made before a service and used after it; tags drawn more often than attempts are noted at once;
 # accesses around the longest that are noted at once; granules that are cleared past the chunk.
 BEFORE = loop(9_999, word("hint", imm7=0))
-CASES = {
+CASES: dict[str, list[Words]] = {
     "over the end": [load(1, KEPT, 16), word("ld_st_unscaled", size=3, opc=1, imm9=20, rn=KEPT,
                                              rt=1)],
     "behind a service": [add(21, KEPT, 24), call(MALLOC, 24), load(1, 21, 0)],
-    "draws": loop(70_000, word("irg", rm=31, rn=KEPT, rd=22)),
-    "draws and services": [*loop(33_000, word("irg", rm=31, rn=KEPT, rd=22)), *call(MALLOC, 8),
-                           *loop(32_768, word("irg", rm=31, rn=KEPT, rd=22))],
-    "a far end": [*BEFORE, *BEFORE, load(1, KEPT, 24)],
-    "after a free": [*BEFORE, add(0, KEPT, 0), *move(8, FREE), SERVICE, *BEFORE, load(1, KEPT, 0)],
+    "draws": [loop(70_000, word("irg", rm=31, rn=KEPT, rd=22))],
+    "draws and services": [loop(33_000, word("irg", rm=31, rn=KEPT, rd=22)), call(MALLOC, 8),
+                           loop(32_768, word("irg", rm=31, rn=KEPT, rd=22))],
+    "a far end": [BEFORE, BEFORE, load(1, KEPT, 24)],
+    "after a free": [BEFORE, add(0, KEPT, 0), move(8, FREE), SERVICE, BEFORE, load(1, KEPT, 0)],
     "granules": [word("st_g", opc=1, imm9=0, mode=2, rn=KEPT, rt=KEPT),
                  word("st_g", opc=3, imm9=0, mode=2, rn=KEPT, rt=KEPT)],
 }

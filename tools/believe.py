@@ -9,8 +9,9 @@
     believe.py --given NAME THEOREM    the same with a definition as given (CRATE.MODULE.NAME)
     believe.py --all               print all theorems of the README as one page of Markdown
     believe.py                     write docs/BELIEVE.md, which has their numbers
-    believe.py --check             exit with 1 where it is not what the definitions give, or where a
-                                   closure is larger than its bound in closures/theorems.toml
+    believe.py --check             exit with 1 where it is not what the definitions give, where a
+                                   closure is larger than its bound in closures/theorems.toml, or
+                                   where a verdict counts other functions than the sources have
     believe.py --record LOG        take the verdicts of a log of `rt ci` into closures/verdicts.toml
     believe.py --root DIR ..       the same in another copy of the repository
 
@@ -45,7 +46,7 @@ def written(root: pathlib.Path, repository: Repository) -> tuple[str, list[str]]
     """What the page must be, and what is not as it must be."""
     page = theorems.read_page()
     return (pages.written_page(root, repository, page),
-            theorems.complaints(root, repository, page))
+            [*theorems.complaints(root, repository, page), *verdicts.complaints(root)])
 
 
 def check(root: pathlib.Path, repository: Repository) -> list[str]:

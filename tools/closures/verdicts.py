@@ -33,6 +33,28 @@ def found_in(log: str, crate: str, own: Container[str]) -> dict[str, Any] | None
     return {"line": lines[-1], "statements": statements, "axioms": axioms} if lines else None
 
 
+def count_functions(crate: pathlib.Path) -> tuple[int, int]:
+    """How many functions the sources of a crate have, and how many of them are laws: public, and
+    without code."""
+    text = "".join(it.read_text(encoding="utf-8") for it in sorted((crate / "src").rglob("*.rt")))
+    written = re.findall(r"^ *(?:pub(?:\(\w+\))? )?(?:unsafe )?(?:extern \"C\" )?fn \w", text, re.M)
+    laws = re.findall(r"^\{\}$", text, re.M)
+    return len(written), len(laws)
+
+
+def complaints(root: pathlib.Path) -> list[str]:
+    """The verdicts that are of other sources: of a crate of laws the prover counts just these, of
+    another one the functions that are written, with those that the compiler makes."""
+    found = []
+    for name, verdict in read()["crate"].items():
+        counted = int(re.findall(r"functions=(\d+)", verdict["line"])[0])
+        written, laws = count_functions(root / "crates" / name)
+        if counted < written or (written == laws and counted != laws):
+            found.append(f"verdicts.toml: the verdict of {name} is of {counted} functions, and the "
+                         f"sources have {written}: record one of them (--record)")
+    return found
+
+
 def text_of(data: dict[str, Any]) -> str:
     """The file."""
     lines = [COMMENT.rstrip()]

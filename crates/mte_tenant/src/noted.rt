@@ -54,7 +54,7 @@ pub trait Notes: Watch {
 /// A memory, and the watch that is passed what instructions access in it. It holds what that memory
 /// holds, and each call is that memory's.
 #[derive(Drop)]
-pub(crate) struct Noted<'a, M, N> {
+pub(crate) struct NotedMemory<'a, M, N> {
     memory: &'a mut M,
     notes: &'a mut N,
 }
@@ -63,14 +63,14 @@ pub(crate) struct Noted<'a, M, N> {
 pub(crate) fn note_accesses<'a, M: Tagged, N: Notes>(
     memory: &'a mut M,
     notes: &'a mut N,
-) -> Noted<'a, M, N>
+) -> NotedMemory<'a, M, N>
     ensures memory { result.memory ≡ memory.entry }
     ensures notes { result.notes ≡ notes.entry }
 {
-    Noted { memory, notes }
+    NotedMemory { memory, notes }
 }
 
-impl<M: Tagged, N: Notes> Noted<'_, M, N> {
+impl<M: Tagged, N: Notes> NotedMemory<'_, M, N> {
     /// Notes an access that was completed, where its answer says so.
     #[inline(always)]
     fn note(&mut self, address: u64, bytes: u64, usage: AccessUse, check: bool)
@@ -91,7 +91,7 @@ impl<M: Tagged, N: Notes> Noted<'_, M, N> {
     }
 }
 
-impl<M: Tagged, N: Notes> Tagged for Noted<'_, M, N> {
+impl<M: Tagged, N: Notes> Tagged for NotedMemory<'_, M, N> {
     ghost use Rattle.std.specs.Prelude.{◌≡◌, refl};
     ghost use Rattle.mte_tenant.specs.Noted.{same_on};
 

@@ -13,9 +13,9 @@ use mte_tenant::{
 };
 use std::alloc::Global;
 
-/// What a watch is shown of a slice.
+/// How much of a slice a watch is shown.
 #[derive(Clone, Copy, PartialEq, Eq)]
-pub enum Shown {
+pub enum WatchLevel {
     /// Nothing: the slice runs by a table of instructions, as a host runs it.
     Nothing,
     /// The accesses of instructions by that table, and attempts that lead to no next instruction;
@@ -27,8 +27,8 @@ pub enum Shown {
 
 /// What may watch a tenant.
 pub trait Watcher: Notes {
-    /// What it is shown.
-    fn shown(&self) -> Shown;
+    /// How much it is shown.
+    fn shown(&self) -> WatchLevel;
 
     /// A slice of some steps begins, of which it is shown accesses: of how many of the last steps
     /// it is shown each attempt.
@@ -90,12 +90,12 @@ impl TenantBench {
     {
         let (parts, memory) = (&mut self.parts, &mut self.memory);
         match watch.shown() {
-            Shown::Nothing => slice(&mut self.words, parts, memory, steps),
-            Shown::Accesses => {
+            WatchLevel::Nothing => slice(&mut self.words, parts, memory, steps),
+            WatchLevel::Accesses => {
                 let last = watch.begin(parts, steps);
                 slice_noted(&mut self.words, watch, parts, memory, steps, last);
             }
-            Shown::Attempts => slice_watched(watch, parts, memory, steps),
+            WatchLevel::Attempts => slice_watched(watch, parts, memory, steps),
         }
     }
 

@@ -13,7 +13,7 @@ mod store_watcher;
 mod survey;
 mod tracer;
 
-pub use bench::{Shown, TenantBench, Watcher};
+pub use bench::{TenantBench, WatchLevel, Watcher};
 pub use ending::{LastLine, REFUSED, TenantEnding};
 pub use line_log::observer_of;
 pub use lone::{LoneTenant, admission_of, wants_second_run};

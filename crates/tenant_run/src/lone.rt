@@ -2,7 +2,7 @@
 
 ghost use Rattle.std.specs.Prelude.{◌<◌};
 
-use crate::bench::{Shown, TenantBench};
+use crate::bench::{TenantBench, WatchLevel};
 use crate::ending::TenantEnding;
 use crate::observer::Observer;
 use crate::output_stream::OutputStream;
@@ -154,7 +154,7 @@ impl<'x> LoneTenant<'x> {
             Some(finding) => finding.step,
             None => return Ok(()),
         };
-        observer.shown = Shown::Nothing;
+        observer.shown = WatchLevel::Nothing;
         self.restart(alloc, options, bench)?;
         run_slices(bench, observer, out, options, step);
         Ok(())
@@ -191,8 +191,8 @@ pub fn wants_second_run(bench: &TenantBench, options: &Options, observer: &Obser
         || output.map.is_some()
         || log.output.left() == 0;
     match observer.shown {
-        Shown::Nothing => is_told,
-        Shown::Accesses => is_told || output.json.is_some() || observer.is_suspicious(),
-        Shown::Attempts => false,
+        WatchLevel::Nothing => is_told,
+        WatchLevel::Accesses => is_told || output.json.is_some() || observer.is_suspicious(),
+        WatchLevel::Attempts => false,
     }
 }

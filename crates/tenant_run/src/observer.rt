@@ -2,7 +2,7 @@
 
 ghost use Rattle.std.specs.Prelude.{None};
 
-use crate::bench::{Shown, Watcher};
+use crate::bench::{WatchLevel, Watcher};
 use crate::tracer::Tracer;
 use circular_buffer::HeapCircularBuffer;
 use mte_svc::WRITE;
@@ -22,7 +22,7 @@ const LEAST: usize = 16;
 #[derive(Drop)]
 pub struct Observer<'a> {
     /// What it is shown of the tenant.
-    pub shown: Shown,
+    pub shown: WatchLevel,
     /// The step after which it is shown each attempt, where it is shown accesses.
     shown_after: u64,
     /// The steps before the accesses that it is shown now.
@@ -61,7 +61,7 @@ impl<'a> Observer<'a> {
         checker: Option<Checker<'a>>,
     ) -> Result<Observer<'a>, AllocError> {
         Ok(Observer {
-            shown: Shown::Attempts,
+            shown: WatchLevel::Attempts,
             shown_after: u64::MAX,
             passed: 0,
             suspect: None,
@@ -84,15 +84,15 @@ impl<'a> Observer<'a> {
 
     /// What it has to be shown from the first step on: each attempt where it writes or checks what
     /// it sees, and accesses where it counts or judges these.
-    pub fn needs(&self) -> Shown {
+    pub fn needs(&self) -> WatchLevel {
         if self.tracer.is_some() || self.checker.is_some() {
-            Shown::Attempts
+            WatchLevel::Attempts
         } else if self.exact.is_none() && self.statistics.is_none() {
-            Shown::Nothing
+            WatchLevel::Nothing
         } else if self.turns.is_some() {
-            Shown::Attempts
+            WatchLevel::Attempts
         } else {
-            Shown::Accesses
+            WatchLevel::Accesses
         }
     }
 
@@ -111,9 +111,9 @@ impl<'a> Observer<'a> {
         self.shown_after = wanted.saturating_sub(self.last.capacity() as u64);
         self.suspect = None;
         self.shown = if self.turns.is_some() {
-            Shown::Attempts
+            WatchLevel::Attempts
         } else {
-            Shown::Accesses
+            WatchLevel::Accesses
         };
         self.is_cut = false;
         self.last.clear();
@@ -194,7 +194,7 @@ impl<'a> Observer<'a> {
 }
 
 impl<'a> Watcher for Observer<'a> {
-    fn shown(&self) -> Shown {
+    fn shown(&self) -> WatchLevel {
         self.shown
     }
 
@@ -209,7 +209,7 @@ impl<'a> Watcher for Observer<'a> {
     }
 
     fn has_ended(&self) -> bool {
-        self.shown != Shown::Nothing && (self.is_suspicious() || self.full().is_some())
+        self.shown != WatchLevel::Nothing && (self.is_suspicious() || self.full().is_some())
     }
 }
 

@@ -2,7 +2,7 @@
 
 ghost use Rattle.std.specs.Prelude.{None};
 
-use crate::bench::{Shown, Watcher};
+use crate::bench::{WatchLevel, Watcher};
 use mte_tags::Paged;
 use mte_tenant::{NotedAccess, Notes, TenantParts, Watch};
 use run_cause::{LastStore, StoreWatch, TargetLoad};
@@ -32,8 +32,8 @@ impl StoreWatcher {
 }
 
 impl Watcher for StoreWatcher {
-    fn shown(&self) -> Shown {
-        Shown::Attempts
+    fn shown(&self) -> WatchLevel {
+        WatchLevel::Attempts
     }
 
     fn begin(&mut self, _parts: &TenantParts, steps: u32) -> u32 {

@@ -1,6 +1,6 @@
 //! How a tenant ends under several seeds.
 
-use crate::bench::{Shown, TenantBench};
+use crate::bench::{TenantBench, WatchLevel};
 use crate::ending::{ENDINGS, TenantEnding, ending_at};
 use crate::lone::admission_of;
 use crate::observer::{Observer, checker_of, exact_of};
@@ -81,7 +81,7 @@ fn ending_under<'x>(
     let mut bench = TenantBench::new(alloc, &admission)?;
     let mut observer = silent_observer(alloc, options, terms)?;
     let ending = ending_of(options, &mut bench, &mut observer);
-    if observer.shown != Shown::Accesses || !observer.is_suspicious() {
+    if observer.shown != WatchLevel::Accesses || !observer.is_suspicious() {
         return Ok(ending);
     }
     observer.restart(alloc, bench.parts.history.steps)?;

@@ -5,14 +5,18 @@ use a64_run::known_words_stay;
 use a64_step::{steps_keep_fixed_pages, steps_keep_tag_mode, steps_keep_tags};
 use common::{limits_in_digits, ranges_in_digits};
 use heap_laws::{
-    careful_runs_are_sound, careful_tenants_are_sound, chunks_are_apart, chunks_are_guarded,
-    chunks_are_tagged, chunks_may_be_used, chunks_of_tenants_are_guarded,
-    chunks_of_tenants_may_be_used, double_frees_abort, freed_chunks_are_refused,
-    freed_chunks_of_tenants_are_refused, freed_chunks_stay_freed, freed_pages_are_refused,
-    freed_pages_of_tenants_are_refused, lifetimes_are_guarded, neighbours_differ,
-    new_chunks_are_live, new_chunks_are_zero, new_tags_differ, odd_distances_differ,
-    other_chunks_stay, reallocations_free, reallocations_keep_bytes, reused_tags_differ,
-    reused_tags_of_tenants_differ, tenants_take_turns,
+    allowed_tags_are_drawn, careful_runs_are_sound, careful_tenants_are_sound,
+    changed_headers_are_refused, chunks_are_apart, chunks_are_guarded, chunks_are_tagged,
+    chunks_may_be_used, chunks_of_tenants_are_guarded, chunks_of_tenants_may_be_used,
+    double_frees_abort, freed_chunks_are_refused, freed_chunks_are_zero,
+    freed_chunks_of_tenants_are_refused, freed_chunks_stay_freed, freed_headers_stay,
+    freed_pages_are_refused, freed_pages_of_tenants_are_refused, freed_tags_differ,
+    grown_granules_are_zero, large_chunks_are_guarded, large_double_frees_abort,
+    lifetimes_are_guarded, mallocs_are_answered, neighbours_differ, new_chunks_are_live,
+    new_chunks_are_zero, new_tags_differ, odd_distances_differ, other_chunks_stay,
+    other_tags_are_refused, reallocations_free, reallocations_keep_bytes,
+    refused_calls_change_nothing, reused_tags_differ, reused_tags_of_tenants_differ,
+    services_are_calls, stale_calls_are_served, tenants_take_turns,
 };
 use mte_elf::loading_keeps_memories_whole;
 use mte_frames::others_are_kept;
@@ -84,6 +88,10 @@ fn laws_of_careful_runs() {
     neighbours_differ();
     chunks_are_apart();
     chunks_are_guarded();
+    other_tags_are_refused();
+    freed_tags_differ();
+    large_chunks_are_guarded();
+    allowed_tags_are_drawn();
 }
 
 #[test]
@@ -93,6 +101,7 @@ fn laws_of_careful_tenants() {
     freed_pages_of_tenants_are_refused();
     chunks_of_tenants_are_guarded();
     reused_tags_of_tenants_differ();
+    services_are_calls();
 }
 
 #[test]
@@ -103,8 +112,16 @@ fn laws_of_a_heap() {
     chunks_of_tenants_may_be_used();
     other_chunks_stay();
     double_frees_abort();
+    freed_headers_stay();
+    large_double_frees_abort();
+    changed_headers_are_refused();
+    stale_calls_are_served();
     reallocations_keep_bytes();
     reallocations_free();
+    mallocs_are_answered();
+    refused_calls_change_nothing();
+    freed_chunks_are_zero();
+    grown_granules_are_zero();
     odd_distances_differ();
     tenants_take_turns();
     freed_chunks_stay_freed();
