@@ -305,9 +305,8 @@ def test_a_verdict_of_other_sources(tmp_path: pathlib.Path) -> None:
     root = copy_read_files(tmp_path)
     path = root / "crates/heap_laws/src/free_laws.rt"
     text = path.read_text(encoding="utf-8")
-    more = "/// Another.\npub fn another()\n    ensures { FreedHeadersStay }\n{}\n"
-    for changed in (f"{text}\n{more}",
-                    text[:text.rindex("\n///")]):
+    another = "\n/// Another.\npub fn another()\n    ensures { FreedHeadersStay }\n{}\n"
+    for changed in (text + another, text[:text.rindex("\n///")]):
         path.write_text(changed, encoding="utf-8")
         ran = believe("--root", str(root), "--check")
         assert ran.status == 1 and "the verdict of heap_laws is of" in ran.errors

@@ -40,7 +40,8 @@ def differs(alone: pathlib.Path, folder: pathlib.Path, words: list[Word]) -> str
     """Where a run whose accesses are noted is another than one that is shown each attempt."""
     said = []
     each: list[Word] = [f"--trace={NEVER}-{NEVER}", "--trace-file", folder / "lines"]
-    for name, more in {"noted": [], "shown": each}.items():
+    ways: dict[str, list[Word]] = {"noted": [], "shown": each}
+    for name, more in ways.items():
         file = folder / f"{name}.json"
         file.unlink(missing_ok=True)
         ran = run([alone, "--json", file, *more, *words])

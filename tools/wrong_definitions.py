@@ -177,8 +177,8 @@ def words_of(folder: pathlib.Path, laws: str, sources: Iterable[str]) -> list[st
     words = [f"{tools}/bin/rattle", "check", "--crate-name", laws, "src/lib.rt",
              "--extern", f"std={tools}/rlibs/std.rlib", "-L", f"dependency={tools}/rlibs"]
     if laws != LAWS:
-        words += [word for it in KIT_CRATES
-                  for word in ("--extern", f"{it}={tools}/rlibs/{it}.rlib")]
+        for name in KIT_CRATES:
+            words += ["--extern", f"{name}={tools}/rlibs/{name}.rlib"]
     given = set(sources)
     for name in crates_under(laws):
         library = ROOT / "crates" / name / "out/rlib"

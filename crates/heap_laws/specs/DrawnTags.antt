@@ -14,10 +14,10 @@ use Rattle.heap_laws.specs.SoundHeaps.{Sound}
 abbrev pub with_seed : World → ℕ → World
 with_seed w seed = record w { rgsr = record { tag = w.rgsr.tag; seed = seed } }
 
--- draws: from each last tag, each tag that a mask allows is drawn by some seed, if the mask excludes
--- a tag, as the heap's masks exclude tag 0
--- mallocs: so where malloc makes a chunk of a size class it gives it, by some seed, each tag that is
--- allowed there
+-- draws: from each last tag, each tag that a mask allows is drawn by some seed, if the mask
+-- excludes a tag, as the heap's masks exclude tag 0
+-- mallocs: so where malloc makes a chunk of a size class it gives it, by some seed, each tag that
+-- is allowed there
 pub record AllowedTagsAreDrawn : Type 0 where
   pub draws :
       (last exclude tag excluded : ℕ) → tag < 16 → is_allowed exclude tag ≡ true

@@ -15,8 +15,8 @@ use Rattle.heap_laws.specs.CarefulTenants.{state_of, next_call, IsCarefulNext, l
 use Rattle.heap_laws.specs.Uses.{IsUsable}
 use Rattle.heap_laws.specs.Answers.{HasUsableBytes, asked_bytes}
 
--- No access through the pointer to a live chunk of a tenant of a session, whose slices were careful,
--- faults whose bytes are in the chunk's granules or in pages of its own.
+-- No access through the pointer to a live chunk of a tenant of a session whose slices were careful
+-- faults, if its bytes are in the chunk's granules or in pages of its own.
 pub record ChunksOfTenantsMayBeUsed : Type 0 where
   pub blocks :
       (s : Session) (life : Life) (m : Machine) (u : ℕ) (x : BlockChunk)

@@ -68,8 +68,8 @@ LeavesHeader user (pause turns) = LeavesHeader user turns
 
 -- refused: each checked access through the pointer to the freed chunk that touches one of its
 -- granules faults
--- aborted: each call that names the chunk, by whatever tag, aborts, while the header is the one that
--- the free wrote
+-- aborted: each call that names the chunk, by whatever tag, aborts, while the header is the one
+-- that the free wrote
 -- left: so it does where the instructions that are no heap calls leave the header
 -- reused: the allocation that takes the block next and gives out the address has another tag than
 -- the free gave
