@@ -1,5 +1,5 @@
 """Worked accesses, steps and runs over the library's memories: bytes, tags and faults by the rules
-of the manual (Arm ARM DDI 0487, D10 and C6.2)."""
+of the manual (Arm ARM DDI 0487, "The Memory Tagging Extension" and C6.2)."""
 
 import pathlib
 
