@@ -81,7 +81,7 @@ def test_drawn_programs(alone: pathlib.Path, tmp_path: pathlib.Path) -> None:
             found.append(differs(alone, tmp_path, [*asked, *slices, *ready]))
             ends.add(json.loads((tmp_path / "noted.json").read_text())["status"]["kind"])
     assert [it for it in found if it] == []
-    assert DRAWN < 50 or {"exit", "fault", "check"} <= ends, ends
+    assert DRAWN < 50 or {"exit", "exact", "illegal"} <= ends, ends
 
 
 def heap(*parts: Words) -> bytes:
