@@ -16,15 +16,11 @@ FILES = sorted((ROOT / "tools" / "wrong_bodies").glob("*.toml"))
 PLANTS = read_plants(FILES, "")
 
 
-# The crates whose numbers and structures are those of a library.
-BELOW = {"tombolopan_c": ("c_reports",)}
-
-
 @pytest.mark.parametrize("plant", PLANTS, ids=[plant.name for plant in PLANTS])
 def test_its_text_is_there_once(plant: Plant) -> None:
     """A body that has moved is planted nowhere."""
     assert (ROOT / plant.file).read_text(encoding="utf-8").count(plant.old) == 1
-    assert plant.file.split("/")[1] in (plant.crate, *BELOW.get(plant.crate, ()))
+    assert plant.file.split("/")[1] == plant.crate
 
 
 def test_names_are_distinct() -> None:

@@ -12,7 +12,7 @@ FOLDERS = [ROOT / it for it in compare.FOLDERS]
 HEADER = "include/tombolopan.h"
 RUST = "examples/embed/tombolopan.rs"
 PYTHON = "examples/embed/tombolopan/abi.py"
-CODES = "crates/c_reports/src/codes.rt"
+CODES = "crates/tombolopan_c/src/codes.rt"
 Changed = tuple[str, str]  # a path and its text
 
 

@@ -10,10 +10,10 @@ from .shapes import Border, BorderError, Call, Place, Struct, layout, renamed
 from .tables import SOURCE, Tables, read
 
 CRATE = "crates/tombolopan_c/src"
+# It has numbers of registers too, which the tables do not.
+ACTS = f"{CRATE}/act_kinds.rt"
 # All sources that declare what crosses the border.
-FOLDERS = (
-    CRATE, "crates/c_reports/src", "crates/tenant_snapshot/src", "crates/traced_run/src",
-)
+FOLDERS = (CRATE, "crates/tenant_snapshot/src", "crates/traced_run/src")
 Read = Callable[[str], str]
 Names = tuple[tuple[str, str], ...]  # of a language, each with the name of C
 
@@ -138,12 +138,12 @@ def padding(crate: Border) -> Iterator[str]:
 
 def code_numbers(read_file: Read, tables: Tables) -> Iterator[str]:
     """What differs between the tables and the constants of the crates."""
-    listed = {"crates/c_reports/src/codes.rt": {**tables.unnamed}}
+    listed = {f"{CRATE}/codes.rt": {**tables.unnamed}}
     for it in tables.enums:
         listed.setdefault(it.code, {}).update({at.name: at.number for at in it.entries})
     for path, wanted in listed.items():
         found = rusty.constants(read_file(path))
-        if not path.startswith((CRATE, "crates/c_reports/src/codes.rt")):
+        if path == ACTS or not path.startswith(CRATE):
             found = {name: found.get(name, -1) for name in wanted}
         yield from same_numbers(path, wanted, found)
     if tables.unnamed["VERSION"] != tables.version:

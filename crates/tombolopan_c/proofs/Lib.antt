@@ -1,3 +1,5 @@
+mod ActLists
+mod PageMaps
 mod Places
 mod Changes
 mod Found

@@ -15,13 +15,13 @@ use Rattle.tombolopan.specs.declared.heap_op.HeapOp.{HeapOp}
 use Rattle.tombolopan.specs.declared.heap_op.HeapOp.TheVariants as op
 use Rattle.tombolopan.specs.declared.heap_op.HeapAnswer.{HeapAnswer}
 use Rattle.tombolopan.specs.declared.heap_op.HeapAnswer.TheVariants as answer
-use Rattle.c_reports.specs.Faults.{no_fault, report_of}
+use Rattle.tombolopan_c.specs.Faults.{no_fault, report_of}
 use Rattle.tombolopan_c.specs.LentPages.{mode_for}
-use Rattle.c_reports.specs.declared.codes.TheConstants.{OK, FAULT, ABORT, BAD_ARGUMENT}
-use Rattle.c_reports.specs.declared.codes.TheConstants.{MISALIGNED, UNMAPPED, HEADER_CORRUPT}
-use Rattle.c_reports.specs.declared.codes.TheConstants.{INVALID_STATE, NOT_A_BLOCK, ALREADY_FREE}
-use Rattle.c_reports.specs.declared.codes.TheConstants.{MALLOC, FREE, CALLOC, REALLOC, MEMALIGN}
-use Rattle.c_reports.specs.declared.codes.TheConstants.{USABLE_SIZE, LOAD, STORE, LOAD_TAG}
+use Rattle.tombolopan_c.specs.declared.codes.TheConstants.{OK, FAULT, ABORT, BAD_ARGUMENT}
+use Rattle.tombolopan_c.specs.declared.codes.TheConstants.{MISALIGNED, UNMAPPED, HEADER_CORRUPT}
+use Rattle.tombolopan_c.specs.declared.codes.TheConstants.{INVALID_STATE, NOT_A_BLOCK, ALREADY_FREE}
+use Rattle.tombolopan_c.specs.declared.codes.TheConstants.{MALLOC, FREE, CALLOC, REALLOC, MEMALIGN}
+use Rattle.tombolopan_c.specs.declared.codes.TheConstants.{USABLE_SIZE, LOAD, STORE, LOAD_TAG}
 use Rattle.tombolopan_c.specs.declared.lent_heap.HeapSetup.{HeapSetup}
 use Rattle.tombolopan_c.specs.declared.lent_heap.LentHeapCall.{LentHeapCall}
 

@@ -3,11 +3,11 @@ use Rattle.std.specs.Prelude.{ℕ, zero, suc, ◌+◌, ◌-◌, ◌%◌, ◌^◌
 use Rattle.std.specs.Prelude.{◌≡◌, List, [], ◌∷◌, length, Option, Some, None, is_some, slice_get, slice_set}
 use Rattle.std.specs.Prelude.{if◌then◌else◌}
 use Rattle.scudo_heap.specs.Placing.{World}
-use Rattle.c_reports.specs.Pages.{IsPageMap}
-use Rattle.c_reports.specs.declared.pages.PageEntry.{PageEntry}
+use Rattle.tombolopan_c.specs.Pages.{IsPageMap}
+use Rattle.tombolopan_c.specs.declared.pages.PageEntry.{PageEntry}
 use Rattle.tombolopan_c.specs.HeapCalls.{op_of, after_heap_call, with_bad_argument, start_of}
 use Rattle.tombolopan_c.specs.LentBuffers.{filled}
-use Rattle.c_reports.specs.declared.codes.TheConstants.{OK, FREE, STORE}
+use Rattle.tombolopan_c.specs.declared.codes.TheConstants.{OK, FREE, STORE}
 use Rattle.tombolopan_c.specs.declared.lent_heap.HeapSetup.{HeapSetup}
 use Rattle.tombolopan_c.specs.declared.lent_heap.LentHeapCall.{LentHeapCall}
 use Rattle.tombolopan_c.specs.declared.lent_step.HeapStep.{HeapStep}

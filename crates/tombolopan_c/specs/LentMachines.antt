@@ -10,10 +10,10 @@ use Rattle.mte_tenant.specs.declared.admission.AdmitError.{AdmitError}
 use Rattle.mte_tenant.specs.Ledger.{is_bad}
 use Rattle.mte_tenant.specs.Machines.{Machine, start_of}
 use Rattle.tombolopan.specs.Alone.{refusal_alone}
-use Rattle.c_reports.specs.Machines.{machine_before, act_done}
-use Rattle.c_reports.specs.Pages.{IsPageMap}
-use Rattle.c_reports.specs.declared.act.MachineAct.{MachineAct}
-use Rattle.c_reports.specs.declared.pages.PageEntry.{PageEntry}
+use Rattle.tombolopan_c.specs.Machines.{machine_before, act_done}
+use Rattle.tombolopan_c.specs.Pages.{IsPageMap}
+use Rattle.tombolopan_c.specs.declared.act.MachineAct.{MachineAct}
+use Rattle.tombolopan_c.specs.declared.pages.PageEntry.{PageEntry}
 use Rattle.tombolopan_c.specs.LentBuffers.{filled}
 use Rattle.tombolopan_c.specs.LoneTenants.{Buffers, lent_start, end_without, record_end}
 use Rattle.tombolopan_c.specs.LoneTenants.{buffers_after}

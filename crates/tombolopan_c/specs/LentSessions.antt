@@ -10,9 +10,9 @@ use Rattle.mte_session.specs.declared.session.SessionError.TheVariants.{Script, 
 use Rattle.mte_session.specs.Outcomes.{Input}
 use Rattle.tombolopan.specs.Reports.{IsReport, FailsBy}
 use Rattle.tombolopan_c.specs.LentBuffers.{lent_contents, filled}
-use Rattle.c_reports.specs.declared.codes.TheConstants.{OK, NO_ROOM, OUT_OF_MEMORY, SCRIPT}
-use Rattle.c_reports.specs.declared.codes.TheConstants.{SYNTAX, BAD_NUMBER, NO_SUCH_FILE}
-use Rattle.c_reports.specs.declared.codes.TheConstants.{TOO_MANY_EVENTS}
+use Rattle.tombolopan_c.specs.declared.codes.TheConstants.{OK, NO_ROOM, OUT_OF_MEMORY, SCRIPT}
+use Rattle.tombolopan_c.specs.declared.codes.TheConstants.{SYNTAX, BAD_NUMBER, NO_SUCH_FILE}
+use Rattle.tombolopan_c.specs.declared.codes.TheConstants.{TOO_MANY_EVENTS}
 use Rattle.tombolopan_c.specs.declared.lent_bytes.LentBytes.{LentBytes}
 use Rattle.tombolopan_c.specs.declared.session_end.SessionEnd.{SessionEnd}
 

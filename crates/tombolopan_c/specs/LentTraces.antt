@@ -6,9 +6,9 @@ use Rattle.a64_registers.specs.declared.registers.Regs.{Regs}
 use Rattle.traced_run.specs.Traces.{trace_of, Arrays, Holds, IsFull}
 use Rattle.traced_run.specs.declared.request.TraceRequest.{TraceRequest}
 use Rattle.traced_run.specs.declared.run.TraceEnd.{TraceEnd}
-use Rattle.c_reports.specs.Faults.{no_fault}
+use Rattle.tombolopan_c.specs.Faults.{no_fault}
 use Rattle.tombolopan_c.specs.Stops.{stop_code, stop_number, stop_fault}
-use Rattle.c_reports.specs.declared.codes.TheConstants.{BAD_ARGUMENT, NO_ROOM, STOPPED}
+use Rattle.tombolopan_c.specs.declared.codes.TheConstants.{BAD_ARGUMENT, NO_ROOM, STOPPED}
 use Rattle.tombolopan_c.specs.declared.traces.TraceReport.{TraceReport}
 
 -- Ranges begin before they end, and kinds are kinds.

@@ -1,3 +1,7 @@
+pub mod Faults
+pub mod Acts
+pub mod Machines
+pub mod Pages
 pub mod LentPages
 pub mod HeapCalls
 pub mod HeapReplays

@@ -5,8 +5,8 @@ use Rattle.std.specs.Ordering.{nat_cmp}
 use Rattle.std.specs.BTreeMap.{insert_entry, is_at}
 use Rattle.std.specs.Map.{remove_entry, values_of}
 use Rattle.a64_bits.specs.Addresses.{plain}
-use Rattle.c_reports.specs.declared.codes.TheConstants.{OK, MALLOC, FREE, CALLOC, REALLOC}
-use Rattle.c_reports.specs.declared.codes.TheConstants.{MEMALIGN}
+use Rattle.tombolopan_c.specs.declared.codes.TheConstants.{OK, MALLOC, FREE, CALLOC, REALLOC}
+use Rattle.tombolopan_c.specs.declared.codes.TheConstants.{MEMALIGN}
 use Rattle.tombolopan_c.specs.HeapReplays.{resolved_call}
 use Rattle.tombolopan_c.specs.declared.lent_heap.LentHeapCall.{LentHeapCall}
 use Rattle.tombolopan_c.specs.declared.lent_step.HeapStep.{HeapStep}

@@ -17,11 +17,11 @@ use Rattle.mte_tenant.specs.declared.admission.AdmitError.TheVariants as refusal
 use Rattle.mte_tenant.specs.Ledger.{is_bad}
 use Rattle.mte_tenant.specs.Machines.{Start}
 use Rattle.tombolopan.specs.Alone.{refusal_alone, record_after}
-use Rattle.c_reports.specs.Faults.{no_fault, report_of}
+use Rattle.tombolopan_c.specs.Faults.{no_fault, report_of}
 use Rattle.tombolopan_c.specs.HeapCalls.{abort_code}
 use Rattle.tombolopan_c.specs.LentBuffers.{filled}
 use Rattle.tombolopan_c.specs.LentPages.{mode_for}
-use Rattle.c_reports.specs.declared.codes.TheConstants as code
+use Rattle.tombolopan_c.specs.declared.codes.TheConstants as code
 use Rattle.tombolopan_c.specs.declared.alone_end.AloneEnd.{AloneEnd}
 use Rattle.tombolopan_c.specs.declared.kept_calls.KeptCall.{KeptCall}
 use Rattle.tombolopan_c.specs.declared.lent_terms.LentTerms.{LentTerms}

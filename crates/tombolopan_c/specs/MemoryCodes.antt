@@ -5,10 +5,10 @@ use Rattle.a64_bits.specs.Addresses.{plain}
 use Rattle.mte_tags.specs.Accesses.{addresses}
 use Rattle.mte_tags.specs.Memory.{Memory, page_at}
 use Rattle.mte_tags.specs.declared.fault.MemFault.{MemFault}
-use Rattle.c_reports.specs.Faults.{no_fault, fault_report, fault_code}
-use Rattle.c_reports.specs.declared.codes.TheConstants.{OK, NOT_MAPPED, ALREADY_MAPPED, NO_ROOM}
-use Rattle.c_reports.specs.declared.codes.TheConstants.{BAD_ARGUMENT, PAGES}
-use Rattle.c_reports.specs.declared.faults.FaultReport.{FaultReport}
+use Rattle.tombolopan_c.specs.Faults.{no_fault, fault_report, fault_code}
+use Rattle.tombolopan_c.specs.declared.codes.TheConstants.{OK, NOT_MAPPED, ALREADY_MAPPED, NO_ROOM}
+use Rattle.tombolopan_c.specs.declared.codes.TheConstants.{BAD_ARGUMENT, PAGES}
+use Rattle.tombolopan_c.specs.declared.faults.FaultReport.{FaultReport}
 
 -- a store of tags, whose tag is tested first
 abbrev pub tags_code : ℕ → Option MemFault → ℕ

@@ -9,7 +9,7 @@ use Rattle.a64_step.specs.declared.outcome.Stop.{Stop}
 use Rattle.a64_registers.specs.declared.registers.Regs.{Regs}
 use Rattle.a64_step.specs.Steps.{step_of}
 use Rattle.tombolopan_c.specs.Stops.{stop_code, stop_report}
-use Rattle.c_reports.specs.declared.codes.TheConstants.{STOPPED}
+use Rattle.tombolopan_c.specs.declared.codes.TheConstants.{STOPPED}
 use Rattle.tombolopan_c.specs.declared.stops.StopReport.{StopReport}
 
 -- Whether PC is one of the stops.

@@ -3,10 +3,10 @@ use Rattle.std.specs.Prelude.{ℕ, Option, Some, None}
 use Rattle.a64_step.specs.declared.outcome.Outcome.{Outcome}
 use Rattle.a64_step.specs.declared.outcome.Outcome.TheVariants as outcome
 use Rattle.a64_step.specs.declared.outcome.Stop.{Stop}
-use Rattle.c_reports.specs.declared.codes.TheConstants.{OK, FAULT, SVC, BREAKPOINT, ILLEGAL}
-use Rattle.c_reports.specs.declared.faults.FaultReport.{FaultReport}
+use Rattle.tombolopan_c.specs.declared.codes.TheConstants.{OK, FAULT, SVC, BREAKPOINT, ILLEGAL}
+use Rattle.tombolopan_c.specs.declared.faults.FaultReport.{FaultReport}
 use Rattle.tombolopan_c.specs.declared.stops.StopReport.{StopReport}
-use Rattle.c_reports.specs.Faults.{no_fault, report_of}
+use Rattle.tombolopan_c.specs.Faults.{no_fault, report_of}
 
 -- The code of what stopped a run, if anything did.
 abbrev pub stop_code : Option Outcome → ℕ

@@ -4,10 +4,10 @@ ghost use Rattle.std.specs.Prelude.{◌≡◌, length};
 ghost use Rattle.tombolopan_c.specs.LoneTenants.{HasLived, record_end, buffers_after};
 
 use crate::alone_end::AloneEnd;
+use crate::codes::{NO_ROOM, OK};
 use crate::kept_calls::{KeptCall, told_calls};
 use crate::lent_bytes::copy_to;
 use crate::lent_terms::LentTerms;
-use c_reports::{NO_ROOM, OK};
 use mte_tenant::Record;
 use std::alloc::Global;
 use tombolopan::run_alone;

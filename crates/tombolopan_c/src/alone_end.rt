@@ -4,12 +4,12 @@ ghost use Rattle.std.specs.Prelude.{◌≡◌};
 ghost use Rattle.tombolopan_c.specs.LoneTenants.{image_code, refusal_code, end_without, told_end};
 ghost use Rattle.tombolopan_c.specs.LoneTenants.{without_tenant};
 
-use crate::status_report::StatusReport;
-use c_reports::{
+use crate::codes::{
     BAD_HEADERS, BAD_RESERVATION, DUPLICATE, INTERPRETER, NO_ENTRY, NO_FRAMES, NO_REFUSAL,
     NOT_AARCH64, NOT_ELF64, NOT_EXEC, OUT_OF_MEMORY, OVERLAP, REFUSED, RESERVATION_TOO_SMALL,
     SEGMENT_RANGE, SHORT, TOO_MANY_LIVE,
 };
+use crate::status_report::StatusReport;
 use common::Obstacle;
 use mte_elf::ElfError;
 use mte_tenant::{AdmitError, Record};

@@ -4,7 +4,7 @@ ghost use Rattle.std.specs.Prelude.{◌≡◌, if◌then◌else◌};
 ghost use Rattle.tombolopan_c.specs.LentFuzz.{answer_without, finding_told, trespass_code};
 
 use crate::alone_end::AloneEnd;
-use c_reports::{FREED, NO_CHUNK, NO_REFUSAL, PAST_SIZE};
+use crate::codes::{FREED, NO_CHUNK, NO_REFUSAL, PAST_SIZE};
 use heap_bounds::Trespass;
 use tenant_snapshot::ExactFinding;
 

@@ -4,16 +4,16 @@ ghost use Rattle.std.specs.Prelude.{◌≡◌, ◌≢◌, length, None, Some, If
 ghost use Rattle.mte_tenant.specs.Machines.{start_of};
 ghost use Rattle.tombolopan.specs.Alone.{after_slices, refusal_alone};
 ghost use Rattle.tenant_snapshot.specs.Maps.{is_map_length};
-ghost use Rattle.c_reports.specs.declared.codes.TheConstants.{OK};
+ghost use Rattle.tombolopan_c.specs.declared.codes.TheConstants.{OK};
 ghost use Rattle.tombolopan_c.specs.LoneTenants.{lent_start};
 ghost use Rattle.tombolopan_c.specs.LentFuzz.{HasSaved, HasRun, HasAnswered, now_of, saved_of};
 ghost use Rattle.tombolopan_c.specs.LentFuzz.{no_finding};
 
 use crate::alone_end::AloneEnd;
+use crate::codes::{BAD_ARGUMENT, NO_MACHINE, NO_REFUSAL, OK, OUT_OF_MEMORY};
 use crate::fuzz_answer::{FuzzAnswer, FuzzFinding};
 use crate::fuzz_input::LentFuzzInput;
 use crate::lent_terms::LentTerms;
-use c_reports::{BAD_ARGUMENT, NO_MACHINE, NO_REFUSAL, OK, OUT_OF_MEMORY};
 use heap_bounds::Bounds;
 use std::alloc::{AllocError, Global};
 use tenant_snapshot::{EdgeMap, FuzzHandle, RunWatch, SnapshotTenant};

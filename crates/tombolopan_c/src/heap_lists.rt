@@ -2,10 +2,10 @@
 
 ghost use Rattle.std.specs.Prelude.{◌≡◌, ◌≢◌, ◌⊎◌, ℕ, ◌<◌, length, slice_index_or, true, false};
 ghost use Rattle.tombolopan_c.specs.HeapCalls.{is_setup, after_heap_call, start_of, call_made};
-ghost use Rattle.c_reports.specs.declared.codes.TheConstants.{OK, BAD_ARGUMENT, OUT_OF_MEMORY};
+ghost use Rattle.tombolopan_c.specs.declared.codes.TheConstants.{OK, BAD_ARGUMENT, OUT_OF_MEMORY};
 
+use crate::codes::{BAD_ARGUMENT, OK, OUT_OF_MEMORY};
 use crate::lent_heap::{HeapSetup, LentHeapCall};
-use c_reports::{BAD_ARGUMENT, OK, OUT_OF_MEMORY};
 use std::alloc::Global;
 use tombolopan::HeapBench;
 

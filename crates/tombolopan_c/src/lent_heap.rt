@@ -5,11 +5,11 @@ ghost use Rattle.tombolopan_c.specs.HeapCalls.{is_setup, mode_of, rgsr_of};
 ghost use Rattle.tombolopan_c.specs.HeapCalls.{op_of, abort_code, with_heap_answer};
 ghost use Rattle.tombolopan_c.specs.HeapCalls.{with_bad_argument};
 
-use c_reports::{
-    ABORT, ALREADY_FREE, BAD_ARGUMENT, CALLOC, FAULT, FREE, FaultReport, HEADER_CORRUPT,
-    INVALID_STATE, LOAD, LOAD_TAG, MALLOC, MEMALIGN, MISALIGNED, NOT_A_BLOCK, OK, REALLOC, STORE,
-    UNMAPPED, USABLE_SIZE,
+use crate::codes::{
+    ABORT, ALREADY_FREE, BAD_ARGUMENT, CALLOC, FAULT, FREE, HEADER_CORRUPT, INVALID_STATE, LOAD,
+    LOAD_TAG, MALLOC, MEMALIGN, MISALIGNED, NOT_A_BLOCK, OK, REALLOC, STORE, UNMAPPED, USABLE_SIZE,
 };
+use crate::faults::FaultReport;
 use common::MAX_PAGES;
 use mte_tags::{Rgsr, TagMode};
 use scudo_heap::{HeapAbort, HeapCall};

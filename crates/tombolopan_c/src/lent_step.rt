@@ -4,8 +4,8 @@ ghost use Rattle.std.specs.Prelude.{◌≡◌};
 ghost use Rattle.tombolopan_c.specs.HeapReplays.{argument_of, resolved_call, with_call};
 ghost use Rattle.tombolopan_c.specs.HeapReplays.{is_reference, is_step, first_bad, bad_from};
 
+use crate::codes::{FREE, OK, STORE};
 use crate::lent_heap::LentHeapCall;
-use c_reports::{FREE, OK, STORE};
 
 /// A call of a heap. An argument with a reference is the sum of what stands there and of the answer
 /// of that call, modulo 2^64.

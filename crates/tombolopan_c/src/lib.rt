@@ -5,9 +5,13 @@
 //! `tb_heap_calls`, `tb_heap_replay`, `tb_heap_pages` and `tb_heap_live` allocate.
 #![tactic(auto)]
 
+mod act;
+mod act_kinds;
 mod alone_calls;
 mod alone_end;
 mod build_calls;
+mod codes;
+mod faults;
 mod find;
 mod fuzz_answer;
 mod fuzz_calls;
@@ -22,9 +26,13 @@ mod lent_regs;
 mod lent_step;
 mod lent_terms;
 mod live_chunks;
+mod machine;
 mod machine_calls;
+mod memory;
 mod memory_calls;
 mod page_calls;
+mod pages;
+mod registers;
 mod replay_calls;
 mod run_calls;
 mod run_until;
@@ -35,9 +43,16 @@ mod stops;
 mod text_calls;
 mod traces;
 
+pub use act::MachineAct;
+pub use act_kinds::acts_in_digits;
 pub use alone_calls::tb_alone;
 pub use alone_end::AloneEnd;
 pub use build_calls::tb_build_info;
+pub use codes::{
+    aborts_in_digits, answers_in_digits, faults_in_digits, heap_calls_in_digits, pages_in_digits,
+    refusals_in_digits, script_faults_in_digits, statuses_in_digits, trespasses_in_digits,
+};
+pub use faults::FaultReport;
 pub use fuzz_answer::FuzzFinding;
 pub use fuzz_calls::{tb_fuzz_free, tb_fuzz_new, tb_fuzz_run, tb_fuzz_run_exact};
 pub use fuzz_input::LentFuzzInput;
@@ -54,6 +69,7 @@ pub use live_chunks::{LiveChunk, tb_heap_live};
 pub use machine_calls::{MachineEnd, tb_machine_acts, tb_machine_pages};
 pub use memory_calls::{tb_load, tb_load_tag, tb_read, tb_store_tags, tb_write};
 pub use page_calls::{tb_map, tb_memory_init, tb_unmap, tb_version};
+pub use pages::PageEntry;
 pub use replay_calls::{tb_heap_pages, tb_heap_replay};
 pub use run_calls::{tb_run, tb_step};
 pub use run_until::tb_run_until;

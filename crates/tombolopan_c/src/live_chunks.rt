@@ -5,13 +5,13 @@ ghost use Rattle.std.specs.BTreeMap.{values};
 ghost use Rattle.tombolopan_c.specs.LentBuffers.{filled};
 ghost use Rattle.tombolopan_c.specs.LiveChunks.{ended_by, made_by, size_asked, after_call};
 ghost use Rattle.tombolopan_c.specs.LiveChunks.{live_after, live_chunks};
-ghost use Rattle.c_reports.specs.declared.codes.TheConstants.{OK, NO_ROOM, OUT_OF_MEMORY};
+ghost use Rattle.tombolopan_c.specs.declared.codes.TheConstants.{OK, NO_ROOM, OUT_OF_MEMORY};
 
+use crate::codes::{CALLOC, FREE, MALLOC, MEMALIGN, NO_ROOM, OK, OUT_OF_MEMORY, REALLOC};
 use crate::lent_bytes::copy_to;
 use crate::lent_heap::LentHeapCall;
 use crate::lent_step::HeapStep;
 use a64_bits::plain;
-use c_reports::{CALLOC, FREE, MALLOC, MEMALIGN, NO_ROOM, OK, OUT_OF_MEMORY, REALLOC};
 use std::alloc::{AllocError, Global};
 use std::collections::BTreeMap;
 

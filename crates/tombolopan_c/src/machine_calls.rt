@@ -3,21 +3,22 @@
 ghost use Rattle.std.specs.Prelude.{◌≡◌, ◌≢◌, ◌≤◌, ◌<◌, ◌⊎◌, length, None, false};
 ghost use Rattle.mte_tenant.specs.Ledger.{is_bad};
 ghost use Rattle.tombolopan.specs.Alone.{refusal_alone};
-ghost use Rattle.c_reports.specs.declared.codes.TheConstants.{OK, NO_ROOM, REFUSED};
-ghost use Rattle.c_reports.specs.declared.codes.TheConstants.{OUT_OF_MEMORY};
+ghost use Rattle.tombolopan_c.specs.declared.codes.TheConstants.{OK, NO_ROOM, REFUSED};
+ghost use Rattle.tombolopan_c.specs.declared.codes.TheConstants.{OUT_OF_MEMORY};
 ghost use Rattle.tombolopan_c.specs.LentRegisters.{regs_of};
 ghost use Rattle.tombolopan_c.specs.LentMachines.{HasActed, HasPages, AreAnswered};
 ghost use Rattle.tombolopan_c.specs.LoneTenants.{lent_start};
 
+use crate::act::MachineAct;
 use crate::alone_calls::told;
 use crate::alone_end::AloneEnd;
+use crate::codes::{NO_ROOM, OK, OUT_OF_MEMORY, REFUSED};
 use crate::kept_calls::KeptCall;
 use crate::lent_bytes::copy_to;
 use crate::lent_regs::LentRegs;
 use crate::lent_terms::LentTerms;
-use c_reports::{
-    ActedMachine, MachineAct, NO_ROOM, OK, OUT_OF_MEMORY, PageEntry, REFUSED, page_map,
-};
+use crate::machine::ActedMachine;
+use crate::pages::{PageEntry, page_map};
 use common::Obstacle;
 use std::alloc::Global;
 

@@ -6,16 +6,17 @@ ghost use Rattle.mte_tags.specs.Memory.{tag_at, with_granules};
 ghost use Rattle.mte_tags.specs.Accesses.{read_fault, read_bytes, after_read, write_fault};
 ghost use Rattle.mte_tags.specs.Accesses.{after_write, tags_fault, tag_load_fault, with_bytes_at};
 ghost use Rattle.tombolopan_c.specs.LentPages.{lent_memory, state_of};
-ghost use Rattle.c_reports.specs.Faults.{fault_code, fault_report, no_fault};
+ghost use Rattle.tombolopan_c.specs.Faults.{fault_code, fault_report, no_fault};
 ghost use Rattle.tombolopan_c.specs.MemoryCodes.{tags_code};
 ghost use Rattle.tombolopan_c.specs.MemoryCodes.{tags_report, load_code};
-ghost use Rattle.c_reports.specs.declared.codes.TheConstants.{OK};
+ghost use Rattle.tombolopan_c.specs.declared.codes.TheConstants.{OK};
 
+use crate::codes::{BAD_ARGUMENT, NOT_MAPPED, OK};
+use crate::faults::{FaultReport, report};
 use crate::find::are_mapped;
 use crate::lent::{Lent, LentTagState};
 use crate::lent_page::LentPage;
 use a64_bits::plain;
-use c_reports::{BAD_ARGUMENT, FaultReport, NOT_MAPPED, OK, report};
 use mte_tags::{Tagged, replace_bytes};
 
 /// Copies bytes out of pages with READ, and compares tags where `check` is set. FAULT leaves the

@@ -5,12 +5,12 @@ ghost use Rattle.mte_tags.specs.Memory.{no_pages, with_page, without_page, new_p
 ghost use Rattle.mte_tags.specs.declared.state.TagState.{TagState};
 ghost use Rattle.tombolopan_c.specs.LentPages.{lent_memory, state_of, has_room, mode_for};
 ghost use Rattle.tombolopan_c.specs.MemoryCodes.{map_code, unmap_code};
-ghost use Rattle.c_reports.specs.declared.codes.TheConstants.{OK};
+ghost use Rattle.tombolopan_c.specs.declared.codes.TheConstants.{OK};
 
+use crate::codes::{ALREADY_MAPPED, BAD_ARGUMENT, NO_ROOM, NOT_MAPPED, OK, PAGES, VERSION};
 use crate::find::{find_free, is_mapped};
 use crate::lent::LentTagState;
 use crate::lent_page::LentPage;
-use c_reports::{ALREADY_MAPPED, BAD_ARGUMENT, NO_ROOM, NOT_MAPPED, OK, PAGES, VERSION};
 
 /// The version of the layouts and calls, 2.
 #[unsafe(no_mangle)]

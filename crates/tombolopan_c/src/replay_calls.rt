@@ -4,14 +4,15 @@ ghost use Rattle.std.specs.Prelude.{◌≡◌, ◌≢◌, ◌≤◌, ◌<◌, �
 ghost use Rattle.std.specs.Prelude.{Err, IfOk, IfErr, OnOk, OnErr};
 ghost use Rattle.tombolopan_c.specs.HeapCalls.{is_setup, start_of};
 ghost use Rattle.tombolopan_c.specs.HeapReplays.{step_made, replayed, first_bad, HasHeapPages};
-ghost use Rattle.c_reports.specs.declared.codes.TheConstants.{OK, BAD_ARGUMENT, OUT_OF_MEMORY};
-ghost use Rattle.c_reports.specs.declared.codes.TheConstants.{NO_ROOM};
+ghost use Rattle.tombolopan_c.specs.declared.codes.TheConstants.{OK, BAD_ARGUMENT, OUT_OF_MEMORY};
+ghost use Rattle.tombolopan_c.specs.declared.codes.TheConstants.{NO_ROOM};
 
+use crate::codes::{BAD_ARGUMENT, NO_ROOM, OK, OUT_OF_MEMORY};
 use crate::heap_lists::make;
 use crate::lent_bytes::copy_to;
 use crate::lent_heap::HeapSetup;
 use crate::lent_step::{HeapStep, find_bad};
-use c_reports::{BAD_ARGUMENT, NO_ROOM, OK, OUT_OF_MEMORY, PageEntry, page_map};
+use crate::pages::{PageEntry, page_map};
 use std::alloc::Global;
 use tombolopan::HeapBench;
 

@@ -2,11 +2,11 @@
 
 ghost use Rattle.std.specs.Prelude.{◌≡◌, true, false};
 ghost use Rattle.tombolopan_c.specs.LentSessions.{lent_input, is_frames, HasEnded, without_report};
-ghost use Rattle.c_reports.specs.declared.codes.TheConstants.{BAD_ARGUMENT};
+ghost use Rattle.tombolopan_c.specs.declared.codes.TheConstants.{BAD_ARGUMENT};
 
+use crate::codes::{BAD_ARGUMENT, OUT_OF_MEMORY};
 use crate::lent_bytes::{LentBytes, copy_files, copy_to};
 use crate::session_end::SessionEnd;
-use c_reports::{BAD_ARGUMENT, OUT_OF_MEMORY};
 use common::MAX_FRAMES;
 use mte_session::SessionError;
 use std::alloc::Global;

@@ -4,7 +4,7 @@ ghost use Rattle.std.specs.Prelude.{◌≡◌};
 ghost use Rattle.tombolopan_c.specs.LentSessions.{script_code, without_report, with_report};
 ghost use Rattle.tombolopan_c.specs.LentSessions.{with_fault};
 
-use c_reports::{BAD_NUMBER, NO_ROOM, NO_SUCH_FILE, OK, SCRIPT, SYNTAX, TOO_MANY_EVENTS};
+use crate::codes::{BAD_NUMBER, NO_ROOM, NO_SUCH_FILE, OK, SCRIPT, SYNTAX, TOO_MANY_EVENTS};
 use mte_session::ScriptFault;
 
 /// How a session ended.

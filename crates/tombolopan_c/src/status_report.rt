@@ -2,13 +2,14 @@
 
 ghost use Rattle.std.specs.Prelude.{◌≡◌};
 ghost use Rattle.tombolopan_c.specs.LoneTenants.{plain_status, status_told};
-ghost use Rattle.c_reports.specs.declared.codes.TheConstants.{STATUS_NONE};
+ghost use Rattle.tombolopan_c.specs.declared.codes.TheConstants.{STATUS_NONE};
 
-use crate::lent_heap::code_of_abort;
-use c_reports::{
-    FaultReport, STATUS_ABORT, STATUS_ASYNC, STATUS_BREAK, STATUS_EXIT, STATUS_FAULT,
-    STATUS_ILLEGAL, STATUS_NONE, STATUS_RUNNING, STATUS_STOPPED,
+use crate::codes::{
+    STATUS_ABORT, STATUS_ASYNC, STATUS_BREAK, STATUS_EXIT, STATUS_FAULT, STATUS_ILLEGAL,
+    STATUS_NONE, STATUS_RUNNING, STATUS_STOPPED,
 };
+use crate::faults::FaultReport;
+use crate::lent_heap::code_of_abort;
 use mte_tenant::Status;
 
 /// A tenant's status, or zero in all fields where there is none.

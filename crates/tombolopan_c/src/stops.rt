@@ -4,8 +4,9 @@ ghost use Rattle.std.specs.Prelude.{◌≡◌};
 ghost use Rattle.tombolopan_c.specs.RunsUntil.{until_report};
 ghost use Rattle.tombolopan_c.specs.Stops.{stop_report};
 
+use crate::codes::{BREAKPOINT, FAULT, ILLEGAL, OK, STOPPED, SVC};
+use crate::faults::FaultReport;
 use a64_step::{Outcome, Stop};
-use c_reports::{BREAKPOINT, FAULT, FaultReport, ILLEGAL, OK, STOPPED, SVC};
 
 /// How a step or a run ended.
 #[repr(C)]

@@ -3,10 +3,10 @@
 ghost use Rattle.std.specs.Prelude.{◌≡◌, ◌≢◌, ◌⊎◌, None};
 ghost use Rattle.a64_decode.specs.Decoded.{instr_of_word};
 ghost use Rattle.a64_text.specs.Texts.{HasText};
-ghost use Rattle.c_reports.specs.declared.codes.TheConstants.{OK, NO_ROOM, ILLEGAL};
+ghost use Rattle.tombolopan_c.specs.declared.codes.TheConstants.{OK, NO_ROOM, ILLEGAL};
 
+use crate::codes::{ILLEGAL, NO_ROOM, OK};
 use a64_text::{TextError, write_text};
-use c_reports::{ILLEGAL, NO_ROOM, OK};
 
 /// Writes the text of an instruction word at an address, and a zero byte behind it. ILLEGAL where
 /// the word is no instruction, and NO_ROOM where the buffer is too short, leave it as it was.

@@ -5,14 +5,15 @@ ghost use Rattle.traced_run.specs.Traces.{arrays, trace_of};
 ghost use Rattle.tombolopan_c.specs.LentPages.{lent_memory, state_of};
 ghost use Rattle.tombolopan_c.specs.LentRegisters.{regs_of};
 ghost use Rattle.tombolopan_c.specs.LentTraces.{is_request, end_report, no_steps, HasTraced};
-ghost use Rattle.c_reports.specs.declared.codes.TheConstants.{BAD_ARGUMENT};
+ghost use Rattle.tombolopan_c.specs.declared.codes.TheConstants.{BAD_ARGUMENT};
 
+use crate::codes::{BAD_ARGUMENT, NO_ROOM, STOPPED};
+use crate::faults::FaultReport;
 use crate::lent::{Lent, LentTagState};
 use crate::lent_page::LentPage;
 use crate::lent_regs::LentRegs;
 use crate::stops::StopReport;
 use a64_step::Stop;
-use c_reports::{BAD_ARGUMENT, FaultReport, NO_ROOM, STOPPED};
 use traced_run::{TraceEnd, TraceRequest, TracedAccess, TracedInstruction, run_traced};
 
 /// How a traced run ended.

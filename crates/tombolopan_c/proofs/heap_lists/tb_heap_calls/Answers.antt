@@ -3,7 +3,7 @@ use Rattle.std.proofs.lemmas.Bool.{cases_eq}
 use Rattle.std.proofs.lemmas.List.{get_or_default}
 use Rattle.tombolopan_c.specs.HeapCalls.{start_of, world_before, after_heap_call}
 use Rattle.tombolopan_c.specs.declared.lent_heap.LentHeapCall.{LentHeapCall}
-use Rattle.c_reports.specs.Faults.{no_fault}
+use Rattle.tombolopan_c.specs.Faults.{no_fault}
 use Rattle.tombolopan_c.proofs.HeapLists.{world_first, world_next}
 use Rattle.tombolopan_c.proofs.heap_lists.tb_heap_calls.Goals as goal
 

@@ -2,7 +2,7 @@
 
 ghost use Rattle.std.specs.Prelude.{◌≡◌, IfOk, map};
 ghost use Rattle.mte_flat.specs.declared.mapped.MappedPage.{MappedPage};
-ghost use Rattle.c_reports.specs.Pages.{page_told, IsPageMap};
+ghost use Rattle.tombolopan_c.specs.Pages.{page_told, IsPageMap};
 
 use mte_flat::{Flat, MappedPage};
 use std::alloc::{AllocError, Global};

@@ -6,7 +6,7 @@ ghost use Rattle.common.specs.Obstacles.{IfRefused};
 ghost use Rattle.mte_svc.specs.Ready.{IsReady};
 ghost use Rattle.mte_tenant.specs.Admissions.{start_in};
 ghost use Rattle.mte_tenant.specs.Ledger.{is_bad, admission_refusal, charge_of};
-ghost use Rattle.c_reports.specs.declared.act.MachineAct.{MachineAct};
+ghost use Rattle.tombolopan_c.specs.declared.act.MachineAct.{MachineAct};
 
 use crate::act::MachineAct;
 use crate::act_kinds::{ACT_GET, ACT_LOAD, ACT_LOAD_TAG, ACT_SET, ACT_SLICE, ACT_STORE};
@@ -32,8 +32,8 @@ pub struct ActedMachine {
 
 impl ActedMachine {
     ghost use Rattle.mte_tenant.specs.Machines.{machine_of, start_of};
-    ghost use Rattle.c_reports.specs.Machines.{after_act, after_slice_act};
-    ghost use Rattle.c_reports.specs.Machines.{machine_before, act_done};
+    ghost use Rattle.tombolopan_c.specs.Machines.{after_act, after_slice_act};
+    ghost use Rattle.tombolopan_c.specs.Machines.{machine_before, act_done};
 
     /// A tenant at its first instruction, or why it is refused. Only `OutOfMemory`, where an
     /// allocation failed, can come in place of the refusals from `Image` on.

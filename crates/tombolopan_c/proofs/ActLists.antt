@@ -1,8 +1,8 @@
 -- The machines between acts.
 use Rattle.std.proofs.Common.{◌≡◌, ℕ, suc, ◌+◌, ◌∙◌, List, get_or, refl, ap, arith}
 use Rattle.mte_tenant.specs.Machines.{Machine}
-use Rattle.c_reports.specs.Machines.{machine_before, after_act}
-use Rattle.c_reports.specs.declared.act.MachineAct.{MachineAct}
+use Rattle.tombolopan_c.specs.Machines.{machine_before, after_act}
+use Rattle.tombolopan_c.specs.declared.act.MachineAct.{MachineAct}
 
 pub machine_first : (m : Machine) (acts : List MachineAct) (d : MachineAct) → machine_before m acts 0 d ≡ m
 unfolding machine_before

@@ -2,7 +2,7 @@
 
 ghost use Rattle.std.specs.Prelude.{◌≡◌, Option};
 ghost use Rattle.mte_tags.specs.Accesses.{result_of};
-ghost use Rattle.c_reports.specs.Faults.{kind_code, report_of, fault_report, fault_code};
+ghost use Rattle.tombolopan_c.specs.Faults.{kind_code, report_of, fault_report, fault_code};
 
 use crate::codes::{
     ALIGNMENT, FAULT, OK, PC_ALIGNMENT, PERMISSION, SP_ALIGNMENT, TAG_CHECK, TRANSLATION,
@@ -39,7 +39,7 @@ fn code_of_kind(kind: FaultKind) -> u32
 }
 
 impl FaultReport {
-    ghost use Rattle.c_reports.specs.Faults.{no_fault};
+    ghost use Rattle.tombolopan_c.specs.Faults.{no_fault};
 
     /// The report of no fault.
     pub fn none() -> FaultReport

@@ -4,7 +4,7 @@ use Rattle.std.specs.Ordering.{nat_cmp}
 use Rattle.std.specs.FinMap as finite
 use Rattle.mte_tags.specs.Memory.{Memory, page_at}
 use Rattle.mte_flat.specs.declared.mapped.MappedPage.{MappedPage}
-use Rattle.c_reports.specs.declared.pages.PageEntry.{PageEntry}
+use Rattle.tombolopan_c.specs.declared.pages.PageEntry.{PageEntry}
 
 -- A page as it is entered.
 abbrev pub page_told : MappedPage → PageEntry

@@ -1,7 +1,7 @@
 use Rattle.std.proofs.Common.{sym, subst}
 use Rattle.scudo_heap.specs.Served.{HeapOwnsItsPages}
 use Rattle.scudo_heap.proofs.FirstLemmas.{served-read}
-use Rattle.c_reports.proofs.memory.load.Goals as goal
+use Rattle.tombolopan_c.proofs.memory.load.Goals as goal
 
 pub returns-in-Ok-clause-served : goal.returns-in-Ok-clause-served
 returns-in-Ok-clause-served g c =

@@ -1,7 +1,7 @@
 //! Something that is done to a machine, which the caller lends.
 
 ghost use Rattle.std.specs.Prelude.{◌≡◌};
-ghost use Rattle.c_reports.specs.Acts.{with_value, with_fault, with_bad_argument};
+ghost use Rattle.tombolopan_c.specs.Acts.{with_value, with_fault, with_bad_argument};
 
 use crate::codes::{BAD_ARGUMENT, FAULT, OK};
 use crate::faults::FaultReport;

@@ -1,8 +1,8 @@
 use Rattle.std.proofs.Common.{◌≡◌, ℕ, ◌<◌, ◌≤◌, length, get_or}
 use Rattle.mte_tenant.specs.Machines.{machine_of}
-use Rattle.c_reports.specs.Machines.{act_done, machine_before}
-use Rattle.c_reports.specs.declared.act.MachineAct.{MachineAct}
-use Rattle.c_reports.proofs.machine.ActedMachine.make_all.Given as goal
+use Rattle.tombolopan_c.specs.Machines.{act_done, machine_before}
+use Rattle.tombolopan_c.specs.declared.act.MachineAct.{MachineAct}
+use Rattle.tombolopan_c.proofs.machine.ActedMachine.make_all.Given as goal
 
 -- the machine is what the acts so far leave, and these have their answers
 abbrev pub invariant-loop-act : goal.invariant-loop-act

@@ -1,9 +1,9 @@
 use Rattle.std.proofs.Common.{◌≡◌, ◌∙◌, List, ap, sym, subst, map}
 use Rattle.std.proofs.lemmas.Result.{IfOk-weaker}
 use Rattle.mte_flat.specs.declared.mapped.MappedPage.{MappedPage}
-use Rattle.c_reports.specs.Pages.{page_told, IsPageMap}
-use Rattle.c_reports.proofs.PageMaps.{is_map}
-use Rattle.c_reports.proofs.pages.page_map.Goals as goal
+use Rattle.tombolopan_c.specs.Pages.{page_told, IsPageMap}
+use Rattle.tombolopan_c.proofs.PageMaps.{is_map}
+use Rattle.tombolopan_c.proofs.pages.page_map.Goals as goal
 
 pub returns : goal.returns
 returns c =

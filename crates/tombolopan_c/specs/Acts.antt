@@ -9,10 +9,10 @@ use Rattle.mte_tags.specs.Accesses.{tag_load_fault}
 use Rattle.mte_tags.specs.declared.fault.MemFault.{MemFault}
 use Rattle.a64_registers.specs.declared.registers.Regs.{Regs}
 use Rattle.a64_registers.specs.Registers.{register_or_sp, with_register_or_sp, with_pc}
-use Rattle.c_reports.specs.Faults.{no_fault, report_of}
-use Rattle.c_reports.specs.declared.codes.TheConstants.{OK, FAULT, BAD_ARGUMENT}
-use Rattle.c_reports.specs.declared.act.MachineAct.{MachineAct}
-use Rattle.c_reports.specs.declared.act_kinds.TheConstants.{SP, PC}
+use Rattle.tombolopan_c.specs.Faults.{no_fault, report_of}
+use Rattle.tombolopan_c.specs.declared.codes.TheConstants.{OK, FAULT, BAD_ARGUMENT}
+use Rattle.tombolopan_c.specs.declared.act.MachineAct.{MachineAct}
+use Rattle.tombolopan_c.specs.declared.act_kinds.TheConstants.{SP, PC}
 
 -- ---- answers
 

@@ -3,10 +3,10 @@ use Rattle.std.specs.Prelude.{ℕ, Option, Some, None, if◌then◌else◌}
 use Rattle.mte_tags.specs.declared.fault.FaultKind.{FaultKind}
 use Rattle.mte_tags.specs.declared.fault.FaultKind.TheVariants as kind
 use Rattle.mte_tags.specs.declared.fault.MemFault.{MemFault}
-use Rattle.c_reports.specs.declared.codes.TheConstants.{OK, FAULT, TRANSLATION, PERMISSION}
-use Rattle.c_reports.specs.declared.codes.TheConstants.{TAG_CHECK, ALIGNMENT, SP_ALIGNMENT}
-use Rattle.c_reports.specs.declared.codes.TheConstants.{PC_ALIGNMENT}
-use Rattle.c_reports.specs.declared.faults.FaultReport.{FaultReport}
+use Rattle.tombolopan_c.specs.declared.codes.TheConstants.{OK, FAULT, TRANSLATION, PERMISSION}
+use Rattle.tombolopan_c.specs.declared.codes.TheConstants.{TAG_CHECK, ALIGNMENT, SP_ALIGNMENT}
+use Rattle.tombolopan_c.specs.declared.codes.TheConstants.{PC_ALIGNMENT}
+use Rattle.tombolopan_c.specs.declared.faults.FaultReport.{FaultReport}
 
 -- The number of a kind of fault.
 abbrev pub kind_code : FaultKind → ℕ

@@ -7,8 +7,8 @@ use Rattle.std.specs.FinMap as finite
 use Rattle.mte_tags.specs.Memory.{Memory, page_at}
 use Rattle.mte_flat.specs.MappedPages.{entry_of, attrs_in, AreApart}
 use Rattle.mte_flat.specs.declared.mapped.MappedPage.{MappedPage}
-use Rattle.c_reports.specs.Pages.{page_told, number_and_attrs, attrs_told, IsPageMap}
-use Rattle.c_reports.specs.declared.pages.PageEntry.{PageEntry}
+use Rattle.tombolopan_c.specs.Pages.{page_told, number_and_attrs, attrs_told, IsPageMap}
+use Rattle.tombolopan_c.specs.declared.pages.PageEntry.{PageEntry}
 
 entries_same : (ps : List MappedPage) → map number_and_attrs (map page_told ps) ≡ map entry_of ps
 entries_same [] = refl

@@ -3,7 +3,7 @@
 ghost use Rattle.std.specs.Prelude.{◌≡◌};
 ghost use Rattle.scudo_heap.specs.Heaps.{HeapState};
 ghost use Rattle.scudo_heap.specs.Served.{HeapOwnsItsPages};
-ghost use Rattle.c_reports.specs.Acts.{after_load, after_store, tag_loaded};
+ghost use Rattle.tombolopan_c.specs.Acts.{after_load, after_store, tag_loaded};
 
 use crate::act::MachineAct;
 use mte_tags::Tagged;

@@ -1,7 +1,7 @@
 //! The acts that read and write registers.
 
 ghost use Rattle.std.specs.Prelude.{◌≡◌};
-ghost use Rattle.c_reports.specs.Acts.{register_read, after_set};
+ghost use Rattle.tombolopan_c.specs.Acts.{register_read, after_set};
 
 use crate::act::MachineAct;
 use crate::act_kinds::{PC, SP};

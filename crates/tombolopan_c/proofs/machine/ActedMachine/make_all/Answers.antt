@@ -2,11 +2,11 @@ use Rattle.std.proofs.Common.{rules, ◌≡◌, ◌<◌, ◌∙◌, length, get_
 use Rattle.std.proofs.lemmas.Bool.{cases_eq}
 use Rattle.std.proofs.lemmas.List.{get_or_default}
 use Rattle.mte_tenant.specs.Machines.{machine_of}
-use Rattle.c_reports.specs.Faults.{no_fault}
-use Rattle.c_reports.specs.Machines.{machine_before, after_act}
-use Rattle.c_reports.specs.declared.act.MachineAct.{MachineAct}
-use Rattle.c_reports.proofs.ActLists.{machine_first, machine_next}
-use Rattle.c_reports.proofs.machine.ActedMachine.make_all.Goals as goal
+use Rattle.tombolopan_c.specs.Faults.{no_fault}
+use Rattle.tombolopan_c.specs.Machines.{machine_before, after_act}
+use Rattle.tombolopan_c.specs.declared.act.MachineAct.{MachineAct}
+use Rattle.tombolopan_c.proofs.ActLists.{machine_first, machine_next}
+use Rattle.tombolopan_c.proofs.machine.ActedMachine.make_all.Goals as goal
 
 abbrev any_act : MachineAct
 any_act = record { act = 0; number = 0; addr = 0; value = 0; answer = 0; code = 0; unused = 0; fault = no_fault }

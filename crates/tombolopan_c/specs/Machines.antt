@@ -2,12 +2,12 @@
 use Rattle.std.specs.Prelude.{ℕ, zero, suc, ◌==◌, List, slice_index_or, if◌then◌else◌}
 use Rattle.mte_tags.specs.Memory.{Memory}
 use Rattle.mte_tenant.specs.Machines.{Machine, machine_of, with_regs, after_slice}
-use Rattle.c_reports.specs.Acts.{with_value, with_bad_argument, register_read, after_set}
-use Rattle.c_reports.specs.Acts.{SetRegister, AccessedMemory, after_load, after_store}
-use Rattle.c_reports.specs.Acts.{tag_loaded}
-use Rattle.c_reports.specs.declared.act.MachineAct.{MachineAct}
-use Rattle.c_reports.specs.declared.act_kinds.TheConstants.{ACT_SLICE, ACT_GET, ACT_SET}
-use Rattle.c_reports.specs.declared.act_kinds.TheConstants.{ACT_LOAD, ACT_STORE, ACT_LOAD_TAG}
+use Rattle.tombolopan_c.specs.Acts.{with_value, with_bad_argument, register_read, after_set}
+use Rattle.tombolopan_c.specs.Acts.{SetRegister, AccessedMemory, after_load, after_store}
+use Rattle.tombolopan_c.specs.Acts.{tag_loaded}
+use Rattle.tombolopan_c.specs.declared.act.MachineAct.{MachineAct}
+use Rattle.tombolopan_c.specs.declared.act_kinds.TheConstants.{ACT_SLICE, ACT_GET, ACT_SET}
+use Rattle.tombolopan_c.specs.declared.act_kinds.TheConstants.{ACT_LOAD, ACT_STORE, ACT_LOAD_TAG}
 
 -- What an act leaves: the machine, and the act with its answer.
 pub record Acted : Type 0 where

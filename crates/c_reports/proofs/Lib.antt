@@ -1,2 +1,0 @@
-mod ActLists
-mod PageMaps

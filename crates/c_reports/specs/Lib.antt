@@ -1,4 +1,0 @@
-pub mod Faults
-pub mod Acts
-pub mod Machines
-pub mod Pages
