@@ -260,7 +260,8 @@ def rows_of_the_page() -> dict[tuple[str, str], list[str]]:
     page = (ROOT / "docs" / "BELIEVE.md").read_text(encoding="utf-8")
     found: dict[tuple[str, str], list[str]] = {}
     theorem = ""
-    for head, clause, rest in re.findall(r"^\| (?:`(\w+)`|\.\. clause `(\w+)`) \|(.*)\|$", page, re.M):
+    row = re.compile(r"^\| (?:`(\w+)`|\.\. clause `(\w+)`) \|(.*)\|$", re.M)
+    for head, clause, rest in row.findall(page):
         theorem = head or theorem
         found[theorem, clause] = [it.strip() for it in rest.split("|")]
     return found
@@ -334,11 +335,12 @@ def test_a_theorem_that_is_not_listed(tmp_path: pathlib.Path) -> None:
 
 
 def test_a_verdict_of_other_sources(tmp_path: pathlib.Path) -> None:
-    """A law more than a verdict counts is found, and so is one less."""
+    """A law more than a verdict counts is found, and so is one less: the file's last, which the
+    page does not list."""
     root = copy_read_files(tmp_path)
-    path = root / "crates/heap_laws/src/free_laws.rt"
+    path = root / "crates/heap_laws/src/laws.rt"
     text = path.read_text(encoding="utf-8")
-    another = "\n/// Another.\npub fn another()\n    ensures { FreedHeadersStay }\n{}\n"
+    another = "\n/// Another.\npub fn another()\n    ensures { NewChunksAreZero }\n{}\n"
     for changed in (text + another, text[:text.rindex("\n///")]):
         path.write_text(changed, encoding="utf-8")
         ran = believe("--root", str(root), "--check")

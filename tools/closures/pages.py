@@ -16,8 +16,8 @@ MARK = """\
 HEAD = """\
 # What to believe
 
-For an auditor: for each theorem of the README, and for more laws of the heap, what must be read to \
-know what it says. Nothing that is not listed has to be read: no body, nothing in `proofs/`, \
+For an auditor: for each theorem of the README, and for more laws of the heap, what must be read \
+to know what it says. Nothing that is not listed has to be read: no body, nothing in `proofs/`, \
 `must-fail/` and `specs/Inner`.
 
 - `tools/believe.py THEOREM` prints the definitions in the order in which they are read, with line \
