@@ -11,7 +11,7 @@ from closures.closures import Repository, closure_of, start_of
 from closures.names import ReadError
 from closures.order import reading_of
 from closures.signs import explained_in, signs_of
-from closures.theorems import function_named
+from closures.theorems import Bound, function_named, read_page
 
 from tests.support.places import ROOT
 from tests.support.running import Ran, run
@@ -255,6 +255,40 @@ def test_all_theorems() -> None:
     assert "The last line of `rt verdict`" in told and "Do not edit" not in told
 
 
+def rows_of_the_page() -> dict[tuple[str, str], list[str]]:
+    """The cells of each row of docs/BELIEVE.md, by theorem and clause."""
+    page = (ROOT / "docs" / "BELIEVE.md").read_text(encoding="utf-8")
+    found: dict[tuple[str, str], list[str]] = {}
+    theorem = ""
+    row = re.compile(r"^\| (?:`(\w+)`|\.\. clause `(\w+)`) \|(.*)\|$", re.M)
+    for head, clause, rest in row.findall(page):
+        theorem = head or theorem
+        found[theorem, clause] = [it.strip() for it in rest.split("|")]
+    return found
+
+
+def keeps_to(bound: Bound, cells: list[str]) -> bool:
+    """Whether the numbers of a row are of what a bound is of, and at most what it is."""
+    definitions, lines = cells[-2:] if bound.given else cells[:2]
+    return (bound.given in ("", cells[-3])
+            and int(definitions) <= bound.definitions and int(lines) <= bound.lines)
+
+
+def test_laws_of_the_heap(checkout: Repository) -> None:
+    """Each public law of the heap that theorems.toml lists has a row of its own on the page and a
+    bound, and each of its bounds a row that keeps to it."""
+    laws = {it.called for it in checkout.functions() if it.crate == "heap_laws" and it.is_public}
+    listed = [it for it in read_page().theorems if it.name in laws]
+    rows = rows_of_the_page()
+    assert len(listed) >= 24
+    for law in listed:
+        assert (law.name, "") in rows and law.bounds, law.name
+        wide = [it for it in law.bounds if not keeps_to(it, rows[law.name, it.clause])]
+        assert not wide, f"{law.name}: {wide}"
+    known = listed[0].bounds[0]
+    assert not keeps_to(known, [str(known.definitions), str(known.lines + 1), "", "", ""])
+
+
 def copy_read_files(target: pathlib.Path) -> pathlib.Path:
     """A copy of what the tool reads."""
     for name in ("README.md", "crates.txt", "docs/BELIEVE.md"):
@@ -301,11 +335,12 @@ def test_a_theorem_that_is_not_listed(tmp_path: pathlib.Path) -> None:
 
 
 def test_a_verdict_of_other_sources(tmp_path: pathlib.Path) -> None:
-    """A law more than a verdict counts is found, and so is one less."""
+    """A law more than a verdict counts is found, and so is one less: the file's last, which the
+    page does not list."""
     root = copy_read_files(tmp_path)
-    path = root / "crates/heap_laws/src/free_laws.rt"
+    path = root / "crates/heap_laws/src/laws.rt"
     text = path.read_text(encoding="utf-8")
-    another = "\n/// Another.\npub fn another()\n    ensures { FreedHeadersStay }\n{}\n"
+    another = "\n/// Another.\npub fn another()\n    ensures { NewChunksAreZero }\n{}\n"
     for changed in (text + another, text[:text.rindex("\n///")]):
         path.write_text(changed, encoding="utf-8")
         ran = believe("--root", str(root), "--check")

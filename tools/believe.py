@@ -4,10 +4,10 @@
     believe.py THEOREM [CLAUSE]    print them in the order in which they are read, with the files,
                                    types, constants and words of the kit, and what to skip; THEOREM
                                    is a public function with a contract, as `tenants_are_isolated`,
-                                   `Host::slice`, `mte_tenant::slice`; of a theorem of the README
-                                   also what it rests on and what it does not say
+                                   `Host::slice`, `mte_tenant::slice`; of a theorem of
+                                   docs/BELIEVE.md also what it rests on and what it does not say
     believe.py --given NAME THEOREM    the same with a definition as given (CRATE.MODULE.NAME)
-    believe.py --all               print all theorems of the README as one page of Markdown
+    believe.py --all               print all theorems of docs/BELIEVE.md as one page of Markdown
     believe.py                     write docs/BELIEVE.md, which has their numbers
     believe.py --check             exit with 1 where it is not what the definitions give, where a
                                    closure is larger than its bound in closures/theorems.toml, or

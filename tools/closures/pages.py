@@ -8,9 +8,7 @@ from closures.closures import Repository, closure_of
 from closures.names import Name
 from closures.order import Reading, reading_of
 from closures.sources import Function
-from closures.theorems import (
-    Bound, Given, Page, Theorem, closure_of_theorem, function_named, names_at,
-)
+from closures.theorems import Given, Page, Theorem, closure_of_theorem, function_named, names_at
 
 MARK = """\
 <!-- Written by tools/believe.py from the definitions and tools/closures/. Do not edit. -->
@@ -18,8 +16,9 @@ MARK = """\
 HEAD = """\
 # What to believe
 
-For an auditor: for each theorem of the README what must be read to know what it says. Nothing \
-that is not listed has to be read: no body, nothing in `proofs/`, `must-fail/` and `specs/Inner`.
+For an auditor: for each theorem of the README, and for more laws of the heap, what must be read \
+to know what it says. Nothing that is not listed has to be read: no body, nothing in `proofs/`, \
+`must-fail/` and `specs/Inner`.
 
 - `tools/believe.py THEOREM` prints the definitions in the order in which they are read, with line \
 numbers, and what each file has that may be skipped. It also says what the theorem rests on beside \
@@ -31,13 +30,12 @@ as `THEOREMS.md`.
 A definition is **reached** by a theorem if a clause names it, or a definition, a type or a \
 constant that is reached does. Files are in the order in which they are read, each before those \
 that it builds on. Lines are those of the definitions, without comments and blank lines. Of a type \
-with a model the model's value is followed, and not its fields. A part that is taken *as given* is \
-printed by itself, by `--all`.
+with a model the model's value is followed, and not its fields.
 """
 # Libraries of the kit that are parts of the standard library.
 OF_STD = {"core", "std_alloc"}
 COLUMNS = ["Definitions", "Lines", "Files", "Crates", "Types (lines)", "Constants",
-           "Words of the kit"]
+           "Words of the kit", "As given", "Definitions left", "Lines left"]
 
 
 def table(head: list[str], rows: list[list[str]]) -> Iterator[str]:
@@ -56,25 +54,24 @@ def numbers(reading: Reading) -> list[str]:
         sum(len(it) for it in reading.words.values()))]
 
 
-def label(page: Page, bound: Bound) -> str:
-    """What the closure of a bound is of."""
-    clause = f".. clause `{bound.clause}`" if bound.clause else ".. all clauses"
-    if not bound.given:
-        return clause
-    title = page.given[bound.given].title
-    return f"{clause}, {title[:1].lower()}{title[1:]} as given"
+def summary_row(repository: Repository, page: Page, theorem: Theorem, clause: str) -> list[str]:
+    """The numbers of the closure of a theorem or of one of its clauses, and what is left of it with
+    a part as given."""
+    names = closure_of_theorem(repository, page, theorem, clause, "")
+    given = next((it.given for it in theorem.bounds if it.clause == clause and it.given), "")
+    left = reading_of(repository, closure_of_theorem(repository, page, theorem, clause, given))
+    return [f".. clause `{clause}`" if clause else f"`{theorem.name}`",
+            *numbers(reading_of(repository, names)),
+            *([given, str(left.definitions), str(left.lines)] if given else ["", "", ""])]
 
 
 def summary(repository: Repository, page: Page) -> Iterator[str]:
-    """The numbers of all closures."""
-    rows = []
-    for theorem in page.theorems:
-        parts = [bound for bound in theorem.bounds if bound.clause or bound.given]
-        for bound in (None, *parts):
-            names = closure_of_theorem(repository, page, theorem, bound.clause if bound else "",
-                                       bound.given if bound else "")
-            head = label(page, bound) if bound else f"`{theorem.name}`"
-            rows.append([head, *numbers(reading_of(repository, names))])
+    """What the parts are that are taken as given, and the numbers of all closures."""
+    parts = "; ".join(f"{name}, *{it.title}*" for name, it in page.given.items())
+    yield f"The last columns take a part *as given*, which `--all` prints by itself: {parts}."
+    yield ""
+    rows = [summary_row(repository, page, theorem, clause) for theorem in page.theorems
+            for clause in dict.fromkeys(["", *(it.clause for it in theorem.bounds)])]
     yield from table(["Theorem", *COLUMNS], rows)
 
 

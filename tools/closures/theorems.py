@@ -1,4 +1,5 @@
-"""The theorems of the README, and what is said of them beside their closures: theorems.toml."""
+"""The theorems of the README and more laws of the heap, and what is said of them beside their
+closures: theorems.toml."""
 
 import dataclasses
 import pathlib
