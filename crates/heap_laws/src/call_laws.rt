@@ -4,9 +4,10 @@
 ghost use Rattle.heap_laws.specs.Requests.{MallocsAreAnswered, RefusedCallsChangeNothing};
 ghost use Rattle.heap_laws.specs.Clearing.{FreedChunksAreZero, GrownGranulesAreZero};
 
-/// malloc, calloc and memalign make a chunk of a size within the limit, whatever the calls were,
-/// where the least class that holds the need has a free block, or the pages of one are left. Where
-/// no class holds it they do so if there is a place for its pages, and these are left.
+/// malloc, calloc, and memalign to a power of two up to 4096, make a chunk of a size within the
+/// limit, whatever the calls were, where the least class that holds the need has a free block, or
+/// the pages of one are left. Where no class holds it they do so if there is a place for its pages,
+/// and these are left.
 pub fn mallocs_are_answered()
     ensures { MallocsAreAnswered }
 {}

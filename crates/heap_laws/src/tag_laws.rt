@@ -85,8 +85,8 @@ pub fn freed_tags_differ()
     ensures { FreedTagsDiffer }
 {}
 
-/// Each access, checked or not, to the page just before or just after the pages of a live chunk
-/// that has its own faults.
+/// Each read and each write, checked or not, of the page just before or just after the pages of a
+/// live chunk that has its own faults.
 pub fn large_chunks_are_guarded()
     ensures { LargeChunksAreGuarded }
 {}
