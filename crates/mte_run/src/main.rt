@@ -1,10 +1,7 @@
 //! `mte_run [OPTIONS] ELF`: runs one tenant alone, and says why it ended, or lets GDB debug it.
 #![tactic(auto)]
 
-mod debugging;
-
-use command_run::{run_alone, run_replay};
-use debugging::debug_program;
+use command_run::{debug_program, run_alone, run_replay};
 use run_options::{EarlyEnd, read_command_line};
 use run_request::{RunRequest, read_files, read_suppressions};
 use run_terms::{Failure, Options, report};
