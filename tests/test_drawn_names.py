@@ -1,11 +1,12 @@
 """Names of C++ and Rust as `mte_run` tells them, drawn by the grammars of the Itanium ABI and of
-Rust's legacy form, compared with `c++filt -i`. Where c++filt differs from the ABI, they are compared
+Rust's legacy form, compared with `c++filt -i`. Where that differs from the ABI, they are compared
 with `llvm-cxxfilt`. TOMBOLOPAN_DRAWN is how many names of each kind are drawn."""
 
 import os
 import pathlib
 import random
 import re
+from collections.abc import Sequence
 
 import pytest
 
@@ -81,7 +82,7 @@ def in_words_of_gnu(text: str) -> str:
     return text.replace(" ", "")
 
 
-def shown(rows: "list[tuple[str, ...]]") -> str:
+def shown(rows: Sequence[tuple[str, ...]]) -> str:
     """The shortest of names that differ."""
     return f"{len(rows)}: " + "\n".join(map(str, sorted(rows, key=lambda it: len(it[0]))[:5]))
 

@@ -17,17 +17,19 @@ from tests.support.hostile_images import (
     END_SEQUENCE, FAULT, PROGBITS, allocating, file_of, set_address, uleb, unit)
 from tests.support.hostile_images import words as instructions
 from tests.support.places import EXAMPLES
-from tests.support.running import run, succeed
+from tests.support.running import Word, run, succeed
 from tests.support.tools import need
 
 HELLO = EXAMPLES / "hi.elf"
 DRAWN = int(os.environ.get("TOMBOLOPAN_DRAWN", "60"))
 USAGE, READ = 2, 5
-BEYOND = "\u00ad\u0301\u061c\u200b\u200e\u2028\u202e\u2066\ue000\ufdd0\ufeff\uffff\U0001f600\U0010ffff"
+BEYOND = ("\u00ad\u0301\u061c\u200b\u200e\u2028\u202e\u2066\ue000\ufdd0\ufeff\uffff\U0001f600"
+          "\U0010ffff")
 CHARACTERS = [chr(number) for number in range(1, 0xA1)] + list(BEYOND)
 # Longest names of files have 255 bytes.
 CHUNKS = [CHARACTERS[at:at + 50] for at in range(0, len(CHARACTERS), 50)]
-NO_TEXT = (b"\x80", b"\xff", b"\xc0\xaf", b"\xed\xa0\x80", b"\xf4\x90\x80\x80", b"\xe2\x82", b"\xc3(")
+NO_TEXT = (b"\x80", b"\xff", b"\xc0\xaf", b"\xed\xa0\x80", b"\xf4\x90\x80\x80", b"\xe2\x82",
+           b"\xc3(")
 
 
 def asked(output: bytes) -> list[str]:
@@ -52,8 +54,10 @@ def shown(name: str) -> str:
 def test_names_of_files(alone: pathlib.Path, tmp_path: pathlib.Path, chunk: list[str]) -> None:
     """A file that is not there is told with each character but printable ASCII as its number."""
     name = "x" + "".join(chunk).replace("/", "")
-    for words in ([name], ["--input", name, HELLO], ["--check", "--suppressions", name, HELLO],
-                  ["--script", name, "1", "--frames", "9", HELLO]):
+    lines: list[list[Word]] = [
+        [name], ["--input", name, HELLO], ["--check", "--suppressions", name, HELLO],
+        ["--script", name, "1", "--frames", "9", HELLO]]
+    for words in lines:
         ran = run([alone, *words], cwd=tmp_path)
         assert (ran.status, ran.out) == (READ, b"")
         assert asked(ran.err) == []
@@ -78,8 +82,8 @@ def test_words_that_are_no_text(
 ) -> None:
     """All three programs refuse bytes that are no UTF-8, without a word of them."""
     for program in (alone, host, split):
-        for bytes_of_name in NO_TEXT:
-            ran = run([program, "--frames", "9", b"x\x1b" + bytes_of_name, "x"], cwd=tmp_path)
+        for name in NO_TEXT:
+            ran = run([program, "--frames", "9", b"x\x1b" + name, "x"], cwd=tmp_path)
             assert (ran.status, ran.out) == (USAGE, b"")
             assert ran.errors == f"{program.name}: an argument is not text\n"
 
@@ -89,10 +93,9 @@ def test_fixed_lines(host: pathlib.Path, split: pathlib.Path, tmp_path: pathlib.
     it was given."""
     for chunk in CHUNKS:
         name = "x" + "".join(chunk).replace("/", "")
-        for words in ([host, "--frames", "9", name], [split, "--frames", "9", "--list", name]):
-            ran = run(words, cwd=tmp_path)
-            program = pathlib.Path(words[0]).name
-            assert (ran.status, ran.errors) == (READ, f"{program}: cannot read {name}\n")
+        for program, words in ((host, [name]), (split, ["--list", name])):
+            ran = run([program, "--frames", "9", *words], cwd=tmp_path)
+            assert (ran.status, ran.errors) == (READ, f"{program.name}: cannot read {name}\n")
 
 
 def test_names_of_symbols(alone: pathlib.Path, tmp_path: pathlib.Path) -> None:

@@ -357,9 +357,10 @@ class Names:
 
     def expression(self) -> str:
         """An expression."""
-        return self.one("literal", "parameter_value", "unary", "step", "no_exception", "binary", "sizes", "size",
-                        "alignment", "alignment_of_type", "call", "cast", "rare_cast", "made_of", "choice", "scoped",
-                        "selected", "argument_value", "creation", "index")
+        return self.one(
+            "literal", "parameter_value", "unary", "step", "no_exception", "binary", "sizes",
+            "size", "alignment", "alignment_of_type", "call", "cast", "rare_cast", "made_of",
+            "choice", "scoped", "selected", "argument_value", "creation", "index")
 
     def parameter_value(self) -> str:
         """A parameter of the template as a value."""
@@ -472,7 +473,8 @@ class Names:
 
     def special(self) -> str:
         """A table, a thunk, a guard or a temporary."""
-        kind = self.source.choice(("TV", "TT", "TI", "TS", "GV", "Th", "Tv", "Tc", "TC", "TH", "TW"))
+        kind = self.source.choice(
+            ("TV", "TT", "TI", "TS", "GV", "Th", "Tv", "Tc", "TC", "TH", "TW"))
         if kind in ("TV", "TT", "TI", "TS"):
             return kind + self.one("named")
         if kind in ("GV", "TH", "TW"):
