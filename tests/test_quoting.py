@@ -1,14 +1,18 @@
 """Names with each character up to U+00A0 and some beyond, and with bytes that are no UTF-8, in all
-that `mte_run` says: compared with a terminal, of which no control sequence may be asked, and with
-bash, to which the command that it prints has to be the same words again. TOMBOLOPAN_DRAWN is how
-many names for bash are drawn."""
+that `mte_run` and `tenant-run` say: compared with a terminal, of which no control sequence may be
+asked, and with bash, to which the command that they print has to be the same words again.
+TOMBOLOPAN_DRAWN is how many names for bash are drawn."""
 
+import functools
+import importlib.machinery
+import importlib.util
 import json
 import os
 import pathlib
 import random
 import re
 import unicodedata
+from types import ModuleType
 
 import pytest
 
@@ -135,6 +139,18 @@ def test_names_of_source_files(alone: pathlib.Path, tmp_path: pathlib.Path) -> N
     json.loads((tmp_path / "told.json").read_text(encoding="utf-8"))
 
 
+@functools.cache
+def tenant_run() -> ModuleType:
+    """The tool as a module."""
+    loader = importlib.machinery.SourceFileLoader(
+        "tenant_run", str(EXAMPLES / "libc" / "tenant-run"))
+    spec = importlib.util.spec_from_loader("tenant_run", loader)
+    assert spec
+    made = importlib.util.module_from_spec(spec)
+    loader.exec_module(made)
+    return made
+
+
 def drawn_name(source: random.Random) -> str:
     """A name of a file that a shell has much to say about."""
     pool = ("'", '"', "\\", "$", "`", "!", " ", "\t", "\n", "*", "?", "[", "]", "{", "}", "(", ")",
@@ -142,6 +158,28 @@ def drawn_name(source: random.Random) -> str:
             *source.sample(CHARACTERS, 6))
     name = "".join(source.choice(pool) for _ in range(source.randint(1, 16))).replace("/", "")
     return name if name not in ("", ".", "..") else "x"
+
+
+def test_what_tenant_run_says(alone: pathlib.Path, tmp_path: pathlib.Path) -> None:
+    """The report of mte_run, with the program's name in place of the image's, asks nothing of a
+    terminal, and its command is the same words in bash; so are names that a tenant wrote."""
+    need("bash")
+    image, source, tool = tmp_path / "image", random.Random(6), tenant_run()
+    image.write_bytes(file_of(instructions(*FAULT), []))
+    report = run([alone, image]).errors
+    names = [drawn_name(source) + it for it in CHARACTERS for _ in range(2)]
+    script = ["llvm-symbolizer() { printf '%s\\0' \"$2\"; }"]
+    for name in names:
+        told = tool.renamed(report, image, name)
+        assert asked(told.encode()) == [] and told.count("\n") == report.count("\n")
+        assert str(image) not in told and tool.plain(name) == shown(name)
+        script.append(told.splitlines()[-2])
+    ran = succeed(["bash", "--norc", "-c", "\n".join(script)])
+    assert ran.out == b"".join(f"--obj={it}".encode() + b"\0" for it in names)
+    for words in (["--wrong\x1b"], ["absent\x9b"], ["--files", "a\x1b", "x"],
+                  ["--env", "\x1b", "x"]):
+        ended = run([EXAMPLES / "libc" / "tenant-run", *words])
+        assert ended.status and ended.err and asked(ended.err) == [], words
 
 
 def test_a_command_that_can_be_pasted(alone: pathlib.Path, tmp_path: pathlib.Path) -> None:
