@@ -293,8 +293,9 @@ class HeapCalls:
                       source.choice((0, 1, 15, 16)))
         self.real = Heap(*self.setup)
         self.answers: list[int] = []
-        # Of each live chunk, by its call: the size and the words that are known.
-        self.live: dict[int, tuple[int, dict[int, int]]] = {}
+        # Of each live chunk, by its call: the size, the words that were stored, and how many bytes
+        # of it are 0 where nothing was stored. What a realloc adds may be anything.
+        self.live: dict[int, tuple[int, dict[int, int], int]] = {}
         self.plain: list[tuple[int, int, int]] = []
 
     def argument(self, it: Any) -> int:
@@ -324,7 +325,7 @@ class HeapCalls:
             self.allocate()
             return
         call = source.choice(sorted(self.live))
-        size, words = self.live[call]
+        size, words, zeros = self.live[call]
         at = source.randrange(max(size // 8, 1)) * 8
         if kind == "free":
             assert self.make(FREE, Answer(call))[0] == Code.OK
@@ -335,13 +336,15 @@ class HeapCalls:
             words[at] = source.getrandbits(64)
             assert self.make(STORE, Answer(call) + at, words[at])[0] == Code.OK
         elif kind == "load" and size >= 8:
-            assert self.make(LOAD, Answer(call, 8) + at - 8) == (Code.OK, words.get(at, 0))
+            code, found = self.make(LOAD, Answer(call, 8) + at - 8)
+            wanted = words.get(at, 0 if at + 8 <= zeros else found)
+            assert (code, found) == (Code.OK, wanted), (at, size, zeros)
         elif kind == "size":
             assert self.make(USABLE_SIZE, Answer(call)) == (Code.OK, max(size, 1))
             tag = self.argument(Answer(call)) >> 56
             assert self.make(LOAD_TAG, Answer(call, at)) == (Code.OK, tag)
         elif kind == "realloc":
-            self.resize(call, size, words)
+            self.resize(call)
 
     def allocate(self) -> None:
         """A chunk; no answer where no page is left."""
@@ -351,17 +354,18 @@ class HeapCalls:
         code, answer = self.make(*words)
         assert code == Code.OK
         if answer:
-            self.live[len(self.plain)] = (size * max(count, 1), {})
+            self.live[len(self.plain)] = (size * max(count, 1), {}, size * max(count, 1))
 
-    def resize(self, call: int, size: int, words: dict[int, int]) -> None:
+    def resize(self, call: int) -> None:
         """Another size; what both sizes have stays."""
         new = self.source.choice((1, 8, 24, 48, 300, 6000))
+        size, words, zeros = self.live[call]
         code, answer = self.make(REALLOC, Answer(call), new)
         assert code == Code.OK
         if answer:
             del self.live[call]
             kept = {at: it for at, it in words.items() if at + 8 <= min(size, new)}
-            self.live[len(self.plain)] = (new, kept)
+            self.live[len(self.plain)] = (new, kept, min(zeros, size, new))
 
     def spoil(self) -> None:
         """A step of a wrong type, out of its range or with a reference to no answer."""
@@ -376,7 +380,7 @@ class HeapCalls:
 
     def end(self) -> None:
         """The chunks that are live; and the calls by numbers answer what those by names answer."""
-        wanted = {self.argument(Answer(call)): size for call, (size, _) in self.live.items()}
+        wanted = {self.argument(Answer(call)): size for call, (size, *_) in self.live.items()}
         assert self.real.replay().live() == wanted
         by_number = heap_calls(self.plain, *self.setup)
         for row, one, other in zip(self.plain, by_number, self.real.replay(), strict=True):

@@ -105,7 +105,8 @@ class Names:
         end = self.one("last", "last", "last", "last", "conversion", "special_member")
         if end[0] in "CD":
             self.has_arguments = False
-            has_no_name = made.endswith("_") and "member_of_none" in self.without
+            has_no_name = made.endswith("_") and "member_of_none" in self.without \
+                or made.endswith("B5cxx11") and "member_of_tagged" in self.without
             return made + ("1f" if has_no_name else end) + "E"
         made += end + self.some_arguments()
         self.is_bare = end.startswith("cv")
@@ -206,7 +207,7 @@ class Names:
             reference = "" if exempt != "Do" and "const_reference" in self.without else reference
         result = "scalar" if exempt or reference else self.source.choice(("scalar", "pointer"))
         made = f"{exempt}F{self.one('scalar', result)}{self.signature()}{reference}E"
-        self.seen += "FF" if exempt in ("K", "VK") else "F"
+        self.seen += "F"
         return made
 
     def simple_procedure(self) -> str:
@@ -228,7 +229,7 @@ class Names:
     def array(self) -> str:
         """A type of arrays."""
         made = f"A{self.source.choice(('', '3', '40'))}_" + \
-            self.one("scalar", "named", "pointer", "array")
+            self.one("scalar", "plain_class", "tagged_class", "pointer", "array")
         self.seen += "F"
         return made
 
@@ -293,6 +294,16 @@ class Names:
     def again(self) -> str:
         """A type that was before, but no reference of C++."""
         return self.reference("CFO") or "i"
+
+    def plain_class(self) -> str:
+        """A class without a tag."""
+        self.seen += "C"
+        return self.bare()
+
+    def tagged_class(self) -> str:
+        """A class with a tag."""
+        self.seen += "C"
+        return self.bare() + "B5cxx11"
 
     def own_class(self) -> str:
         """A class in no other."""
