@@ -1,7 +1,7 @@
 """Names with each character up to U+00A0 and some beyond, and with bytes that are no UTF-8, in all
-that `mte_run` and `tenant-run` say: compared with a terminal, of which no control sequence may be
-asked, and with bash, to which the command that they print has to be the same words again.
-TOMBOLOPAN_DRAWN is how many names for bash are drawn."""
+that `mte_run`, `tenant-run` and `tools/batch` say: compared with a terminal, of which no control
+sequence may be asked, and with bash, to which the command that is printed has to be the same words
+again. TOMBOLOPAN_DRAWN is how many names for bash are drawn."""
 
 import functools
 import importlib.machinery
@@ -11,11 +11,13 @@ import os
 import pathlib
 import random
 import re
+import sys
 import unicodedata
 from types import ModuleType
 
 import pytest
 
+from tests.support.batches import BATCH
 from tests.support.drawn_names import told_names
 from tests.support.hostile_images import (
     END_SEQUENCE, FAULT, PROGBITS, allocating, file_of, set_address, uleb, unit)
@@ -37,14 +39,13 @@ NO_TEXT = (b"\x80", b"\xff", b"\xc0\xaf", b"\xed\xa0\x80", b"\xf4\x90\x80\x80", 
 
 
 def asked(output: bytes) -> list[str]:
-    """What a terminal is asked to do but to show characters and to begin lines. It reads UTF-8;
-    what is none it shows as it likes."""
+    """What a terminal is asked to do but to show characters and to begin lines. It reads UTF-8."""
     found = []
     for character in output.decode("utf-8", errors="surrogateescape"):
         kind = unicodedata.category(character)
-        # Controls of ECMA-48 (C0, DEL, C1), marks and overrides of direction, ends of lines,
-        # combining marks, and what no text has.
-        if character != "\n" and (kind[0] in "CM" or kind in ("Zl", "Zp")):
+        # Controls of ECMA-48 (C0, DEL, C1), overrides of direction, ends of lines, bytes that are
+        # no UTF-8, and what no text has.
+        if character != "\n" and (kind[0] == "C" or kind in ("Zl", "Zp")):
             found.append(f"U+{ord(character):04X}")
     return found
 
@@ -137,6 +138,20 @@ def test_names_of_source_files(alone: pathlib.Path, tmp_path: pathlib.Path) -> N
     assert asked(ran.err) == []
     assert asked((tmp_path / "told.json").read_bytes()) == []
     json.loads((tmp_path / "told.json").read_text(encoding="utf-8"))
+
+
+def test_names_of_sessions(host: pathlib.Path, tmp_path: pathlib.Path) -> None:
+    """tools/batch writes no control character of a session's name, of a file's or of a list's."""
+    for at, chunk in enumerate(CHUNKS):
+        name = "x" + "".join(chunk).replace("/", "")
+        folder = tmp_path / str(at) / name
+        folder.mkdir(parents=True)
+        (folder / "args").write_text("--frames\n9\nscript\n", "utf-8")
+        (folder / "script").write_bytes(b"")
+        (folder / "want.out").write_bytes(b"other")
+        for place, status in ((folder.parent, 1), (tmp_path / name, 2), (folder / "script", 2)):
+            ran = run([sys.executable, BATCH, place, "--program", host], cwd=tmp_path)
+            assert ran.status == status and asked(ran.out + ran.err) == [], (place, ran)
 
 
 @functools.cache
