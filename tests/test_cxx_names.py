@@ -3,9 +3,9 @@ gcc, cut and altered ones, and ones whose text would grow without a bound."""
 
 import pathlib
 import random
-import re
 
-from tests.support.running import run, succeed
+from tests.support.drawn_names import told_names
+from tests.support.running import succeed
 from tests.support.tools import give_up, need
 
 # The most letters of a name that is told, and of its text.
@@ -65,9 +65,9 @@ def library_names() -> list[str]:
         give_up("missing: libstdc++.so")
     listed = succeed(["nm", "--dynamic", "--format=just-symbols", path.resolve()]).output
     names = sorted({line.partition("@")[0] for line in listed.splitlines()})
-    told = [name for name in names if name.startswith("_Z") and len(name) <= LONGEST]
-    assert len(told) > 4_000
-    return random.Random(1).sample(told, COUNT)
+    fitting = [name for name in names if name.startswith("_Z") and len(name) <= LONGEST]
+    assert len(fitting) > 4_000
+    return random.Random(1).sample(fitting, COUNT)
 
 
 def in_source(names: list[str]) -> list[str]:
@@ -76,19 +76,9 @@ def in_source(names: list[str]) -> list[str]:
     return succeed(["c++filt", "-i"], stdin=text.encode("ascii")).output.splitlines()
 
 
-def told_names(alone: pathlib.Path, folder: pathlib.Path, names: list[str]) -> list[str]:
-    """What a trace calls functions of one instruction each, with these names."""
-    need("clang", "ld.lld")
-    lines = [".globl _start", "_start:", "b 1f", "1:"]
-    for name in names:
-        lines += [f'.type "{name}", %function', f'"{name}": nop', f'.size "{name}", 4']
-    (folder / "names.s").write_text("\n".join([*lines, "brk #0", ""]), encoding="ascii")
-    succeed(["clang", "--target=aarch64-linux-gnu", "-fuse-ld=lld", "-nostdlib", "-static",
-             "-o", "names.elf", "names.s"], cwd=folder)
-    ran = run([alone, "--trace", "--last", "0", "names.elf"], cwd=folder)
-    told = re.findall(r"^(\S.*):$", ran.errors, re.M)
-    assert told[0] == "_start"
-    return told[1:1 + len(names)]
+def told(alone: pathlib.Path, folder: pathlib.Path, names: list[str]) -> list[str]:
+    """What a trace calls functions with these names."""
+    return told_names(alone, folder, [name.encode("ascii") for name in names])
 
 
 def test_names_of_every_kind(alone: pathlib.Path, tmp_path: pathlib.Path) -> None:
@@ -96,16 +86,16 @@ def test_names_of_every_kind(alone: pathlib.Path, tmp_path: pathlib.Path) -> Non
     shown as they are."""
     names = [name for name, _ in OF_EVERY_KIND] + list(OF_NO_KIND)
     wanted = [source for _, source in OF_EVERY_KIND] + list(OF_NO_KIND)
-    assert told_names(alone, tmp_path, names) == wanted
+    assert told(alone, tmp_path, names) == wanted
 
 
 def test_names_are_those_of_cxxfilt(alone: pathlib.Path, tmp_path: pathlib.Path) -> None:
     """Each of some hundred names is told as c++filt writes it."""
     names = library_names()
     wanted = in_source(names)
-    told = told_names(alone, tmp_path, names)
-    assert len(told) == COUNT
-    other = [it for it in zip(names, wanted, told) if it[1] != it[2]]
+    found = told(alone, tmp_path, names)
+    assert len(found) == COUNT
+    other = [it for it in zip(names, wanted, found) if it[1] != it[2]]
     assert not other, f"{len(other)} of {COUNT}, as {other[:3]}"
 
 
@@ -135,8 +125,8 @@ def growing() -> list[str]:
 def test_names_that_nobody_gave_are_bounded(alone: pathlib.Path, tmp_path: pathlib.Path) -> None:
     """What is told of cut, altered and growing names is in printable ASCII, and bounded."""
     names = [*altered(library_names()[:200]), *growing()]
-    told = told_names(alone, tmp_path, names)
-    assert len(told) == len(names)
+    found = told(alone, tmp_path, names)
+    assert len(found) == len(names)
     assert all(len(text) <= LONGEST_TEXT and text.isascii() and text.isprintable()
-               for text in told)
-    assert any(text == name for name, text in zip(growing(), told[-len(growing()):]))
+               for text in found)
+    assert any(text == name for name, text in zip(growing(), found[-len(growing()):]))

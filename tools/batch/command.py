@@ -32,7 +32,7 @@ from batch.sessions import BadList, Place, Session, places_of, share_of
 from batch.splitting import Split
 from batch.store import Store
 from batch.summaries import json_of, junit_of, write_whole
-from batch.verdicts import Verdict, Work, is_right, lines_of
+from batch.verdicts import Verdict, Work, is_right, lines_of, shown
 
 
 class Usage(Exception):
@@ -241,10 +241,10 @@ def main(words: Sequence[str] | None = None) -> int:
                 write_whole(path, text(verdicts, work).encode())
         print(*lines_of(verdicts, work), sep="\n", flush=True)
     except (BadList, Usage, UnicodeError) as error:
-        print(f"batch: {error}", file=sys.stderr)
+        print(f"batch: {shown(str(error))}", file=sys.stderr)
         return 2
     except OSError as error:
-        named = f"{error.filename}: " if error.filename else ""
+        named = f"{shown(str(error.filename))}: " if error.filename else ""
         print(f"batch: {named}{error.strerror or error}", file=sys.stderr)
         return 1
     except KeyboardInterrupt:

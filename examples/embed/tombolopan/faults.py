@@ -51,6 +51,13 @@ class Fault(Exception):
         self.kind, self.address, self.write = kind, address, write
         self.pointer_tag, self.memory_tag = pointer_tag, memory_tag
 
+    def __eq__(self, other: object) -> bool:
+        """Faults are equal where all that they tell is, so that answers can be compared."""
+        return isinstance(other, Fault) and self.args == other.args
+
+    def __hash__(self) -> int:
+        return hash(self.args)
+
     @classmethod
     def of(cls, it: _Fault) -> Fault:
         """What the library tells."""

@@ -186,4 +186,4 @@ def _words_of(address: int, length: int) -> tuple[int, int]:
     in_bits("address", address, 64)
     in_bits("length", length, 32)
     start = address // _SIZE * _SIZE
-    return start, -(-(address + length - start) // _SIZE)
+    return start, -(-(address + length - start) // _SIZE) if length else 0
