@@ -8,7 +8,7 @@ use crate::output_stream::OutputStream;
 use crate::seeds::seed_of_run;
 use crate::slices::run_slices;
 use common::Obstacle;
-use mte_tenant::AdmitError;
+use mte_tenant::{Admission, AdmitError};
 use run_cause::CheckTerms;
 use run_terms::{Options, Suppressions};
 use std::alloc::{AllocError, Global};
@@ -69,7 +69,8 @@ impl Survey {
     }
 }
 
-/// How an image ends under a seed.
+/// How an image ends under a seed. Where an access may have been wrong, a second run says whether it
+/// was.
 fn ending_under<'x>(
     alloc: Global,
     options: &Options,
@@ -78,15 +79,13 @@ fn ending_under<'x>(
     seed: u64,
 ) -> Result<TenantEnding, Obstacle<AdmitError>> {
     let admission = admission_of(options, terms.image, input, seed);
-    let mut bench = TenantBench::new(alloc, &admission)?;
     let mut observer = silent_observer(alloc, options, terms)?;
-    let ending = ending_of(options, &mut bench, &mut observer);
+    let ending = ending_of(alloc, options, &admission, &mut observer)?;
     if observer.shown != WatchLevel::Accesses || !observer.is_suspicious() {
         return Ok(ending);
     }
-    observer.restart(alloc, bench.parts.history.steps)?;
-    let mut bench = TenantBench::new(alloc, &admission)?;
-    Ok(ending_of(options, &mut bench, &mut observer))
+    observer.restart(alloc, u64::MAX)?;
+    ending_of(alloc, options, &admission, &mut observer)
 }
 
 /// What watches a run of which only the ending counts.
@@ -102,18 +101,27 @@ fn silent_observer<'x>(
     Ok(observer)
 }
 
-/// How a tenant ends that is run to its end.
+/// How a tenant ends that is run to its end. Its machine is made and dropped here: an early end
+/// with two of them alive is dear to prove.
 fn ending_of(
+    alloc: Global,
     options: &Options,
-    bench: &mut TenantBench,
+    admission: &Admission<'_>,
     observer: &mut Observer<'_>,
-) -> TenantEnding {
+) -> Result<TenantEnding, Obstacle<AdmitError>> {
+    let mut bench = TenantBench::new(alloc, admission)?;
     let mut out = OutputStream::silent();
-    run_slices(bench, observer, &mut out, options, options.length.steps);
+    run_slices(
+        &mut bench,
+        observer,
+        &mut out,
+        options,
+        options.length.steps,
+    );
     if observer.finding().is_some() {
-        return TenantEnding::Exact;
+        return Ok(TenantEnding::Exact);
     }
-    TenantEnding::of(&bench.parts.history, options.limit())
+    Ok(TenantEnding::of(&bench.parts.history, options.limit()))
 }
 
 impl fmt::Display for Survey {
