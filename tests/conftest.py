@@ -5,6 +5,8 @@ import pathlib
 import pytest
 
 from tests.support import places
+from tests.support.acts import EVERY_IMAGE
+from tests.support.explained import ImageActs, run_acts
 
 
 def built(name: str) -> pathlib.Path:
@@ -40,3 +42,12 @@ def shared(tmp_path_factory: pytest.TempPathFactory) -> pathlib.Path:
     folder = (base.parent if base.name.startswith("popen-") else base) / "shared"
     folder.mkdir(exist_ok=True)
     return folder
+
+
+@pytest.fixture(scope="module", params=EVERY_IMAGE, ids="-".join)
+def acts(
+    request: pytest.FixtureRequest, alone: pathlib.Path, tmp_path_factory: pytest.TempPathFactory
+) -> ImageActs:
+    """Runs of all acts of an image; the tests of an image follow one another."""
+    source, build = request.param
+    return run_acts(alone, source, build, tmp_path_factory.mktemp("acts"))

@@ -97,7 +97,8 @@ def test_a_difference_is_reported(
     """A model that is not the heap, and a theory that is not met."""
     folder = tmp_path / "examples" / "alloc"
     folder.mkdir(parents=True)
-    (tmp_path / "examples" / "embed").symlink_to(EXAMPLES / "embed")
+    for name in ("embed", "page_part.py"):
+        (tmp_path / "examples" / name).symlink_to(EXAMPLES / name)
     for path in [ALLOC / "attacks.py", *ALLOC.glob("tag_*.py")]:
         (folder / path.name).write_text(path.read_text(encoding="utf-8"), encoding="utf-8")
     text = (folder / file).read_text(encoding="utf-8")

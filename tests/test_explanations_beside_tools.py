@@ -11,11 +11,11 @@ import pytest
 
 from tests.support import asan, binutils
 from tests.support.acts import (
-    BUILDS, CHECKS, CHUNKS, EXACT, FAMILIES, FORGOTTEN, MANY, PRIMARY, TRAPS, Act, image, primary,
+    BUILDS, CHECKS, CHUNKS, EXACT, FAMILIES, FORGOTTEN, MANY, TRAPS, Act, image,
 )
 from tests.support.chunk_model import Chunk, ChunkModel, bytes_of
 from tests.support.counts import NAMES, counted, draws, draws_of_services
-from tests.support.explained import Explained, ImageActs, run_act, run_acts
+from tests.support.explained import Explained, ImageActs, run_act
 from tests.support.pictures import Picture, Row, read_svg, read_text
 from tests.support.places import EXAMPLES, IMAGES
 from tests.support.running import run
@@ -23,23 +23,10 @@ from tests.support.told import Frame, explain, input_file, read_told
 from tests.support.tools import give_up, need
 from tests.support.traces import Step, check_trace, read_services
 
-EVERY_IMAGE = [
-    (source, build) for source in sorted(PRIMARY) for build in BUILDS
-    if build in primary(source).builds
-]
 # How many frame records are read at most: at the end, and of a heap call.
 RECORDS, RECORDS_OF_CALL = 16, 7
 # Where the stack was written over, the records beyond are gone.
 SMASHED = {("stack", "f")}
-
-
-@pytest.fixture(scope="module", params=EVERY_IMAGE, ids="-".join)
-def acts(
-    request: pytest.FixtureRequest, alone: pathlib.Path, tmp_path_factory: pytest.TempPathFactory
-) -> ImageActs:
-    """Runs of all acts of an image; the tests of an image follow one another."""
-    source, build = request.param
-    return run_acts(alone, source, build, tmp_path_factory.mktemp("acts"))
 
 
 def test_calls_have_the_names_and_lines_of_other_tools(acts: ImageActs) -> None:

@@ -17,6 +17,7 @@ import checked  # noqa: E402
 import compilers  # noqa: E402
 import packages  # noqa: E402
 import suites  # noqa: E402
+from page_part import part_of  # noqa: E402
 
 PAGE = (ROOT / "docs" / "project" / "PACKAGES.md").read_text(encoding="utf-8")
 CHECKED = (ROOT / "docs" / "project" / "CHECKED.md").read_text(encoding="utf-8")
@@ -100,7 +101,7 @@ def test_counts_of_suites() -> None:
 
 def test_the_page_has_each_suite() -> None:
     """A row each, in order, whose counts differ where it says why; the others are named below."""
-    part = PAGE.partition(suites.BEGIN)[2].partition(suites.END)[0]
+    part = part_of(PAGE, suites.SCRIPT)
     rows = re.findall(r"^\| (\S+) \| \S+ \| .* \| (\d+ of \d+) \| (\d+ of \d+) \| (.*) \|$", part,
                       re.M)
     left = re.findall(r"^Not run since they were entered: (.*)\.$", part, re.M)
@@ -135,7 +136,7 @@ def test_the_page_has_no_program_that_differs() -> None:
 
 def test_the_page_has_what_is_told_of_programs_that_test_compilers() -> None:
     """A row for each build, in none of which something false is told, and each fault."""
-    part = CHECKED.partition(checked.BEGIN)[2].partition(checked.END)[0]
+    part = part_of(CHECKED, checked.SCRIPT)
     row = rf"^\| {checked.TITLES['torture']} \| (\S+) \| (\d+) \| \d+ \| \d+ \| (\d+) \|$"
     rows = re.findall(row, part, re.M)
     assert [build for build, _, _ in rows] == list(checked.BUILDS)

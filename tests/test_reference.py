@@ -87,7 +87,7 @@ def test_wrong_pointers(runner: Runner) -> None:
         assert not rarely(found.ends, WRONG)
 
 
-# ---- where mte_run differs from the page
+# ---- where mte_run says more or less than it could (docs/CHECKING.md, Limits)
 
 
 def operand(register: int, value: int, undefined: int) -> list[int]:
@@ -141,7 +141,7 @@ UNLIKE: tuple[tuple[str, list[int]], ...] = (
 
 @pytest.mark.parametrize(("name", "words"), UNLIKE, ids=[
     "sum-with-0", "sum-of-two", "subp", "subps", "clz", "cls", "ccmp", "ldg", "irg", "gmi"])
-@pytest.mark.xfail(strict=True, reason="--check=undefined differs from docs/CHECKING.md")
+@pytest.mark.xfail(strict=True, reason="more is undefined than must be, or (GMI) less")
 def test_differences(runner: Runner, name: str, words: list[int]) -> None:
     """Bits that do not depend on undefined ones are counted as undefined, or (GMI) the other way
     round."""
@@ -158,7 +158,7 @@ def test_differences_are_known(runner: Runner, name: str, words: list[int]) -> N
     assert compare.differs(runner.check(words, "undefined"), possible, certain) is None
 
 
-@pytest.mark.xfail(strict=True, reason="--check=provenance judges no STZG, as --exact does")
+@pytest.mark.xfail(strict=True, reason="--check=provenance judges no STZG")
 def test_cleared_granules(runner: Runner) -> None:
     """STZG of a chunk's last granule writes past its size."""
     words = flat(call(MALLOC, 40), copy(19, 0), word("st_g", opc=1, mode=2, imm9=2, rn=19, rt=19))
@@ -170,17 +170,20 @@ FAULTS = {
                         word("add_sub_shift", sf=1, rm=3, rn=19, rd=4), load(5, 4)),
     "tag": flat(call(MALLOC, 40), copy(19, 0), load(1, 19, 64)),
     "abort": flat(call(MALLOC, 40), copy(19, 0), move(8, FREE), SERVICE, copy(0, 19), SERVICE),
+    "undefined": flat(FRESH, load(4, 9), load(5, 4)),
 }
 
 
-@pytest.mark.parametrize("name", sorted(FAULTS))
-@pytest.mark.xfail(strict=True, reason="the finding is reported instead of the fault")
-def test_faults_first(runner: Runner, name: str) -> None:
-    """A fault or an abort of the same instruction is reported instead of a finding."""
+@pytest.mark.parametrize(("name", "kind", "found"), [
+    ("translation", "provenance", "Overflow"), ("tag", "provenance", "Overflow"),
+    ("abort", "frees", "DoubleFree"), ("undefined", "undefined", "UndefinedAddress"),
+])
+def test_findings_first(runner: Runner, name: str, kind: str, found: str) -> None:
+    """A finding is reported instead of the fault or the abort of the same instruction."""
     _, document = runner.trace(FAULTS[name])
     assert document["status"]["kind"] in ("fault", "abort")
-    checked = runner.check(FAULTS[name], "provenance,frees").document
-    assert checked["status"]["kind"] == document["status"]["kind"]
+    verdict = runner.check(FAULTS[name], kind)
+    assert (verdict.name, verdict.step) == (found, document["steps"])
 
 
 def test_the_second_of_a_pair(runner: Runner) -> None:

@@ -6,19 +6,15 @@ import re
 
 import pytest
 
-from tests.support.acts import BUILDS, OPTION_BUILDS, PRIMARY, Act, primary
+from tests.support.acts import OPTION_BUILDS, PRIMARY, Act, primary
 from tests.support.counts import NAMES
-from tests.support.explained import Explained, ImageActs, run_act, run_acts
+from tests.support.explained import Explained, ImageActs, run_act
 from tests.support.report_lines import (
     ORDER, chosen, first_line, json_lines, last_line, letters, machine_lines, parts_of, traced,
 )
 from tests.support.told import explain, read_told
 from tests.support.traces import LINE
 
-EVERY_IMAGE = [
-    (source, build) for source in sorted(PRIMARY) for build in BUILDS
-    if build in primary(source).builds
-]
 # What is asked for: parts, and how many instructions and calls.
 CHOICES = (
     "", "--last 0", "--last 1", "--last 100 --calls 3", "--calls 65536 --last 0", "--leaks",
@@ -30,15 +26,6 @@ CHOSEN = [
 ]
 # Steps of a trace, as the option has them, and the first and the last.
 RANGES = (("", 1, 1 << 64), ("=60-", 60, 1 << 64), ("=-3", 1, 3), ("=70-75", 70, 75))
-
-
-@pytest.fixture(scope="module", params=EVERY_IMAGE, ids="-".join)
-def acts(
-    request: pytest.FixtureRequest, alone: pathlib.Path, tmp_path_factory: pytest.TempPathFactory
-) -> ImageActs:
-    """Runs of all acts of an image; the tests of an image follow one another."""
-    source, build = request.param
-    return run_acts(alone, source, build, tmp_path_factory.mktemp("acts"))
 
 
 def test_lines_have_known_forms_in_their_order(acts: ImageActs) -> None:

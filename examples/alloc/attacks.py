@@ -24,13 +24,14 @@ from dataclasses import dataclass, field
 from typing import Protocol
 
 HERE = pathlib.Path(__file__).resolve().parent
-sys.path.insert(0, str(HERE.parent / "embed"))
+sys.path[:0] = [str(HERE.parent / "embed"), str(HERE.parent)]
 import tag_theory as theory  # noqa: E402
 import tombolopan as tb  # noqa: E402
+from page_part import write_part  # noqa: E402
 from tag_model import ModelHeap, Numbers, address_of, tag_of, with_tag  # noqa: E402
 
 PAGE = HERE.parents[1] / "docs" / "ATTACKS.md"
-BEGIN, END = "<!-- Written by examples/alloc/attacks.py: -->\n", "<!-- to here. -->\n"
+SCRIPT = "examples/alloc/attacks.py"
 SEEDS, ERRORS = 400, 3
 SIZE = 24  # A chunk has two granules.
 HEAD = "| Reaches | The heap | 3 bits | No odd and even | By |\n|---|---|---|---|---|\n"
@@ -265,13 +266,6 @@ def line_of(row: Row, cells: list[Cell]) -> str:
     return f"| {row.text} | {' | '.join(map(str, cells))} | {row.why} |\n"
 
 
-def write_page(text: str) -> None:
-    """Writes the part of the page between its marks."""
-    page = PAGE.read_text(encoding="utf-8")
-    before, after = page.split(BEGIN)
-    PAGE.write_text(f"{before}{BEGIN}\n{text}\n{END}{after.split(END, 1)[1]}", encoding="utf-8")
-
-
 def main() -> int:
     """Reads the command line."""
     form = argparse.RawDescriptionHelpFormatter
@@ -288,7 +282,7 @@ def main() -> int:
     for line in wrong:
         print(f"attacks.py: {line}", file=sys.stderr)
     if options.write and not wrong:
-        write_page(text)
+        write_part(PAGE, SCRIPT, text)
     print(text, end="")
     return 1 if wrong else 0
 

@@ -22,10 +22,11 @@ import tempfile
 HERE = pathlib.Path(__file__).resolve().parent
 sys.path.insert(0, str(HERE.parent))
 from over_library import NotCompiled, compile_program  # noqa: E402
+from page_part import write_part  # noqa: E402
 from scudo_library import NoScudo, archives, link_words, with_options  # noqa: E402
 
 PAGE = HERE.parents[1] / "docs" / "ALLOCATORS.md"
-BEGIN, END = "<!-- Written by examples/alloc/beside_allocators.py: -->\n", "<!-- to here. -->\n"
+SCRIPT = "examples/alloc/beside_allocators.py"
 Row = dict[str, str]
 # The heaps, in the order of the columns.
 PROFILE, SCUDO, MACHINE = "profile", "Scudo", "glibc"
@@ -86,13 +87,6 @@ def table(found: dict[str, list[Row]]) -> str:
     return text + "".join(line_of(list(rows)) for rows in together)
 
 
-def write_page(text: str) -> None:
-    """Writes the part of the page between its marks."""
-    page = PAGE.read_text(encoding="utf-8")
-    before, rest = page.split(BEGIN)
-    PAGE.write_text(f"{before}{BEGIN}\n{text}\n{END}{rest.split(END, 1)[1]}", encoding="utf-8")
-
-
 def main() -> int:
     """Reads the command line."""
     form = argparse.RawDescriptionHelpFormatter
@@ -110,7 +104,7 @@ def main() -> int:
         print(f"beside_allocators.py: {error}", file=sys.stderr)
         return 1
     if options.write:
-        write_page(text)
+        write_part(PAGE, SCRIPT, text)
     print(text, end="")
     return 0
 

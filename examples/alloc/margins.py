@@ -18,9 +18,10 @@ import tempfile
 HERE = pathlib.Path(__file__).resolve().parent
 sys.path.insert(0, str(HERE.parent))
 from over_library import NotCompiled, compile_program  # noqa: E402
+from page_part import write_part  # noqa: E402
 
 PAGE = HERE.parents[1] / "docs" / "ATTACKS.md"
-BEGIN, END = "<!-- Written by examples/alloc/margins.py: -->\n", "<!-- to here. -->\n"
+SCRIPT = "examples/alloc/margins.py"
 STATES = 1 << 20
 RUNS = (1, 2, 4)
 # By a name, a number and 0 or 1 under how many states a mistake is found.
@@ -93,13 +94,6 @@ def table(counts: Counts, states: int) -> str:
     return text + f"| {NEVER} | {' | '.join(['0'] * (len(RUNS) + 1))} | tags are of 16 bytes |\n"
 
 
-def write_page(text: str) -> None:
-    """Writes the part of the page between its marks."""
-    page = PAGE.read_text(encoding="utf-8")
-    before, rest = page.split(BEGIN)
-    PAGE.write_text(f"{before}{BEGIN}\n{text}\n{END}{rest.split(END, 1)[1]}", encoding="utf-8")
-
-
 def main() -> int:
     """Reads the command line."""
     form = argparse.RawDescriptionHelpFormatter
@@ -118,7 +112,7 @@ def main() -> int:
         print(f"margins.py: {line}", file=sys.stderr)
     text = table(counts, options.states)
     if options.write and not wrong:
-        write_page(text)
+        write_part(PAGE, SCRIPT, text)
     print(text, end="")
     return 1 if wrong else 0
 

@@ -18,8 +18,10 @@ import sys
 from dataclasses import dataclass, field
 from html import escape
 
+sys.path.insert(0, str(pathlib.Path(__file__).resolve().parents[1]))
+from page_part import part_of  # noqa: E402
+
 PAGE = pathlib.Path(__file__).resolve().parents[2] / "docs" / "ATTACKS.md"
-BEGIN, END = "<!-- Written by examples/alloc/margins.py: -->\n", "<!-- to here. -->\n"
 MOST_POINTS = 400
 WIDTH, HEIGHT = 860, 330
 LEFT, RIGHT, TOP, BOTTOM = 84, 20, 46, 44
@@ -138,7 +140,7 @@ def read_margins() -> list[tuple[str, float]]:
     odd and even tags."""
     page = PAGE.read_text(encoding="utf-8")
     rows = []
-    for line in page.split(BEGIN)[1].split(END)[0].strip().splitlines()[2:]:
+    for line in part_of(page, "examples/alloc/margins.py").strip().splitlines()[2:]:
         mistake, odd, even, *_ = (it.strip() for it in line.strip("|").split("|"))
         rows.append((mistake, 1 - min(float(odd), float(even))))
     if not rows:

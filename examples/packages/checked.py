@@ -36,9 +36,10 @@ HERE = pathlib.Path(__file__).resolve().parent
 sys.path[:0] = [str(HERE), str(HERE.parent)]
 import compilers  # noqa: E402
 import packages  # noqa: E402
+from page_part import write_part  # noqa: E402
 
 PAGE = HERE.parents[1] / "docs" / "project" / "CHECKED.md"
-BEGIN, END = "<!-- Written by examples/packages/checked.py: -->\n", "<!-- to here. -->\n"
+SCRIPT = "examples/packages/checked.py"
 BUILDS = {f"{name}{level}": (name, level)
           for name in compilers.COMPILERS for level in ("-O0", "-O2")}
 PLAIN, WAYS = "", ("--check", "--check=all,places")
@@ -330,14 +331,6 @@ def faults_of(kept: list[dict[str, Any]]) -> str:
     return "\n".join(lines) + "\n"
 
 
-def write_page(kept: list[dict[str, Any]]) -> None:
-    """Writes the part of the page between its marks."""
-    before, rest = PAGE.read_text(encoding="utf-8").split(BEGIN)
-    behind = rest.split(END, 1)[1]
-    made = f"{counts_of(kept)}\n{faults_of(kept)}"
-    PAGE.write_text(f"{before}{BEGIN}\n{made}\n{END}{behind}", encoding="utf-8")
-
-
 def arguments() -> argparse.Namespace:
     form = argparse.RawDescriptionHelpFormatter
     parser = argparse.ArgumentParser(description=__doc__, formatter_class=form)
@@ -355,7 +348,8 @@ def main() -> int:
     place = packages.place_of(options)
     path = place.out / "checked.json"
     if options.write or not options.kind:
-        write_page(json.loads(path.read_text(encoding="utf-8")))
+        kept = json.loads(path.read_text(encoding="utf-8"))
+        write_part(PAGE, SCRIPT, f"{counts_of(kept)}\n{faults_of(kept)}")
         return 0
     work = torture_work if options.kind == "torture" else package_work
     found = [keep(path, it) for it in tried(list(work(options, place)), options.jobs)]

@@ -33,6 +33,7 @@ HERE = pathlib.Path(__file__).resolve().parent
 sys.path[:0] = [str(HERE), str(HERE.parent)]
 import debian_source  # noqa: E402
 import packages  # noqa: E402
+from page_part import write_part  # noqa: E402
 
 TENANT_CC = HERE.parent / "libc" / "tenant-cc"
 COMPILERS = {"clang": "clang", "gcc": "gcc"}
@@ -44,7 +45,7 @@ LEFT_OUT, TOO_LONG = "not ended natively", "too long"
 RESULTS = (SAME, REFUSED, DIFFERENT, TOO_LONG, LEFT_OUT)
 # What a test that asks for the size of the stack is told.
 STACK = 32768
-BEGIN, END = "<!-- Written by examples/packages/compilers.py: -->\n", "<!-- to here. -->\n"
+SCRIPT = "examples/packages/compilers.py"
 TITLES = {"csmith": "csmith", "torture": "gcc's torture tests"}
 
 
@@ -196,14 +197,6 @@ def table(kept: dict[str, list[dict[str, str]]]) -> str:
     return text
 
 
-def write_page(kept: dict[str, list[dict[str, str]]]) -> None:
-    """Writes the part of the page between its marks."""
-    text = packages.PAGE.read_text(encoding="utf-8")
-    before, rest = text.split(BEGIN)
-    packages.PAGE.write_text(f"{before}{BEGIN}\n{table(kept)}\n{END}{rest.split(END, 1)[1]}",
-                             encoding="utf-8")
-
-
 def keep(path: pathlib.Path, kind: str, found: list[Finding]) -> None:
     """Keeps what was found, beside what earlier calls found of other programs."""
     kept = json.loads(path.read_text(encoding="utf-8")) if path.exists() else {}
@@ -229,7 +222,8 @@ def main() -> int:
     place = packages.place_of(options)
     path = place.out / "compilers.json"
     if options.write or not options.kind:
-        write_page(json.loads(path.read_text(encoding="utf-8")))
+        kept = json.loads(path.read_text(encoding="utf-8"))
+        write_part(packages.PAGE, SCRIPT, table(kept))
         return 0
     with tempfile.TemporaryDirectory() as name:
         if options.kind == "csmith":

@@ -37,9 +37,10 @@ HERE = pathlib.Path(__file__).resolve().parent
 LIBC = HERE.parent / "libc"
 sys.path.insert(0, str(HERE.parent))
 import debian_source  # noqa: E402
+from page_part import write_part  # noqa: E402
 
 PAGE = HERE.parents[1] / "docs" / "project" / "PACKAGES.md"
-BEGIN, END = "<!-- Written by examples/packages/packages.py: -->\n", "<!-- to here. -->\n"
+SCRIPT = "examples/packages/packages.py"
 BUILD_SECONDS, RUN_SECONDS = 1500, 900
 SAME = "the same"
 # What a build may write anew: files of build systems. Sources stay as they are.
@@ -241,14 +242,6 @@ def table(packages: list[Package], results: dict[str, dict[str, str]]) -> str:
     return text + "".join(row(package, results[package.name]) for package in known)
 
 
-def write_page(packages: list[Package], results: dict[str, dict[str, str]]) -> None:
-    """Writes the part of the page between its marks."""
-    text = PAGE.read_text(encoding="utf-8")
-    before, rest = text.split(BEGIN)
-    PAGE.write_text(f"{before}{BEGIN}\n{table(packages, results)}\n{END}{rest.split(END, 1)[1]}",
-                    encoding="utf-8")
-
-
 def read_results(out: pathlib.Path) -> dict[str, dict[str, str]]:
     """The results of earlier runs."""
     path = out / "results.json"
@@ -303,7 +296,7 @@ def main() -> int:
     packages = read_packages()
     place = place_of(options)
     if options.write:
-        write_page(packages, read_results(place.out))
+        write_part(PAGE, SCRIPT, table(packages, read_results(place.out)))
         return 0
     names = [name for name in options.only.split(",") if name]
     wanted = [package for package in packages if not names or package.name in names]

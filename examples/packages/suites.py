@@ -29,8 +29,9 @@ HERE = pathlib.Path(__file__).resolve().parent
 sys.path[:0] = [str(HERE), str(HERE.parent)]
 import debian_source  # noqa: E402
 import packages  # noqa: E402
+from page_part import write_part  # noqa: E402
 
-BEGIN, END = "<!-- Written by examples/packages/suites.py: -->\n", "<!-- to here. -->\n"
+SCRIPT = "examples/packages/suites.py"
 SECONDS = 3000
 # What ctest and GoogleTest write of a test.
 KINDS = {
@@ -187,14 +188,6 @@ def keep(out: pathlib.Path, name: str, outcome: dict[str, object]) -> None:
     (out / "suites.json").write_text(json.dumps(results, indent=1), encoding="utf-8")
 
 
-def write_page(suites: list[Suite], results: dict[str, dict[str, object]]) -> None:
-    """Writes the part of the page between its marks."""
-    text = packages.PAGE.read_text(encoding="utf-8")
-    before, rest = text.split(BEGIN)
-    packages.PAGE.write_text(f"{before}{BEGIN}\n{table(suites, results)}\n{END}"
-                             f"{rest.split(END, 1)[1]}", encoding="utf-8")
-
-
 def is_explained(suite: Suite, outcome: dict[str, object]) -> bool:
     """Whether the counts are as suites.toml has it."""
     if outcome["kept"]:
@@ -224,7 +217,7 @@ def main() -> int:
     options = arguments()
     suites, place = read_suites(), packages.place_of(options)
     if options.write:
-        write_page(suites, read_results(place.out))
+        write_part(packages.PAGE, SCRIPT, table(suites, read_results(place.out)))
         return 0
     names = [name for name in options.only.split(",") if name]
     wanted = [it for it in suites if not names or it.name in names]

@@ -14,7 +14,8 @@ TAG = 15 << 56
 LOW = (1 << 56) - 1
 
 
-# Where `mte_run` differs from the page. Each has a test of its own, which is expected to fail.
+# Limits of the page in which `mte_run` says more or less than it could. Each has a test that is
+# expected to fail.
 # Drawn programs may meet it.
 FLAGS_OF_A_SUM = "the flags of a sum with 0, with the least number or with undefined bits"
 SUBP = "a difference of pointers (SUBP) and its flags"
@@ -26,8 +27,8 @@ DIFFERENCES = frozenset({FLAGS_OF_A_SUM, SUBP, COUNTS, CCMP, GMI, TAGS})
 
 
 class Registers:
-    """The undefined bits of the registers (31 is SP) and of the flags. Differences of `mte_run`
-    and the page may be allowed."""
+    """The undefined bits of the registers (31 is SP) and of the flags. Limits of `mte_run` may be
+    allowed."""
 
     def __init__(self, allowed: frozenset[str] = DIFFERENCES) -> None:
         self.allowed = allowed

@@ -282,6 +282,13 @@ def primary(source: str) -> Act:
     )
 
 
+# Each image by each of its builds.
+EVERY_IMAGE = [
+    (source, build) for source in sorted(PRIMARY) for build in BUILDS
+    if build in primary(source).builds
+]
+
+
 def acts_of(source: str) -> list[Act]:
     """The acts of a tenant."""
     return [act for act in ACTS if act.source == source]
