@@ -1,4 +1,4 @@
-"""The part of a page that a script writes, between two marks of which the first names the script."""
+"""The part of a page that a script writes, between two marks; the first names the script."""
 
 import pathlib
 

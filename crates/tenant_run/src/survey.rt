@@ -69,8 +69,8 @@ impl Survey {
     }
 }
 
-/// How an image ends under a seed. Where an access may have been wrong, a second run says whether it
-/// was.
+/// How an image ends under a seed. Where an access may have been wrong, a second run says whether
+/// it was.
 fn ending_under<'x>(
     alloc: Global,
     options: &Options,
