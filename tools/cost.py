@@ -3,7 +3,7 @@
 
     cost.py [--only FUNCTION].. [--keep FOLDER] [--test] [--top N] CRATE
 
-The libraries below the crate have to be in crates/*/out, as `rt ci CRATE` leaves them. The prover
+The libraries below the crate have to be in crates/*/out, as `rt ci` leaves them. The prover
 writes each module of a function (its code, its statement, its proof ..) into a file once it has
 checked it: what it took since the file before is the module's. With a FOLDER that a whole run has
 filled only what was edited since is checked, so that an edited function costs half a minute. Two

@@ -10,7 +10,8 @@ this copies the checkout, changes the file and tries what the test command has:
 
     the border to C and its laws, where the crate is the library
     the cases of the suite, over a build of the program without proof (unproved.py)
-    with --proofs the proof of the crate, by `rt ci CRATE`, where nothing else noticed it
+    with --proofs the proof of the crate, by `rt ci CRATE`, where nothing else noticed it and the
+    toolchain's `rt ci` takes names
 
 With --draw N of the bodies that mte_run shows are drawn, and the whole suite is tried. FOLDER has
 the right programs (mte_host, mte_split, mte_run, libtombolopan_c.a); they are those of
@@ -150,8 +151,12 @@ def by_proof(checkout: pathlib.Path, plant: Plant) -> Optional[str]:
         ["rt", "ci", plant.crate], cwd=checkout, stdout=subprocess.PIPE, stderr=subprocess.STDOUT,
         text=True, check=False,
     )
-    goal = first_line(ran.stdout, "did not prove|error")
-    return None if ran.returncode == 0 else f"proof: {goal}"
+    if ran.returncode == 0:
+        return None
+    if f"{plant.crate} NOT PROVED" not in ran.stdout:
+        said = first_line(ran.stdout, ".")
+        sys.exit(f"plants.py: `rt ci {plant.crate}` gives no verdict: {said}")
+    return f"proof: {first_line(ran.stdout, 'did not prove|error')}"
 
 
 def try_plant(plant: Plant, given: argparse.Namespace) -> tuple[Plant, Optional[str]]:

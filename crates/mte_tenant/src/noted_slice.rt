@@ -19,11 +19,11 @@ use mte_svc::TenantParts;
 use mte_tags::{Paged, Tagged};
 use scudo_heap::condition_of_calls;
 
-/// A slice by a table, of which a watch is passed each access that an instruction completes, but
-/// for those of its last attempts. It is shown an attempt that does not lead to the next
-/// instruction, and each one that has `last` steps of the slice before it or fewer: of these no
-/// access is passed. The accesses of services are not passed. It is what `slice` makes of the
-/// machine, whatever watches it; what it is shown is in no clause.
+/// A slice by a table, of which a watch is passed each access that an instruction completes. It is
+/// shown an attempt only where that leads to no next instruction, or where at most `last` steps of
+/// the slice are left before it; of the latter no access is passed, nor are those of services. It
+/// is what `slice` makes of the machine, whatever watches it; what a watch is shown is in no
+/// clause.
 #[inline(never)]
 pub fn slice_noted<M: Paged, W: Notes>(
     ops: &mut OpCache,
