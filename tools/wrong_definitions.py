@@ -34,7 +34,7 @@ DATA = ROOT / "tools/wrong_definitions.toml"
 LAWS = "heap_laws"
 KIT_CRATES = ("arrayvec", "byteorder", "circular_buffer", "hex", "itoa", "thiserror")
 # The crates that the laws of a state are about, lowest first.
-CRATES = ("common", "a64_bits", "mte_tags", "scudo_header", "scudo_primary", "scudo_cache",
+CRATES = ("common", "a64_bits", "mte_tags", "scudo_header", "scudo_primary",
           "scudo_secondary", "scudo_heap")
 MODULE = re.compile(r"^use Rattle\.(\w+)\.((?:specs|proofs)[\w.]*?)(?:\.\{.*| as .*)?$", re.M)
 GHOST = re.compile(r"^ghost use Rattle\.(\w+)\.([\w.]+)\.\{([^}]*)\};\n", re.M)

@@ -8,7 +8,7 @@ from isa import checked_files, differences, differing_files, write_files
 from tests.support.checkout import copy_files
 from tests.support.places import ROOT
 
-FOLDERS = ("isa/", "tools/", "docs/", "crates/a64_", "crates/run_records/", "crates/traced_run/",
+FOLDERS = ("isa/", "tools/", "docs/", "crates/a64_", "crates/run_records/", "crates/tombolopan/",
            "crates/run_cause/")
 
 

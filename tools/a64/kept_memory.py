@@ -3,7 +3,7 @@
 from a64.compare import applied
 from a64.table import Row, Rows
 
-PATH = "crates/traced_run/proofs/KeptMemory.antt"
+PATH = "crates/tombolopan/proofs/KeptMemory.antt"
 
 HEAD = """\
 -- Written by tools/isa.py from isa/a64.rows. Do not edit.
@@ -14,7 +14,7 @@ use Rattle.a64_instr.specs.declared.instruction.Instr.TheVariants as instr
 use Rattle.mte_tags.specs.Memory.{Memory}
 use Rattle.a64_registers.specs.declared.registers.Regs.{Regs}
 use Rattle.a64_step.specs.Steps.{step_of_instr}
-use Rattle.traced_run.specs.InstructionAccesses.{accessed}
+use Rattle.tombolopan.specs.InstructionAccesses.{accessed}
 
 pub memory_kept : (i : Instr) (r : Regs) (m : Memory) → accessed i r ≡ None
     → (step_of_instr i r m).memory ≡ m

@@ -13,7 +13,7 @@ CRATE = "crates/tombolopan_c/src"
 # It has numbers of registers too, which the tables do not.
 ACTS = f"{CRATE}/act_kinds.rt"
 # All sources that declare what crosses the border.
-FOLDERS = (CRATE, "crates/tenant_snapshot/src", "crates/traced_run/src")
+FOLDERS = (CRATE, "crates/tenant_snapshot/src", "crates/tombolopan/src")
 Read = Callable[[str], str]
 Names = tuple[tuple[str, str], ...]  # of a language, each with the name of C
 

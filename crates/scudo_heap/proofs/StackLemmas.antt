@@ -9,8 +9,8 @@ use Rattle.scudo_header.proofs.ByClassLaws.{value_of-by_class, value_of-with_val
 use Rattle.scudo_primary.specs.Blocks.{carved_count, blocks_from}
 use Rattle.scudo_primary.specs.Pools as primary
 use Rattle.scudo_primary.specs.Pools.{ClassState, PoolState, class_after_carve, with_pages, new_count, empty_pool}
-use Rattle.scudo_cache.specs.Caches.{CacheState, entries_of, with_entries, one_stack, empty_cache, KeepsRest, block_taken, class_after_take, class_after_put}
-use Rattle.scudo_cache.proofs.CacheLaws.{one-stack-taken, one-stack-put}
+use Rattle.scudo_primary.specs.Caches.{CacheState, entries_of, with_entries, one_stack, empty_cache, KeepsRest, block_taken, class_after_take, class_after_put}
+use Rattle.scudo_primary.proofs.CacheLaws.{one-stack-taken, one-stack-put}
 use Rattle.scudo_heap.specs.Stacks.{ClassHeap, StackState, empty_class, empty_stacks, stacks_by, memory_for, class_at, with_class, with_stack, pages_of, stack_of, after_pop, after_push, carved_class, after_carve}
 use Rattle.scudo_heap.specs.Inner.{class_in, capacities_in, stacks_in}
 use Rattle.scudo_heap.specs.declared.stacks.Stacks.TheInside.{Inside}

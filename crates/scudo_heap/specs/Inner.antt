@@ -13,7 +13,7 @@ use Rattle.scudo_header.specs.declared.headers.Header.{Header}
 use Rattle.scudo_primary.specs.Blocks.{IsBlock}
 use Rattle.scudo_primary.specs.Pools as primary
 use Rattle.scudo_primary.specs.Pools.{is_member}
-use Rattle.scudo_cache.specs.Caches.{one_stack, IsAbove, AreStacks}
+use Rattle.scudo_primary.specs.Caches.{one_stack, IsAbove, AreStacks}
 use Rattle.scudo_secondary.specs.Mappings.{SecondaryState, mapping_of}
 use Rattle.scudo_secondary.specs.Mappings as secondary
 use Rattle.scudo_secondary.specs.declared.mappings.Mapping.{Mapping}

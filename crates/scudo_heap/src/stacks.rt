@@ -9,8 +9,7 @@ ghost use Rattle.scudo_heap.specs.Stacks.{after_carve};
 ghost use Rattle.scudo_heap.specs.Stacks.{AreSound};
 
 use common::MAX_PAGES;
-use scudo_cache::Cache;
-use scudo_primary::Primary;
+use scudo_primary::{Cache, Primary};
 use std::alloc::{AllocError, Global};
 use std::marker::Model;
 

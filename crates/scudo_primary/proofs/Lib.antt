@@ -12,3 +12,8 @@ pub mod WidenLemmas
 pub mod BatchLemmas
 pub mod TakingLemmas
 pub mod TakenLemmas
+pub mod EntryLemmas
+pub mod ClassLemmas
+pub mod CacheLemmas
+pub mod StackLemmas
+pub mod CacheLaws

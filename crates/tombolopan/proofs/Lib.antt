@@ -1,1 +1,5 @@
 pub mod Slices
+mod Entering
+mod KeptMemory
+mod Runs
+mod WithoutAccess

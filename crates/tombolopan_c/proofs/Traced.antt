@@ -2,9 +2,9 @@
 use Rattle.std.proofs.Common.{◌≡◌, ◌≤◌, ◌∙◌, length, None, true, false, sym, ap, subst}
 use Rattle.mte_tags.specs.Memory.{Memory}
 use Rattle.a64_registers.specs.declared.registers.Regs.{Regs}
-use Rattle.traced_run.specs.Traces.{Trace, trace_of, Arrays, Holds, IsTraced, IsFull}
-use Rattle.traced_run.specs.declared.request.TraceRequest.{TraceRequest}
-use Rattle.traced_run.specs.declared.run.TraceEnd.{TraceEnd}
+use Rattle.tombolopan.specs.Traces.{Trace, trace_of, Arrays, Holds, IsTraced, IsFull}
+use Rattle.tombolopan.specs.declared.trace_request.TraceRequest.{TraceRequest}
+use Rattle.tombolopan.specs.declared.traced_run.TraceEnd.{TraceEnd}
 use Rattle.tombolopan_c.specs.LentTraces.{end_report, HasTraced}
 use Rattle.tombolopan_c.specs.declared.traces.TraceReport.{TraceReport}
 

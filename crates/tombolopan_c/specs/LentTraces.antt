@@ -3,9 +3,9 @@ use Rattle.std.specs.Prelude.{◌≡◌, ℕ, ◌&&◌, ◌≤◌, Bool, nat_le,
 use Rattle.std.specs.Prelude.{if◌then◌else◌}
 use Rattle.mte_tags.specs.Memory.{Memory}
 use Rattle.a64_registers.specs.declared.registers.Regs.{Regs}
-use Rattle.traced_run.specs.Traces.{trace_of, Arrays, Holds, IsFull}
-use Rattle.traced_run.specs.declared.request.TraceRequest.{TraceRequest}
-use Rattle.traced_run.specs.declared.run.TraceEnd.{TraceEnd}
+use Rattle.tombolopan.specs.Traces.{trace_of, Arrays, Holds, IsFull}
+use Rattle.tombolopan.specs.declared.trace_request.TraceRequest.{TraceRequest}
+use Rattle.tombolopan.specs.declared.traced_run.TraceEnd.{TraceEnd}
 use Rattle.tombolopan_c.specs.Faults.{no_fault}
 use Rattle.tombolopan_c.specs.Stops.{stop_code, stop_number, stop_fault}
 use Rattle.tombolopan_c.specs.declared.codes.TheConstants.{BAD_ARGUMENT, NO_ROOM, STOPPED}

@@ -1,7 +1,7 @@
 //! The export of a run whose instructions and accesses are entered in arrays of the caller.
 
 ghost use Rattle.std.specs.Prelude.{◌≡◌, false, true};
-ghost use Rattle.traced_run.specs.Traces.{arrays, trace_of};
+ghost use Rattle.tombolopan.specs.Traces.{arrays, trace_of};
 ghost use Rattle.tombolopan_c.specs.LentPages.{lent_memory, state_of};
 ghost use Rattle.tombolopan_c.specs.LentRegisters.{regs_of};
 ghost use Rattle.tombolopan_c.specs.LentTraces.{is_request, end_report, no_steps, HasTraced};
@@ -14,7 +14,7 @@ use crate::lent_page::LentPage;
 use crate::lent_regs::LentRegs;
 use crate::stops::StopReport;
 use a64_step::Stop;
-use traced_run::{TraceEnd, TraceRequest, TracedAccess, TracedInstruction, run_traced};
+use tombolopan::{TraceEnd, TraceRequest, TracedAccess, TracedInstruction, run_traced};
 
 /// How a traced run ended.
 #[repr(C)]

@@ -38,7 +38,7 @@ use scudo_heap::{
 use session_parts::{
     accepted_alone, decisions_need_no_steps, lines_may_be_left_out, report_in_parts,
 };
-use traced_run::steps_without_access_keep_memory;
+use tombolopan::steps_without_access_keep_memory;
 
 #[test]
 fn laws_of_steps() {

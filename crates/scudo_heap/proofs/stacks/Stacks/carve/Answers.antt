@@ -1,8 +1,8 @@
 use Rattle.std.proofs.Common.{sym, subst}
 use Rattle.scudo_heap.proofs.StackLemmas.{view-after-carve, no-entries}
-use Rattle.scudo_cache.specs.Caches.{IsAbove, AreStacks}
-use Rattle.scudo_cache.proofs.CacheLaws.{above-with_pages}
-use Rattle.scudo_cache.proofs.StackLemmas.{stacks-with_pages}
+use Rattle.scudo_primary.specs.Caches.{IsAbove, AreStacks}
+use Rattle.scudo_primary.proofs.CacheLaws.{above-with_pages}
+use Rattle.scudo_primary.proofs.StackLemmas.{stacks-with_pages}
 use Rattle.scudo_heap.proofs.stacks.Stacks.carve.Goals as goal
 
 pub invariant_of-self : goal.invariant_of-self

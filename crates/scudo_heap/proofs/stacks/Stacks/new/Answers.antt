@@ -1,8 +1,8 @@
 use Rattle.std.proofs.Common.{ap}
-use Rattle.scudo_cache.specs.Caches.{CacheState}
+use Rattle.scudo_primary.specs.Caches.{CacheState}
 use Rattle.scudo_heap.proofs.StackLemmas.{view-new}
-use Rattle.scudo_cache.proofs.CacheLaws.{above-new}
-use Rattle.scudo_cache.proofs.StackLemmas.{stacks-new}
+use Rattle.scudo_primary.proofs.CacheLaws.{above-new}
+use Rattle.scudo_primary.proofs.StackLemmas.{stacks-new}
 use Rattle.scudo_heap.proofs.stacks.Stacks.new.Goals as goal
 
 pub invariant_of-result : goal.invariant_of-result

@@ -1,5 +1,0 @@
-pub mod EntryLemmas
-pub mod ClassLemmas
-pub mod CacheLemmas
-pub mod StackLemmas
-pub mod CacheLaws

@@ -1,4 +1,0 @@
-mod Entering
-mod KeptMemory
-mod Runs
-mod WithoutAccess

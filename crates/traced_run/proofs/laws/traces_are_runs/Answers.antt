@@ -1,5 +1,0 @@
-use Rattle.traced_run.proofs.Runs.{is_run}
-use Rattle.traced_run.proofs.laws.traces_are_runs.Goals as goal
-
-pub returns : goal.returns
-returns c = λ n q r m e. is_run n q r m e

@@ -1,2 +1,0 @@
-pub mod InstructionAccesses
-pub mod Traces
