@@ -19,7 +19,7 @@ use crate::tenant::{Caches, Live};
 use common::MAX_PAGES;
 use mte_elf::Plan;
 use mte_frames::{FramePool, Quota};
-use mte_space::{RememberedPages, Space, Tenancy, pages_of_a_space, unmap_all};
+use mte_space::{RememberedPages, Space, Tenancy, join_lookups, pages_of_a_space, unmap_all};
 use mte_tags::{TagMode, TagState};
 use mte_tenant::{Admission, charge, fill, slice};
 use mte_translate::{Table, Tlb};
@@ -146,8 +146,7 @@ fn fill_memory(
         pool,
         &mut memory.table,
         &mut memory.quota,
-        tlb,
-        &mut memory.remembered,
+        join_lookups(tlb, &mut memory.remembered),
         &mut memory.state,
         Tenancy {
             asid,
@@ -197,8 +196,7 @@ impl Live {
             pool,
             &mut self.memory.table,
             &mut self.memory.quota,
-            &mut caches.tlb,
-            &mut self.memory.remembered,
+            join_lookups(&mut caches.tlb, &mut self.memory.remembered),
             &mut self.memory.state,
             Tenancy {
                 asid,

@@ -12,6 +12,7 @@ ghost use Rattle.mte_session.specs.Sessions.{call_of, session_of};
 ghost use Rattle.run_request.specs.Replays.{IsReplay, number_in, with_no_steps, machine_after, HasPages};
 ghost use Rattle.run_request.specs.Replays.{IsStarted, IsPlayed};
 
+use crate::session_replay::SessionReplay;
 use common::Obstacle;
 use mte_sched::{Host, ledger_follows};
 use mte_session::{Event, Sink, admission_of, write_refusal};
@@ -29,23 +30,25 @@ pub struct Replayed {
     pub image: u32,
 }
 
-/// Runs what a session does to the tenant with the number, and writes the lines of its refused
-/// events. A host that is new decides which events are refused, and runs no instruction: what a
-/// tenant does cannot change what is refused. `None` where the session never admits the tenant.
+/// Runs what a session does to its tenant, and writes the lines of that tenant's refused events. A
+/// host that is new decides which events are refused, and runs no instruction: what a tenant does
+/// cannot change what is refused. `None` where the session never admits the tenant.
 pub fn replay_tenant<'a, W: Sink, O: Watcher>(
     alloc: Global,
     host: &mut Host,
-    id: u16,
-    events: &[Event],
-    files: &[Vec<u8>],
+    session: &SessionReplay<'a, '_>,
     observer: &mut O,
     out: &mut W,
 ) -> Result<Option<Replayed>, Failure<'a>>
     requires new { (content_of host.old).tenants ≡ [] }
-    ensures { IfOk result (IsReplay id (contents files.now)
-        (session_of (content_of host.old).frames (contents files.now) events.now)) }
+    ensures { IfOk result (IsReplay session.now.replay.now.id (contents session.now.files.now)
+        (session_of (content_of host.old).frames (contents session.now.files.now)
+        session.now.events.now)) }
 {
     ledger_follows();
+    let id = session.replay.id;
+    let events = session.events;
+    let files = session.files;
     let mut replayed = None;
     for (before, event) in events.iter().enumerate() {
         match decide(alloc, host, event, files) {

@@ -98,15 +98,7 @@ impl<'a, 'x> SessionReplay<'a, 'x> {
         let Ok(mut host) = Host::new(alloc, self.replay.frames) else {
             return Err(Failure::Memory);
         };
-        replay_tenant(
-            alloc,
-            &mut host,
-            self.replay.id,
-            self.events,
-            self.files,
-            watcher,
-            out,
-        )
+        replay_tenant(alloc, &mut host, self, watcher, out)
     }
 }
 
