@@ -1,10 +1,11 @@
 //! The tenant that is debugged.
 
-ghost use Rattle.std.specs.Prelude.{◌≡◌, ◌<◌, ◌==◌, ◌⊎◌, [], Some, true, false};
+ghost use Rattle.std.specs.Prelude.{◌≡◌, ◌<◌, ◌==◌, ◌⊎◌, Some, true, false};
 ghost use Rattle.std.specs.Prelude.{IfOk, IfErr, IsErrOf};
 ghost use Rattle.common.specs.Obstacles.{IfRefused};
 ghost use Rattle.mte_svc.specs.Ready.{IsReady};
-ghost use Rattle.mte_tenant.specs.Ledger.{admission_refusal, charge_of, is_bad};
+ghost use Rattle.mte_tenant.specs.Alone.{refusal_alone};
+ghost use Rattle.mte_tenant.specs.Ledger.{is_bad};
 ghost use Rattle.mte_tenant.specs.Machines.{machine_of, start_of, after_slice, after_slice_end};
 ghost use Rattle.mte_tenant.specs.Admissions.{start_in};
 ghost use Rattle.debuggee.specs.Courses.{IsAt};
@@ -17,9 +18,7 @@ use a64_step::{Decoder, Regs};
 use common::Obstacle;
 use mte_flat::Flat;
 use mte_tags::TagMode;
-use mte_tenant::{
-    Admission, AdmitError, TenantParts, admit_alone, attempt, is_bad_reservation, settle, slice,
-};
+use mte_tenant::{Admission, AdmitError, Lone, TenantParts, attempt, settle, slice};
 use run_cause::StoreWatch;
 use run_records::{Book, Moment};
 use std::alloc::{AllocError, Global};
@@ -54,7 +53,6 @@ impl<'a> Debuggee<'a> {
 
     /// A tenant at its first instruction, or why it is refused. Only `OutOfMemory`, where an
     /// allocation failed, can come in place of the refusals from `Image` on.
-    #[tactic(auto, unfolding(mte_tenant::specs::Ledger::admission_refusal))]
     pub fn new(
         alloc: Global,
         admission: &Admission<'a>,
@@ -65,17 +63,16 @@ impl<'a> Debuggee<'a> {
         ensures machine { IfOk result (λ d. machine_in d
             ≡ start_of admission.now.id (start_in admission.now)) }
         ensures refused { IfErr result (λ o. IfRefused o (λ e.
-            admission_refusal (charge_of admission.now.terms.pages) []
-            admission.now.id (start_in admission.now) ≡ Some e)) }
+            refusal_alone admission.now.id (start_in admission.now) ≡ Some e)) }
         ensures memory { IsErrOf result Obstacle.OutOfMemory
             → is_bad admission.now.terms ≡ false }
     {
-        if is_bad_reservation(admission) {
-            return Err(Obstacle::Refused(AdmitError::BadReservation));
-        }
-        let words = OpCache::new(alloc)?;
-        let mut memory = Flat::new(alloc, admission.terms.pages as usize, admission.terms.mode)?;
-        let parts = admit_alone(alloc, admission, &mut memory)?;
+        let Lone {
+            parts,
+            memory,
+            words,
+            ..
+        } = Lone::new(alloc, admission)?;
         let cut = cuts.next(0, parts.history.steps);
         Ok(Debuggee {
             admission: *admission,

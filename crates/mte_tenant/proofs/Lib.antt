@@ -2,3 +2,4 @@ pub mod MachineLemmas
 mod AloneLemmas
 pub mod FirstLemmas
 pub mod Refusals
+pub mod Slices

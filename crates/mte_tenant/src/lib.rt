@@ -4,6 +4,7 @@
 
 mod admission;
 mod alone;
+mod lone;
 mod machine;
 mod noted;
 mod noted_slice;
@@ -14,6 +15,7 @@ pub use admission::{
     is_bad_reservation, live_limit_in_digits,
 };
 pub use alone::{Watch, admit_alone, attempt, slice_watched};
+pub use lone::{Lone, run_alone};
 pub use machine::{fill, halt, settle, slice, slice_with_edges, start_parts};
 pub use mte_svc::{Output, Record, Status, TenantParts};
 pub use noted::{AccessUse, MOST_UNSEEN, NotedAccess, Notes};

@@ -1,21 +1,20 @@
 //! A tenant alone with a snapshot of its machine.
 
-ghost use Rattle.std.specs.Prelude.{◌≡◌, [], None, IfOk, IfErr, OnOk, OnErr, IsErrOf, false};
+ghost use Rattle.std.specs.Prelude.{◌≡◌, None, IfOk, IfErr, OnOk, OnErr, IsErrOf, false};
 ghost use Rattle.common.specs.Obstacles.{IfRefused};
 ghost use Rattle.mte_svc.specs.Ready.{IsReady};
 ghost use Rattle.mte_tenant.specs.Admissions.{start_in};
-ghost use Rattle.mte_tenant.specs.Ledger.{is_bad, admission_refusal, charge_of};
+ghost use Rattle.mte_tenant.specs.Alone.{refusal_alone};
+ghost use Rattle.mte_tenant.specs.Ledger.{is_bad};
 
 use crate::exact_watch::ExactWatch;
 use crate::run_watch::RunWatch;
 use a64_run::{Edges, OpCache};
 use common::Obstacle;
 use heap_bounds::Bounds;
-use mte_flat::{Flat, SnapshotMemory};
+use mte_flat::SnapshotMemory;
 use mte_svc::{Input, TenantParts};
-use mte_tenant::{
-    Admission, AdmitError, admit_alone, is_bad_reservation, slice_watched, slice_with_edges,
-};
+use mte_tenant::{Admission, AdmitError, Lone, slice_watched, slice_with_edges};
 use std::alloc::{AllocError, Global};
 
 /// A tenant's machine, as the definition has it, and a snapshot of it. Its table of kept
@@ -43,7 +42,6 @@ impl SnapshotTenant {
     /// A tenant at its first instruction, which is its snapshot too, or why it is refused. Only
     /// `OutOfMemory`, where an allocation failed, can come in place of the refusals from `Image`
     /// on.
-    #[tactic(auto, unfolding(mte_tenant::specs::Ledger::admission_refusal))]
     pub fn new(
         alloc: Global,
         admission: &Admission<'_>,
@@ -52,20 +50,19 @@ impl SnapshotTenant {
             ≡ start_of admission.now.id (start_in admission.now)) }
         ensures saved { IfOk result (λ t. machine_of t.saved t.memory.saved
             ≡ start_of admission.now.id (start_in admission.now)) }
-        ensures accepted { OnOk result (admission_refusal (charge_of admission.now.terms.pages) []
-            admission.now.id (start_in admission.now) ≡ None) }
+        ensures accepted { OnOk result
+            (refusal_alone admission.now.id (start_in admission.now) ≡ None) }
         ensures refused { IfErr result (λ o. IfRefused o (λ e.
-            admission_refusal (charge_of admission.now.terms.pages) []
-            admission.now.id (start_in admission.now) ≡ Some e)) }
+            refusal_alone admission.now.id (start_in admission.now) ≡ Some e)) }
         ensures memory { IsErrOf result Obstacle.OutOfMemory
             → is_bad admission.now.terms ≡ false }
     {
-        if is_bad_reservation(admission) {
-            return Err(Obstacle::Refused(AdmitError::BadReservation));
-        }
-        let words = OpCache::new(alloc)?;
-        let mut flat = Flat::new(alloc, admission.terms.pages as usize, admission.terms.mode)?;
-        let parts = admit_alone(alloc, admission, &mut flat)?;
+        let Lone {
+            parts,
+            memory: flat,
+            words,
+            ..
+        } = Lone::new(alloc, admission)?;
         let saved = parts.copy(alloc)?;
         let memory = SnapshotMemory::new(alloc, &flat)?;
         Ok(SnapshotTenant {

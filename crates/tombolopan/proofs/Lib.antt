@@ -1,4 +1,3 @@
-pub mod Slices
 mod Entering
 mod KeptMemory
 mod Runs

@@ -23,8 +23,8 @@ use Rattle.a64_step.specs.MemoryTagging.{tag_target, granule_count}
 use Rattle.a64_step.specs.declared.outcome.Outcome.{Outcome}
 use Rattle.a64_step.specs.Results.{Stepped}
 use Rattle.a64_step.specs.Steps.{is_next, next_instr}
-use Rattle.tombolopan.specs.declared.access_kinds.TheConstants.{ACCESS_READ, ACCESS_WRITE}
-use Rattle.tombolopan.specs.declared.access_kinds.TheConstants.{ACCESS_READ_TAG, ACCESS_WRITE_TAG}
+use Rattle.tombolopan.specs.declared.kinds.TheConstants.{ACCESS_READ, ACCESS_WRITE}
+use Rattle.tombolopan.specs.declared.kinds.TheConstants.{ACCESS_READ_TAG, ACCESS_WRITE_TAG}
 use Rattle.tombolopan.specs.declared.instruction_access.InstructionAccess.{InstructionAccess}
 use Rattle.tombolopan.specs.declared.trace_arrays.TracedAccess.{TracedAccess}
 use Rattle.tombolopan.specs.declared.trace_request.TraceRequest.{TraceRequest}

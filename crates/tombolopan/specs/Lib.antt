@@ -1,6 +1,5 @@
 pub mod HeapAnswers
 pub mod HeapWorlds
 pub mod Reports
-pub mod Alone
 pub mod InstructionAccesses
 pub mod Traces

@@ -6,8 +6,8 @@ ghost use Rattle.tombolopan.specs.InstructionAccesses;
 ghost use Rattle.tombolopan.specs.InstructionAccesses.{loaded_of, number_there, size_code};
 ghost use Rattle.tombolopan.specs.InstructionAccesses.{tag_there, value_of};
 
-use crate::access_kinds::{ACCESS_READ, ACCESS_READ_TAG};
 use crate::instruction_access::{InstructionAccess, both, low_bytes};
+use crate::kinds::{ACCESS_READ, ACCESS_READ_TAG};
 use a64_registers::Regs;
 use a64_step::memory_access::read_unchecked;
 use mte_tags::Tagged;

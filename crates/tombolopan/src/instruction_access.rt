@@ -11,7 +11,7 @@ ghost use Rattle.tombolopan.specs.InstructionAccesses.{literal_access};
 ghost use Rattle.tombolopan.specs.InstructionAccesses.{pair_access, single_access, tag_access};
 ghost use Rattle.tombolopan.specs.InstructionAccesses.{tagged_pair_access};
 
-use crate::access_kinds::{ACCESS_READ, ACCESS_READ_TAG, ACCESS_WRITE, ACCESS_WRITE_TAG};
+use crate::kinds::{ACCESS_READ, ACCESS_READ_TAG, ACCESS_WRITE, ACCESS_WRITE_TAG};
 use a64_instr::Instr;
 use a64_instr::fields::RegisterOffset;
 use a64_registers::Regs;

@@ -16,119 +16,52 @@
 //! docs/RUST.md has a first use of each.
 #![tactic(auto)]
 
-mod access_kinds;
 mod accessed_value;
-mod alone;
 mod heap_access;
 mod heap_answer;
 mod heap_bench;
 mod heap_op;
 mod instruction_access;
+pub mod kinds;
 mod session_report;
 mod trace_arrays;
 mod trace_laws;
 mod trace_request;
 mod traced_run;
 
-pub use a64_decode::Decoder;
-pub use a64_decode::decode;
+pub use a64_decode::{Decoder, decode};
 pub use a64_instr::Instr;
-pub use a64_run::OpCache;
-pub use a64_run::run_cached;
-pub use a64_run::run_on_cache;
-pub use a64_step::Outcome;
-pub use a64_step::Regs;
-pub use a64_step::Stop;
-pub use a64_step::run;
-pub use a64_step::step;
-pub use a64_text::Text;
-pub use a64_text::TextAt;
-pub use access_kinds::ACCESS_READ;
-pub use access_kinds::ACCESS_READ_TAG;
-pub use access_kinds::ACCESS_WRITE;
-pub use access_kinds::ACCESS_WRITE_TAG;
-pub use access_kinds::kinds_in_digits;
-pub use alone::Lone;
-pub use alone::run_alone;
+pub use a64_run::{OpCache, run_cached, run_on_cache};
+pub use a64_step::{Outcome, Regs, Stop, run, step};
+pub use a64_text::{Text, TextAt};
 pub use common::Obstacle;
 pub use heap_answer::answer;
 pub use heap_bench::HeapBench;
-pub use heap_bounds::Bounds;
-pub use heap_bounds::Span;
-pub use heap_bounds::Trespass;
-pub use heap_op::HeapAnswer;
-pub use heap_op::HeapOp;
-pub use instruction_access::InstructionAccess;
-pub use instruction_access::access_of;
-pub use mte_elf::ElfError;
-pub use mte_elf::Plan;
-pub use mte_elf::Segment;
-pub use mte_elf::load;
-pub use mte_elf::plan;
+pub use heap_bounds::{Bounds, Span, Trespass};
+pub use heap_op::{HeapAnswer, HeapOp};
+pub use instruction_access::{InstructionAccess, access_of};
+pub use mte_elf::{ElfError, Plan, Segment, load, plan};
 pub use mte_flat::Flat;
-pub use mte_sched::Host;
-pub use mte_sched::Tenant;
-pub use mte_session::Event;
-pub use mte_session::ScriptError;
-pub use mte_session::ScriptFault;
-pub use mte_session::Session;
-pub use mte_session::SessionError;
-pub use mte_session::Sink;
-pub use mte_session::Source;
-pub use mte_session::StreamError;
-pub use mte_session::WriteFault;
-pub use mte_session::parse_script;
-pub use mte_session::read_whole;
-pub use mte_session::run_both;
-pub use mte_session::run_session;
-pub use mte_session::write_report;
-pub use mte_svc::AnsweredCall;
-pub use mte_svc::HeapCalls;
-pub use mte_svc::Input;
-pub use mte_svc::Output;
-pub use mte_tags::Attrs;
-pub use mte_tags::FaultKind;
-pub use mte_tags::MemFault;
-pub use mte_tags::NoPagesLeft;
-pub use mte_tags::PageStore;
-pub use mte_tags::Paged;
-pub use mte_tags::Rgsr;
-pub use mte_tags::TagMode;
-pub use mte_tags::TagState;
-pub use mte_tags::Tagged;
-pub use mte_tags::choose_non_excluded;
-pub use mte_tags::tag_of;
-pub use mte_tags::with_tag;
-pub use mte_tenant::Admission;
-pub use mte_tenant::AdmitError;
-pub use mte_tenant::NotLive;
-pub use mte_tenant::Record;
-pub use mte_tenant::Refusal;
-pub use mte_tenant::Status;
-pub use mte_tenant::TenantParts;
-pub use mte_tenant::Terms;
-pub use mte_tenant::Watch;
-pub use mte_tenant::admit_alone;
-pub use mte_tenant::settle;
-pub use mte_tenant::slice;
-pub use mte_tenant::slice_watched;
-pub use scudo_heap::Heap;
-pub use scudo_heap::HeapAbort;
-pub use scudo_heap::HeapCall;
-pub use scudo_heap::condition_of_calls;
+pub use mte_sched::{Host, Tenant};
+pub use mte_session::{
+    Event, ScriptError, ScriptFault, Session, SessionError, Sink, Source, StreamError, WriteFault,
+    parse_script, read_whole, run_both, run_session, write_report,
+};
+pub use mte_svc::{AnsweredCall, HeapCalls, Input, Output};
+pub use mte_tags::{
+    Attrs, FaultKind, MemFault, NoPagesLeft, PageStore, Paged, Rgsr, TagMode, TagState, Tagged,
+    choose_non_excluded, tag_of, with_tag,
+};
+pub use mte_tenant::{
+    Admission, AdmitError, Lone, NotLive, Record, Refusal, Status, TenantParts, Terms, Watch,
+    admit_alone, run_alone, settle, slice, slice_watched,
+};
+pub use scudo_heap::{Heap, HeapAbort, HeapCall, condition_of_calls};
 pub use session_report::report;
-pub use tenant_snapshot::CountedEdges;
-pub use tenant_snapshot::EdgeMap;
-pub use tenant_snapshot::Edges;
-pub use tenant_snapshot::ExactFinding;
-pub use tenant_snapshot::ExactWatch;
-pub use tenant_snapshot::NoEdges;
-pub use tenant_snapshot::RunWatch;
-pub use tenant_snapshot::SnapshotTenant;
-pub use trace_arrays::TracedAccess;
-pub use trace_arrays::TracedInstruction;
-pub use trace_laws::steps_without_access_keep_memory;
-pub use trace_laws::traces_are_runs;
+pub use tenant_snapshot::{
+    CountedEdges, EdgeMap, Edges, ExactFinding, ExactWatch, NoEdges, RunWatch, SnapshotTenant,
+};
+pub use trace_arrays::{TracedAccess, TracedInstruction};
+pub use trace_laws::{steps_without_access_keep_memory, traces_are_runs};
 pub use trace_request::TraceRequest;
-pub use traced_run::TraceEnd;
-pub use traced_run::run_traced;
+pub use traced_run::{TraceEnd, run_traced};

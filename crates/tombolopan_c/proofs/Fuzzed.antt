@@ -5,7 +5,7 @@ use Rattle.mte_tenant.specs.Ledger.{admission_refusal, charge_of, facts_of, is_b
 use Rattle.mte_tenant.proofs.Refusals.{each_passed}
 use Rattle.tenant_snapshot.specs.Maps.{is_map_length}
 use Rattle.tenant_snapshot.specs.declared.tenant.SnapshotTenant.{SnapshotTenant}
-use Rattle.tombolopan.specs.Alone.{refusal_alone}
+use Rattle.mte_tenant.specs.Alone.{refusal_alone}
 use Rattle.tombolopan_c.specs.declared.codes.TheConstants.{OUT_OF_MEMORY, NO_REFUSAL}
 use Rattle.tombolopan_c.specs.LoneTenants.{lent_start, without_tenant}
 use Rattle.tombolopan_c.specs.LentFuzz.{HasSaved, HasRun, HasAnswered, saved_of}

@@ -13,7 +13,7 @@ use Rattle.tenant_snapshot.specs.Maps.{is_map_length}
 use Rattle.tenant_snapshot.specs.Snapshots.{with_input}
 use Rattle.tenant_snapshot.specs.declared.exact_watch.ExactFinding.{ExactFinding}
 use Rattle.tenant_snapshot.specs.declared.tenant.SnapshotTenant.{SnapshotTenant}
-use Rattle.tombolopan.specs.Alone.{after_slices, refusal_alone}
+use Rattle.mte_tenant.specs.Alone.{after_slices, refusal_alone}
 use Rattle.tombolopan_c.specs.declared.codes.TheConstants as code
 use Rattle.tombolopan_c.specs.LoneTenants.{lent_start, end_without, told_end, without_tenant}
 use Rattle.tombolopan_c.specs.declared.alone_end.AloneEnd.{AloneEnd}

@@ -9,7 +9,7 @@ use Rattle.a64_registers.specs.declared.registers.Regs.{Regs}
 use Rattle.mte_tenant.specs.declared.admission.AdmitError.{AdmitError}
 use Rattle.mte_tenant.specs.Ledger.{is_bad}
 use Rattle.mte_tenant.specs.Machines.{Machine, start_of}
-use Rattle.tombolopan.specs.Alone.{refusal_alone}
+use Rattle.mte_tenant.specs.Alone.{refusal_alone}
 use Rattle.tombolopan_c.specs.Machines.{machine_before, act_done}
 use Rattle.tombolopan_c.specs.Pages.{IsPageMap}
 use Rattle.tombolopan_c.specs.declared.act.MachineAct.{MachineAct}

@@ -16,7 +16,7 @@ use Rattle.mte_tenant.specs.declared.admission.AdmitError.{AdmitError}
 use Rattle.mte_tenant.specs.declared.admission.AdmitError.TheVariants as refusal
 use Rattle.mte_tenant.specs.Ledger.{is_bad}
 use Rattle.mte_tenant.specs.Machines.{Start}
-use Rattle.tombolopan.specs.Alone.{refusal_alone, record_after}
+use Rattle.mte_tenant.specs.Alone.{refusal_alone, record_after}
 use Rattle.tombolopan_c.specs.Faults.{no_fault, report_of}
 use Rattle.tombolopan_c.specs.HeapCalls.{abort_code}
 use Rattle.tombolopan_c.specs.LentBuffers.{filled}

@@ -2,7 +2,7 @@
 
 ghost use Rattle.std.specs.Prelude.{◌≡◌, ◌≢◌, length, None, Some, IfOk};
 ghost use Rattle.mte_tenant.specs.Machines.{start_of};
-ghost use Rattle.tombolopan.specs.Alone.{after_slices, refusal_alone};
+ghost use Rattle.mte_tenant.specs.Alone.{after_slices, refusal_alone};
 ghost use Rattle.tenant_snapshot.specs.Maps.{is_map_length};
 ghost use Rattle.tombolopan_c.specs.declared.codes.TheConstants.{OK};
 ghost use Rattle.tombolopan_c.specs.LoneTenants.{lent_start};

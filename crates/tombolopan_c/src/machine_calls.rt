@@ -2,7 +2,7 @@
 
 ghost use Rattle.std.specs.Prelude.{◌≡◌, ◌≢◌, ◌≤◌, ◌<◌, ◌⊎◌, length, None, false};
 ghost use Rattle.mte_tenant.specs.Ledger.{is_bad};
-ghost use Rattle.tombolopan.specs.Alone.{refusal_alone};
+ghost use Rattle.mte_tenant.specs.Alone.{refusal_alone};
 ghost use Rattle.tombolopan_c.specs.declared.codes.TheConstants.{OK, NO_ROOM, REFUSED};
 ghost use Rattle.tombolopan_c.specs.declared.codes.TheConstants.{OUT_OF_MEMORY};
 ghost use Rattle.tombolopan_c.specs.LentRegisters.{regs_of};
@@ -17,9 +17,10 @@ use crate::kept_calls::KeptCall;
 use crate::lent_bytes::copy_to;
 use crate::lent_regs::LentRegs;
 use crate::lent_terms::LentTerms;
-use crate::machine::ActedMachine;
+use crate::machine::make_acts;
 use crate::pages::{PageEntry, page_map};
 use common::Obstacle;
+use mte_tenant::Lone;
 use std::alloc::Global;
 
 /// How a tenant's machine ended.
@@ -54,9 +55,9 @@ pub extern "C" fn tb_machine_acts(
         (record { output = output.old; calls = calls.old })
         (record { output = output.new; calls = calls.new }) end.new.alone }
 {
-    end.alone = match ActedMachine::new(alloc, &terms.admission()) {
+    end.alone = match Lone::new(alloc, &terms.admission()) {
         Ok(mut machine) => {
-            machine.make_all(acts);
+            make_acts(&mut machine, acts);
             end.regs.set(&machine.parts.regs);
             told(&machine.parts.history, output, calls)
         }
@@ -94,12 +95,12 @@ pub extern "C" fn tb_machine_pages(
     ensures memory { result ≡ OUT_OF_MEMORY → is_bad (lent_start terms.now).terms ≡ false }
 {
     *mapped = 0;
-    let mut machine = match ActedMachine::new(alloc, &terms.admission()) {
+    let mut machine = match Lone::new(alloc, &terms.admission()) {
         Ok(machine) => machine,
         Err(Obstacle::Refused(_)) => return REFUSED,
         Err(Obstacle::OutOfMemory) => return OUT_OF_MEMORY,
     };
-    machine.make_all(acts);
+    make_acts(&mut machine, acts);
     let Ok(entries) = page_map(alloc, &machine.memory) else {
         return OUT_OF_MEMORY;
     };

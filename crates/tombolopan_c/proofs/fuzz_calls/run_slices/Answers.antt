@@ -1,5 +1,5 @@
 use Rattle.std.proofs.Common.{◌∙◌, sym}
-use Rattle.tombolopan.proofs.Slices.{slices_next, slices_done}
+use Rattle.mte_tenant.proofs.Slices.{slices_next, slices_done}
 use Rattle.tombolopan_c.proofs.fuzz_calls.run_slices.Goals as goal
 
 pub loop-steps-preserved : goal.loop-steps-preserved

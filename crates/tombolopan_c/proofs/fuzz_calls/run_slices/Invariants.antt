@@ -1,5 +1,5 @@
 use Rattle.std.proofs.Common.{◌≡◌, drop}
-use Rattle.tombolopan.specs.Alone.{after_slices}
+use Rattle.mte_tenant.specs.Alone.{after_slices}
 use Rattle.tombolopan_c.specs.LentFuzz.{now_of, saved_of}
 use Rattle.tombolopan_c.proofs.fuzz_calls.run_slices.Given as goal
 

@@ -5,14 +5,15 @@ ghost use Rattle.common.specs.Obstacles.{IfRefused};
 ghost use Rattle.mte_svc.specs.Ready.{IsReady};
 ghost use Rattle.mte_tenant.specs.Admissions.{start_in};
 ghost use Rattle.mte_tenant.specs.Ledger.{is_bad};
-ghost use Rattle.tombolopan.specs.Alone.{refusal_alone, record_after};
+ghost use Rattle.mte_tenant.specs.Alone.{refusal_alone, record_after};
 
+use crate::admission::{Admission, AdmitError, is_bad_reservation};
+use crate::alone::admit_alone;
+use crate::machine::slice;
 use a64_run::OpCache;
 use common::Obstacle;
 use mte_flat::Flat;
-use mte_tenant::{
-    Admission, AdmitError, Record, TenantParts, admit_alone, is_bad_reservation, slice,
-};
+use mte_svc::{Record, TenantParts};
 use std::alloc::Global;
 
 /// A tenant's machine, as the definition has it: it is made by `admit_alone` and changed by slices
@@ -23,17 +24,18 @@ pub struct Lone {
     pub parts: TenantParts,
     /// Its memory.
     pub memory: Flat,
-    words: OpCache,
+    /// Its decoded instructions.
+    pub words: OpCache,
     ghost ready: { IsReady parts memory },
 }
 
 impl Lone {
     ghost use Rattle.mte_tenant.specs.Machines.{machine_of, start_of, after_slice};
-    ghost use Rattle.tombolopan.specs.Alone.{after_slices};
+    ghost use Rattle.mte_tenant.specs.Alone.{after_slices};
 
     /// A tenant at its first instruction, or why it is refused. Only `OutOfMemory`, where an
     /// allocation failed, can come in place of the refusals from `Image` on.
-    #[tactic(auto, unfolding(mte_tenant::specs::Ledger::admission_refusal))]
+    #[tactic(auto, unfolding(crate::specs::Ledger::admission_refusal))]
     pub fn new(alloc: Global, admission: &Admission<'_>) -> Result<Lone, Obstacle<AdmitError>>
         ensures machine { IfOk result (λ l. machine_of l.parts l.memory
             ≡ start_of admission.now.id (start_in admission.now)) }

@@ -1,6 +1,6 @@
 use Rattle.std.proofs.Common.{◌∙◌, sym}
-use Rattle.tombolopan.proofs.Slices.{slices_next, slices_done}
-use Rattle.tombolopan.proofs.alone.Lone.slices.Goals as goal
+use Rattle.mte_tenant.proofs.Slices.{slices_next, slices_done}
+use Rattle.mte_tenant.proofs.lone.Lone.slices.Goals as goal
 
 pub loop-steps-preserved : goal.loop-steps-preserved
 loop-steps-preserved c =

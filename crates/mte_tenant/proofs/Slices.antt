@@ -2,7 +2,7 @@
 use Rattle.std.proofs.Common.{◌≡◌, ℕ, ◌<◌, ◌≤◌, ◌+◌, ◌∙◌, List, [], length, get_or, drop, sym, ap, refl}
 use Rattle.std.proofs.lemmas.List.{at_drop_more, drop_all}
 use Rattle.mte_tenant.specs.Machines.{Machine, after_slice}
-use Rattle.tombolopan.specs.Alone.{after_slices}
+use Rattle.mte_tenant.specs.Alone.{after_slices}
 
 -- the slice i, and then those behind it
 pub slices_next :

@@ -1,7 +1,7 @@
 use Rattle.std.proofs.Common.{◌≡◌, drop}
 use Rattle.mte_tenant.specs.Machines.{machine_of}
-use Rattle.tombolopan.specs.Alone.{after_slices}
-use Rattle.tombolopan.proofs.alone.Lone.slices.Given as goal
+use Rattle.mte_tenant.specs.Alone.{after_slices}
+use Rattle.mte_tenant.proofs.lone.Lone.slices.Given as goal
 
 -- the slices that are left, from here, come to what all do from the start
 abbrev pub invariant-loop-steps : goal.invariant-loop-steps
