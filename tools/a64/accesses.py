@@ -36,7 +36,7 @@ ACCESSES_TAIL = """\
 
 WRITTEN_HEAD = """\
 // Written by tools/isa.py from isa/a64.rows. Do not edit.
-//! The register that an instruction writes, beside those that it loads.
+//! The register that an instruction writes, besides those that it loads.
 
 use a64_instr::Instr;
 

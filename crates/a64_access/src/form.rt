@@ -5,7 +5,7 @@ use a64_registers::Regs;
 use a64_registers::operands::{byte_count, extend};
 use mte_tags::tag_of;
 
-/// What an instruction does to memory.
+/// The access of an instruction to memory.
 #[derive(Clone, Copy)]
 pub enum AccessKind {
     /// It loads registers.
@@ -51,7 +51,7 @@ pub enum LoadExtension {
 /// How an instruction accesses memory.
 #[derive(Clone, Copy)]
 pub struct AccessForm {
-    /// What it does.
+    /// The access itself.
     pub kind: AccessKind,
     /// How its address is formed.
     pub mode: AddressingMode,
@@ -95,7 +95,7 @@ impl AccessForm {
         start.wrapping_add(i64::from(offset).cast_unsigned())
     }
 
-    /// What a register adds to the base: it counts accesses where `s` is 1.
+    /// The number that a register adds to the base: it counts accesses where `s` is 1.
     fn index(&self, regs: &Regs, index: RegisterOffset) -> u64 {
         let RegisterOffset { rm, option, s } = index;
         let unit = if s == 1 { u64::from(self.bytes) } else { 1 };

@@ -153,7 +153,7 @@ pub struct ProductOperands {
     pub rd: u8,
 }
 
-/// What a conditional compare compares.
+/// The operands of a conditional compare.
 #[derive(Clone, Copy)]
 pub struct ComparedOperands {
     /// 0 has 32 bits, 1 has 64.

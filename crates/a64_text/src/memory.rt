@@ -9,7 +9,7 @@ use a64_instr::fields::{PairTransfer, RegisterOffset, Transfer};
 /// Bytes of a granule.
 const GRANULE: u8 = 16;
 
-/// What follows `ldr`, `ldur`, `str` or `stur`: how many bytes and how they are extended.
+/// The suffix of `ldr`, `ldur`, `str` or `stur`: how many bytes and how they are extended.
 fn suffix(size: u8, opc: u8) -> &'static str {
     match (size, opc) {
         (0, 0 | 1) => "b",

@@ -25,7 +25,7 @@ impl fmt::Display for Register {
     }
 }
 
-/// What is done to a register before it is used: a shift or an extension, and its amount where it
+/// The change of a register before it is used: a shift or an extension, and its amount where it
 /// is written.
 #[derive(Clone, Copy)]
 pub struct Modifier {

@@ -1,4 +1,4 @@
-//! The text of an instruction word in a buffer of the caller, with a zero byte behind it.
+//! The text of an instruction word in a buffer of the caller, with a zero byte after it.
 
 ghost use Rattle.std.specs.Prelude.{◌≡◌, ◌<◌, ◌≤◌, ◌+◌, ◌++◌, ◌∷◌, [], ◌⊎◌, length, drop, nat_le};
 ghost use Rattle.std.specs.Prelude.{IsTrue, IsFalse, OnErr, OnOk, IfErr, IfOk, None, Some, Err};

@@ -79,7 +79,7 @@ fn write_text(
     )
 }
 
-/// What was run: the image's name without its folder, or a tenant of a script.
+/// The name of the run: the image's name without its folder, or a tenant of a script.
 #[derive(Clone, Copy)]
 struct MapTitle<'a>(&'a Options);
 
@@ -96,7 +96,7 @@ impl<'a> fmt::Display for MapTitle<'a> {
     }
 }
 
-/// What follows the last slash of a file's name.
+/// The text after the last slash of a file's name.
 fn without_folder(name: &str) -> &str {
     match name.rsplit_once('/') {
         Some((_, last)) => last,

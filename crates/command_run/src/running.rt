@@ -1,4 +1,4 @@
-//! What the command line requests, from its first instruction to the exit status.
+//! The run of a command line, from its first instruction to the exit status.
 
 use crate::core_dump::mode_in;
 use crate::telling::tell_end;

@@ -1,4 +1,4 @@
-//! What is said of a tenant at its end.
+//! Reports and files of a tenant at its end.
 
 use crate::core_dump::dump_core;
 use crate::lost::lost_chunks;
@@ -257,7 +257,7 @@ fn reserved_pages(alloc: Global, options: &Options, memory: &mut Flat) -> Result
     Ok(memory.pages_left().saturating_add(mapped) as u64)
 }
 
-/// What a document is for.
+/// The use of a document.
 #[derive(Clone, Copy)]
 enum DocumentForm {
     /// A program that reads JSON.

@@ -1,9 +1,9 @@
--- What is said of an obstacle.
+-- Facts about an obstacle.
 use Rattle.std.specs.Prelude.{ℕ, List, Option, Some, codes, ⊤}
 use Rattle.common.specs.declared.obstacle.Obstacle.{Obstacle}
 use Rattle.common.specs.declared.obstacle.Obstacle.TheVariants.{OutOfMemory, Refused}
 
--- If it is a refusal, P holds of the refusal. Memory may run out in place of any answer.
+-- If it is a refusal, P holds of the refusal. Memory may run out instead of any answer.
 abbrev pub IfRefused : {R : Type 0} → Obstacle R → (R → Type 0) → Type 0
 IfRefused OutOfMemory P = ⊤
 IfRefused (Refused r) P = P r

@@ -1,4 +1,4 @@
-//! What a program says of how it was built. The lines behind the version are of a fixed size:
+//! The description of a program's build. The lines after the version are of a fixed size:
 //! tools/mark.py writes a build's own over them once the program is there, since no source can
 //! have its commit in it.
 

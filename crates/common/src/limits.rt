@@ -14,7 +14,7 @@ pub const MAX_FRAMES: usize = 65536;
 /// The most pages that a tenant reserves, and that a heap or its parts are made for.
 pub const MAX_PAGES: u64 = 4096;
 
-/// The most bytes of output that a tenant has room for.
+/// The most bytes of output that a tenant has capacity for.
 pub const MAX_OUTPUT: u64 = 65536;
 
 /// The most instructions that a slice attempts.

@@ -1,4 +1,4 @@
-//! A copy of a list that keeps its room.
+//! A copy of a list that keeps its capacity.
 
 ghost use Rattle.std.specs.Prelude.{◌≡◌, IfOk, vec_len, vec_capacity};
 

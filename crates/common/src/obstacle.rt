@@ -1,4 +1,4 @@
-//! What keeps a call from its result: memory that ran out, or a refusal.
+//! Why a call has no result: memory that ran out, or a refusal.
 
 ghost use Rattle.std.specs.Prelude.{◌≡◌};
 ghost use Rattle.common.specs.Obstacles.{obstacle_text};
@@ -8,13 +8,13 @@ use std::alloc::{AllocError, AllocFailed};
 use std::error::Error;
 use std::fmt;
 
-/// What keeps a call from its result. A refusal is an answer of the call's own tests, and never
+/// Why a call has no result. A refusal is an answer of the call's own tests, and never
 /// says that memory ran out.
 #[derive(Clone, Copy, Debug, PartialEq, Eq, Drop)]
 pub enum Obstacle<R> {
     /// An allocation failed.
     OutOfMemory,
-    /// What was requested is refused.
+    /// The request is refused.
     Refused(R),
 }
 

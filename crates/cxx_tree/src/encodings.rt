@@ -12,7 +12,7 @@ impl<'a> Parser<'a> {
         }
     }
 
-    /// Reads what is behind the name: nothing where it is no function.
+    /// Reads what is after the name: nothing where it is no function.
     pub(crate) fn encoding_tail(&mut self) -> Option<()> {
         if self.reader.ends() {
             return Some(());
@@ -110,7 +110,7 @@ impl<'a> Parser<'a> {
         }
     }
 
-    /// Reads what is in a function, behind the function (`<local-name>`).
+    /// Reads what is in a function, after the function (`<local-name>`).
     pub(crate) fn local_tail(&mut self, is_function: bool) -> Option<()> {
         self.reader.expect("E")?;
         if self.reader.eat("s") {

@@ -88,7 +88,7 @@ impl<'a> Parser<'a> {
         self.schedule(&[Task::Type, Task::LiteralEnd])
     }
 
-    /// Reads the digits of a value, behind its type.
+    /// Reads the digits of a value, after its type.
     pub(crate) fn literal_end(&mut self) -> Option<()> {
         let digits = self.reader.take_of("n0123456789abcdef")?;
         self.reader.expect("E")?;

@@ -17,7 +17,7 @@ impl<'a> Parser<'a> {
         self.schedule(&[item, Task::List(first, kind)])
     }
 
-    /// Whether a list ends here. The `E` behind parameters is of what they are in.
+    /// Whether a list ends here. The `E` after parameters is of what they are in.
     fn list_ends(&mut self, kind: ListKind) -> bool {
         if kind != ListKind::Parameters {
             return self.reader.eat("E");

@@ -8,7 +8,7 @@ use crate::parser::{ListKind, Parser, Task};
 const MOST_TAGS: u32 = 17;
 
 impl<'a> Parser<'a> {
-    /// Reads a nested name behind its `N`.
+    /// Reads a nested name after its `N`.
     pub(crate) fn nested_name(&mut self, is_function: bool) -> Option<()> {
         let letters = self.reader.take_of("rVKRO")?;
         let first = self.values.len();
@@ -131,7 +131,7 @@ impl<'a> Parser<'a> {
         self.schedule(&[parameters, Task::LambdaEnd])
     }
 
-    /// Reads what is behind the parameters of a lambda.
+    /// Reads what is after the parameters of a lambda.
     pub(crate) fn lambda_end(&mut self) -> Option<()> {
         self.in_lambda = false;
         self.reader.expect("E")?;

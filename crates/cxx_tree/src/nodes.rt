@@ -1,4 +1,4 @@
-//! What a name says, as a tree.
+//! The tree of a name.
 
 /// The number of a node.
 pub type Id = usize;
@@ -106,7 +106,7 @@ impl<'n, 'a> Nodes<'n, 'a> {
         }
     }
 
-    /// What is behind the scopes of a name.
+    /// The part of a name after its scopes.
     pub fn last_part(&self, name: Id) -> Id {
         let mut part = name;
         for _ in self.list {

@@ -13,7 +13,7 @@ const DEPTH: usize = 192;
 /// The most steps.
 const STEPS: usize = 8_192;
 
-/// What a list is of.
+/// The use of a list.
 #[derive(Clone, Copy, PartialEq, Eq)]
 pub enum ListKind {
     /// Arguments of a template, up to `E`.
@@ -24,7 +24,7 @@ pub enum ListKind {
     Values,
 }
 
-/// What is to be read, or done with what was read.
+/// A part to be read, or work on parts that were read.
 #[derive(Clone, Copy)]
 pub enum Task<'a> {
     Nothing,
@@ -89,11 +89,11 @@ pub struct Parser<'a> {
     pub reader: NameReader<'a>,
     nodes: ArrayVec<Node<'a>, NODES>,
     tasks: ArrayVec<Task<'a>, DEPTH>,
-    /// What was read and has no place yet.
+    /// The nodes that were read and have no place yet.
     pub values: ArrayVec<Id, DEPTH>,
-    /// What `S_` stands for, and so on.
+    /// The nodes of `S_` and so on.
     pub substitutions: ArrayVec<Id, DEPTH>,
-    /// What `T_` stands for, and so on, as a list.
+    /// The nodes of `T_` and so on, as a list.
     pub arguments: Id,
     /// Whether parameters of a lambda are being read.
     pub in_lambda: bool,
@@ -138,7 +138,7 @@ impl<'a> Parser<'a> {
         None
     }
 
-    /// What is to be done next, in this order.
+    /// The work that is left, in this order.
     pub fn schedule(&mut self, tasks: &[Task<'a>]) -> Option<()> {
         for task in tasks.iter().rev() {
             self.push(*task)?;

@@ -27,12 +27,12 @@ impl<'a> NameReader<'a> {
         }
     }
 
-    /// The next letter, and 0 behind the last.
+    /// The next letter, and 0 after the last.
     pub fn peek(&self) -> u8 {
         self.peek_at(0)
     }
 
-    /// The letter that lies some letters behind the next, and 0 behind the last.
+    /// The letter that lies some letters after the next, and 0 after the last.
     pub fn peek_at(&self, letters: usize) -> u8 {
         match self.bytes.get(self.at.saturating_add(letters)) {
             Some(letter) => *letter,
@@ -82,7 +82,7 @@ impl<'a> NameReader<'a> {
         digits.parse().ok()
     }
 
-    /// Takes a number that may be left out, and the `_` behind it: 0 where it is left out, one
+    /// Takes a number that may be left out, and the `_` after it: 0 where it is left out, one
     /// more than the number where it is not.
     pub fn counted(&mut self) -> Option<usize> {
         if self.eat("_") {
@@ -93,7 +93,7 @@ impl<'a> NameReader<'a> {
         number.checked_add(1)
     }
 
-    /// Takes a number to the base 36 that may be left out, and the `_` behind it (`<seq-id>`).
+    /// Takes a number to the base 36 that may be left out, and the `_` after it (`<seq-id>`).
     pub fn sequence(&mut self) -> Option<usize> {
         let digits = self.take_of(SEQUENCE)?;
         self.expect("_")?;
@@ -114,14 +114,14 @@ impl<'a> NameReader<'a> {
         self.offset()
     }
 
-    /// Takes a number with a sign, and the `_` behind it.
+    /// Takes a number with a sign, and the `_` after it.
     pub fn offset(&mut self) -> Option<()> {
         self.eat("n");
         self.number()?;
         self.expect("_")
     }
 
-    /// Takes a suffix of a compiler's copy: a word behind a dot, and numbers behind dots.
+    /// Takes a suffix of a compiler's copy: a word after a dot, and numbers after dots.
     pub fn clone_suffix(&mut self) -> Option<&'a str> {
         let rest = self.bytes.get(self.at..)?;
         let mut word = *self;
@@ -141,7 +141,7 @@ impl<'a> NameReader<'a> {
         self.take(letters)
     }
 
-    /// Takes a name behind its length (`<source-name>`).
+    /// Takes a name after its length (`<source-name>`).
     pub fn source_name(&mut self) -> Option<&'a str> {
         let letters = self.number()?;
         let name = self.take(letters)?;

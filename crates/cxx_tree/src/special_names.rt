@@ -44,7 +44,7 @@ impl<'a> Parser<'a> {
         }
     }
 
-    /// Reads the name of a copy of a function for transactions (`GTt`), or of one beside it
+    /// Reads the name of a copy of a function for transactions (`GTt`), or of one next to it
     /// (`GTn`).
     fn transaction_clone(&mut self) -> Option<()> {
         if self.reader.eat("t") {
@@ -66,7 +66,7 @@ impl<'a> Parser<'a> {
         self.schedule(&[Task::Encoding, Task::Between(words, "")])
     }
 
-    /// Reads what is behind the name of a temporary's variable.
+    /// Reads what is after the name of a temporary's variable.
     pub(crate) fn reference_tail(&mut self) -> Option<()> {
         let number = self.reader.sequence()?;
         let variable = self.values.pop()?;

@@ -33,7 +33,7 @@ fn type_of_letter(letter: u8) -> Option<&'static str> {
     Some(text)
 }
 
-/// The type of a letter behind `D`.
+/// The type of a letter after `D`.
 fn type_behind_d(letter: u8) -> Option<&'static str> {
     let text = match letter {
         b'a' => "auto",
@@ -116,7 +116,7 @@ impl<'a> Parser<'a> {
         self.schedule(&[list, end, Task::Qualified(letters), Task::Substitution])
     }
 
-    /// Reads what is behind the types of a function.
+    /// Reads what is after the types of a function.
     pub(crate) fn function_end(&mut self) -> Option<()> {
         let letters = self.reader.take_of("RO")?;
         self.reader.expect("E")?;
@@ -231,7 +231,7 @@ impl<'a> Parser<'a> {
 }
 
 /// The name of the standard library that a letter stands for: in full where a constructor or a
-/// destructor is behind it.
+/// destructor is after it.
 fn known_name(letter: u8, is_class: bool) -> Option<Node<'static>> {
     let node = match (letter, is_class) {
         (b'a', _) => Node::Known("std::allocator", "allocator"),

@@ -26,7 +26,7 @@ pub struct Attribute {
 }
 
 impl Attribute {
-    /// Reads an attribute and its form. Behind the last one are two zeros, which are read too.
+    /// Reads an attribute and its form. After the last one are two zeros, which are read too.
     fn read(table: &mut Reader<'_>) -> Option<Attribute> {
         let name = number(table)?;
         let form = number(table)?;
@@ -81,7 +81,7 @@ impl<'a> Iterator for Attributes<'a> {
     }
 }
 
-/// What the entries of a code have.
+/// The attributes of a code's entries.
 #[derive(Clone, Copy)]
 pub struct Abbreviation<'a> {
     pub(crate) code: u64,
@@ -89,7 +89,7 @@ pub struct Abbreviation<'a> {
     pub tag: u64,
     /// Whether other entries follow up to a code of 0, which are its own.
     pub has_children: bool,
-    /// What each entry has.
+    /// The attributes of each entry.
     pub attributes: Attributes<'a>,
     /// The bytes of an entry's values, where all entries have as many.
     size: Option<u64>,

@@ -9,7 +9,7 @@ use std::alloc::{AllocError, Global};
 /// The most abbreviations of a table.
 const MOST: u32 = 65_536;
 
-/// What a table costs for each abbreviation that is not in the order of the codes.
+/// The price of an abbreviation that is not in the order of the codes.
 const SORTING: u64 = 16;
 
 /// A table of abbreviations, the lowest code first.

@@ -1,10 +1,10 @@
-//! What reading may cost, whatever the sections say.
+//! The price of reading, which has a bound for any sections.
 
 /// How much may be spent on a search of an image: one for each abbreviation, entry, attribute and
 /// range that is read, and as much for what takes as long.
 const WHOLE: u64 = 16_000_000;
 
-/// What is left to be spent.
+/// The rest that may be spent.
 #[derive(Clone, Copy)]
 pub struct Budget {
     left: u64,

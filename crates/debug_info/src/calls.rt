@@ -78,7 +78,7 @@ pub struct InlinedCalls<'a> {
 }
 
 impl<'a> InlinedCalls<'a> {
-    /// No calls at some addresses, with room for some.
+    /// No calls at some addresses, with capacity for some.
     pub(crate) fn none(
         alloc: Global,
         addresses: &[u64],

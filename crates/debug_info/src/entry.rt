@@ -1,4 +1,4 @@
-//! What an entry says, as far as inlined calls need it (DWARF 5, 7.5.4).
+//! The attributes of an entry, as far as inlined calls need them (DWARF 5, 7.5.4).
 
 use crate::abbreviation::Abbreviation;
 use crate::budget::Budget;

@@ -1,4 +1,4 @@
-//! What compilers write of an image's functions.
+//! The sections that compilers write about an image's functions.
 
 use crate::abbreviations::Abbreviations;
 use crate::budget::Budget;

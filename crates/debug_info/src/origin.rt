@@ -9,7 +9,7 @@ use crate::unit::{CompilationUnit, UnitBytes};
 use crate::value::{AttributeValue, number};
 use debug_lines::Reader;
 
-/// How many entries are looked at behind the first.
+/// How many entries are looked at after the first.
 const FOLLOWED: u32 = 4;
 
 /// A unit, its abbreviations and what its values mean.

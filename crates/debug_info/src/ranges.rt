@@ -6,7 +6,7 @@ use crate::sections::{element_at, reader_at};
 use crate::value::{AttributeValue, number};
 use debug_lines::Reader;
 
-/// What says in `.debug_ranges` that an address follows, from which the next ranges go out.
+/// The mark in `.debug_ranges` that an address follows, from which the next ranges are counted.
 const BASE: u64 = u64::MAX;
 
 /// The addresses from `start` up to those below `end`.
@@ -26,7 +26,7 @@ impl AddressRange {
 pub struct Ranges<'a> {
     scope: Scope<'a>,
     version: u16,
-    /// What an offset goes out from.
+    /// The address from which an offset is counted.
     base: u64,
     /// The range from the low address to the high one.
     whole: Option<AddressRange>,

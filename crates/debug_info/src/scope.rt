@@ -1,10 +1,10 @@
-//! What a unit's values mean: where its addresses, texts and lists of ranges stand.
+//! The scope of a unit's values: where its addresses, texts and lists of ranges are.
 
 use crate::entry::Entry;
 use crate::sections::DebugSections;
 use crate::value::AttributeValue;
 
-/// The most bytes of a name, with the 0 behind it.
+/// The most bytes of a name, with the 0 after it.
 const LONGEST: usize = 80;
 
 /// The sections, and where the parts of a unit begin in them.

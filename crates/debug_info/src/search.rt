@@ -16,7 +16,7 @@ const INLINED: u64 = 0x1D;
 /// DW_TAG_subprogram.
 const FUNCTION: u64 = 0x2E;
 
-/// What a function or an inlined call costs besides its attributes, and a range besides the
+/// The price of a function or an inlined call besides its attributes, and of a range besides the
 /// addresses in it.
 const ENTRY: u64 = 8;
 
@@ -38,7 +38,7 @@ pub struct Search<'a> {
     pub found: InlinedCalls<'a>,
     /// The most calls that are found, for which there is room.
     pub most: usize,
-    /// The entries around the one that is read, the outermost first, with room for `DEEPEST`.
+    /// The entries around the one that is read, the outermost first, with capacity for `DEEPEST`.
     pub open: Vec<OpenEntry<'a>>,
     pub files: KnownFiles<'a>,
 }
@@ -103,7 +103,7 @@ impl<'a> Search<'a> {
         None
     }
 
-    /// Reads an entry behind its code.
+    /// Reads an entry after its code.
     fn read(
         &mut self,
         view: &UnitView<'_, 'a>,
@@ -158,7 +158,7 @@ impl<'a> Search<'a> {
         Some(())
     }
 
-    /// The places of the first address in a range, and of the first behind it.
+    /// The places of the first address in a range, and of the first after it.
     fn places_of(&mut self, range: &AddressRange) -> Option<(usize, usize)> {
         let addresses = self.found.addresses.as_slice();
         self.budget.spend(1)?;

@@ -21,9 +21,9 @@ const ADDRESS: u8 = 8;
 pub struct UnitBytes<'a> {
     /// Where its length is in `.debug_info`.
     pub offset: u64,
-    /// The offset of what is behind it.
+    /// The offset of what is after it.
     pub end: u64,
-    /// What is behind its length.
+    /// The bytes after its length.
     bytes: Reader<'a>,
 }
 
@@ -80,7 +80,7 @@ pub struct CompilationUnit<'a> {
     pub abbreviations: u64,
     /// Its entries, from the first byte on.
     pub entries: Reader<'a>,
-    /// What is behind its length.
+    /// The bytes after its length.
     bytes: Reader<'a>,
 }
 

@@ -1,4 +1,4 @@
--- What opcodes mean by a unit's header (DWARF 5, 6.2.5.1).
+-- The meaning of opcodes by a unit's header (DWARF 5, 6.2.5.1).
 use Rattle.std.specs.Prelude.{ℕ, ◌+◌, ◌-◌, ◌*◌, ◌/◌, ◌%◌, ◌^◌}
 use Rattle.debug_lines.specs.declared.encoding.Encoding.{Encoding}
 use Rattle.debug_lines.specs.declared.operation.Advance.{Advance}

@@ -12,7 +12,7 @@ number_end bytes = position (λ b. nat_lt b 128) bytes
 abbrev pub number_bytes : List ℕ → Option (List ℕ)
 number_bytes bytes = option_map (λ last. take (last + 1) bytes) (number_end bytes)
 
--- what is behind it, or all where there is none
+-- what is after it, or all where there is none
 abbrev pub after_number : List ℕ → List ℕ
 after_number bytes = rest_cases bytes (number_end bytes)
 

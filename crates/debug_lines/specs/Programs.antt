@@ -1,4 +1,4 @@
--- What an operation does to the registers, and the row that it makes (DWARF 5, 6.2.5).
+-- The effect of an operation on the registers, and the row that it makes (DWARF 5, 6.2.5).
 use Rattle.std.specs.Prelude.{ℕ, ◌+◌, ◌-◌, ◌%◌, ◌^◌, ◌==◌, ◌&&◌, not, Bool, true, false}
 use Rattle.std.specs.Prelude.{Option, Some, None}
 use Rattle.debug_lines.specs.declared.operation.Advance.{Advance}

@@ -19,11 +19,11 @@ text_end bytes = position (λ b. b == 0) bytes
 abbrev pub text_in : List ℕ → Option (List ℕ)
 text_in bytes = option_map (λ end. take end bytes) (text_end bytes)
 
--- what is behind it, or all where there is none
+-- what is after it, or all where there is none
 abbrev pub rest_cases : List ℕ → Option ℕ → List ℕ
 rest_cases bytes None = bytes
 rest_cases bytes (Some last) = drop (last + 1) bytes
 
--- The bytes behind a text that a zero ends.
+-- The bytes after a text that a zero ends.
 abbrev pub after_text : List ℕ → List ℕ
 after_text bytes = rest_cases bytes (text_end bytes)

@@ -16,7 +16,7 @@ struct NumberedEntry<'a> {
     entry: NameEntry<'a>,
 }
 
-/// The entries of a table that are wanted.
+/// The entries of a table that are requested.
 #[derive(Drop)]
 struct ChosenEntries<'a> {
     /// Their numbers, the lowest first, each once.
@@ -40,12 +40,12 @@ impl<'a> ChosenEntries<'a> {
         }
     }
 
-    /// Whether the entry of a number is wanted. The numbers of the calls ascend.
+    /// Whether the entry of a number is requested. The numbers of the calls ascend.
     fn wants(&self, number: u64) -> bool {
         self.wanted.get(self.passed) == Some(&number)
     }
 
-    /// Adds an entry that is wanted.
+    /// Adds an entry that is requested.
     fn push(&mut self, number: u64, entry: NameEntry<'a>) -> Result<(), AllocError> {
         self.passed = self.passed.saturating_add(1);
         self.entries.push(NumberedEntry { number, entry })?;
@@ -161,7 +161,7 @@ fn directory_numbers(alloc: Global, files: &ChosenEntries<'_>) -> Result<Vec<u64
     Ok(numbers)
 }
 
-/// Reads the files of a unit that are wanted.
+/// Reads the files of a unit that are requested.
 fn read_files<'a>(
     chosen: &mut ChosenEntries<'a>,
     unit: &LineProgram<'a>,
@@ -177,7 +177,7 @@ fn read_files<'a>(
     }
 }
 
-/// Reads the directories of a unit that are wanted.
+/// Reads the directories of a unit that are requested.
 fn read_directories<'a>(
     chosen: &mut ChosenEntries<'a>,
     unit: &LineProgram<'a>,

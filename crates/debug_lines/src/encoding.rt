@@ -6,7 +6,7 @@ ghost use Rattle.debug_lines.specs.SignedBytes.{signed_byte};
 use crate::operation::Advance;
 use crate::reader::Reader;
 
-/// What a unit's header says of its opcodes. A program that packs several operations into an
+/// The part of a unit's header about its opcodes. A program that packs several operations into an
 /// instruction (VLIW) is read as if it had one in each.
 #[derive(Clone, Copy)]
 pub struct Encoding<'a> {
@@ -27,8 +27,8 @@ pub struct Encoding<'a> {
 impl<'a> Encoding<'a> {
     ghost use Rattle.debug_lines.specs.Encodings.{special_advance};
 
-    /// What a header of a version says, from `minimum_instruction_length` on. There is none where
-    /// the line range or the first special opcode is 0.
+    /// The encoding in a header of a version, from `minimum_instruction_length` on. There is none
+    /// where the line range or the first special opcode is 0.
     pub fn read(header: &mut Reader<'a>, version: u16) -> Option<Encoding<'a>> {
         let instruction = header.byte()?;
         if version >= 4 {
@@ -60,7 +60,7 @@ impl<'a> Encoding<'a> {
         opcode >= self.opcode_base
     }
 
-    /// What a special opcode adds to the address and the line (6.2.5.1).
+    /// The advance of the address and the line by a special opcode (6.2.5.1).
     pub fn special(&self, opcode: u8) -> Advance
         requires { self.now.opcode_base ≤ opcode }
         ensures { result ≡ special_advance self.now opcode }
@@ -73,7 +73,7 @@ impl<'a> Encoding<'a> {
         }
     }
 
-    /// What `DW_LNS_const_add_pc` adds to the address: as much as special opcode 255.
+    /// The advance of the address by `DW_LNS_const_add_pc`: as much as special opcode 255.
     pub fn constant(&self) -> u64
         ensures { result ≡ (special_advance self.now 255).address }
     {

@@ -30,7 +30,7 @@ pub struct Files<'a> {
 }
 
 impl<'a> Files<'a> {
-    /// The files behind a unit's directories.
+    /// The files after a unit's directories.
     pub fn behind(mut directories: Directories<'a>) -> Files<'a> {
         for _ in directories.by_ref() {}
         Files {

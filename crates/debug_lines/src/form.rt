@@ -14,13 +14,13 @@ pub struct Strings<'a> {
     pub info: &'a [u8],
 }
 
-/// A text of a table. One in another section is read once it is wanted, as many entries may refer
-/// to a long one.
+/// A text of a table. One in another section is read once it is requested, as many entries may
+/// refer to a long one.
 #[derive(Clone, Copy)]
 pub enum LineText<'a> {
     /// The text itself.
     Here(&'a [u8]),
-    /// What another section has from the text's first byte on.
+    /// The bytes of another section from the text's first byte on.
     Elsewhere(&'a [u8]),
 }
 

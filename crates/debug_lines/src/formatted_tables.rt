@@ -26,14 +26,14 @@ pub struct Entries<'a> {
     values: u8,
     /// How many entries are left.
     count: u64,
-    /// The entries, and what is behind them.
+    /// The entries, and what is after them.
     table: Reader<'a>,
     ghost takes_bytes: { 0 < count → 0 < values },
 }
 
 impl<'a> Entries<'a> {
     /// The entries that a table begins with. Entries without values are refused, and those whose
-    /// formats have more than eight bytes a value: each entry reads them anew.
+    /// formats have more than eight bytes a value: each entry reads them again.
     pub fn read(mut table: Reader<'a>, strings: Strings<'a>) -> Option<Entries<'a>> {
         let values = table.byte()?;
         let formats = table;
@@ -58,7 +58,7 @@ impl<'a> Entries<'a> {
         })
     }
 
-    /// The entries that are behind these.
+    /// The entries that are after these.
     pub fn next_list(mut self) -> Option<Entries<'a>> {
         for _ in self.by_ref() {}
         if self.count > 0 {

@@ -15,7 +15,7 @@ use elf_sections::Sections;
 use std::alloc::{AllocError, Global};
 use std::fmt;
 
-/// The line tables of an image. They are read anew for each address, or for each set of addresses,
+/// The line tables of an image. They are read again for each address, or for each set of addresses,
 /// that is asked for.
 #[derive(Clone, Copy)]
 pub struct DebugLines<'a> {

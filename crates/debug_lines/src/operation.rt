@@ -6,7 +6,7 @@ ghost use Rattle.std.specs.Iterator.{at_most};
 use crate::encoding::Encoding;
 use crate::reader::Reader;
 
-/// What is added to the address, modulo 2^64, and to the line, modulo 2^32.
+/// The amounts added to the address, modulo 2^64, and to the line, modulo 2^32.
 #[derive(Clone, Copy)]
 pub struct Advance {
     pub address: u64,
@@ -14,7 +14,7 @@ pub struct Advance {
 }
 
 impl Advance {
-    /// What leaves both as they are.
+    /// The advance that leaves both unchanged.
     const NOTHING: Advance = Advance {
         address: 0,
         line: 0,
@@ -33,7 +33,7 @@ impl Advance {
     }
 }
 
-/// What an opcode does to the address, the file and the line.
+/// The effect of an opcode on the address, the file and the line.
 #[derive(Clone, Copy)]
 pub enum Operation {
     /// Advances address and line, and makes a row.
@@ -76,7 +76,7 @@ impl<'a> Iterator for Operations<'a> {
 }
 
 impl<'a> Operations<'a> {
-    /// What a standard opcode does (6.2.5.2), with the numbers that follow it.
+    /// The operation of a standard opcode (6.2.5.2), with the numbers that follow it.
     fn standard(&mut self, opcode: u8) -> Option<Operation>
         requires { 0 < opcode }
         ensures { length self.new.program.rest.now ≤ length self.old.program.rest.now }
@@ -121,8 +121,8 @@ impl<'a> Operations<'a> {
     }
 }
 
-/// What an extended opcode does (6.2.5.3): its length, the opcode itself, and what it takes. An
-/// address of another length than eight bytes is not read, and ends the program.
+/// The operation of an extended opcode (6.2.5.3): its length, the opcode itself, and its operands.
+/// An address of another length than eight bytes is not read, and ends the program.
 fn extended(program: &mut Reader<'_>) -> Option<Operation>
     ensures { length program.new.rest.now ≤ length program.old.rest.now }
 {

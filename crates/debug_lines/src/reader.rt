@@ -53,7 +53,7 @@ impl<'a> Reader<'a> {
         Some(LittleEndian::read_u64(bytes))
     }
 
-    /// The next bytes, as many as are wanted.
+    /// The next bytes, as many as are requested.
     pub fn bytes(&mut self, count: u64) -> Option<&'a [u8]>
         ensures enough { IsSome result ↔ (count ≤ length self.old.rest.now) }
         ensures first { IfSome result (λ bytes. bytes.now ≡ take count self.old.rest.now) }
@@ -64,7 +64,7 @@ impl<'a> Reader<'a> {
         Some(bytes)
     }
 
-    /// The next bytes, as many as are wanted, to be read by themselves.
+    /// The next bytes, as many as are requested, to be read by themselves.
     pub fn part(&mut self, count: u64) -> Option<Reader<'a>>
         ensures enough { IsSome result ↔ (count ≤ length self.old.rest.now) }
         ensures first { IfSome result (λ part. part.rest.now ≡ take count self.old.rest.now) }

@@ -11,7 +11,7 @@ pub struct LineRow {
     pub file: u64,
     /// Its source line, from 1 on, or 0 where it comes from none.
     pub line: u32,
-    /// Whether the address is the first behind its sequence of instructions.
+    /// Whether the address is the first after its sequence of instructions.
     pub ends_sequence: bool,
     /// Whether the linker gave its sequence a place: code that it left out has address 0 or the
     /// highest.

@@ -7,7 +7,7 @@ ghost use Rattle.debug_lines.specs.Texts.{has_control};
 use common::Printable;
 use std::{fmt, str};
 
-/// What is between the parts of a path.
+/// The separator between the parts of a path.
 const SLASH: u8 = b'/';
 
 /// The most bytes of a path.
@@ -16,7 +16,7 @@ pub const LONGEST: usize = 4096;
 /// A line of a source file.
 #[derive(Clone, Copy)]
 pub struct SourceLine<'a> {
-    /// The last part of the path of the file: what is behind the last `/`.
+    /// The last part of the path of the file: what is after the last `/`.
     pub file: &'a str,
     /// The whole path, as the table has it.
     pub path: &'a str,

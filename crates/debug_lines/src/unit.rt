@@ -13,7 +13,7 @@ use crate::row::LineRow;
 /// The length that says that a unit is of the 64-bit format (7.4).
 const WIDE: u32 = 0xFFFF_FFFF;
 
-/// The bytes of each unit behind its length, in order. They end in front of a unit that does not
+/// The bytes of each unit after its length, in order. They end in front of a unit that does not
 /// end in the section. A unit of the 64-bit format is passed over: its bytes are given as none.
 #[derive(Clone, Copy)]
 pub struct Units<'a> {
@@ -69,7 +69,7 @@ impl<'a> LineProgram<'a> {
         })
     }
 
-    /// The first row that covers an address: the next row of its sequence is behind the address.
+    /// The first row that covers an address: the next row of its sequence is after the address.
     pub fn row_at(&self, address: u64) -> Option<LineRow>
         ensures placed { IfSome result (λ row. IsTrue row.is_placed) }
         ensures below { IfSome result (λ row. row.address ≤ address) }

@@ -1,4 +1,4 @@
-//! What a variable is called, and where it is declared.
+//! The name of a variable, and where it is declared.
 
 use std::{fmt, str};
 

@@ -1,4 +1,4 @@
-//! What an entry says, as far as variables need it (DWARF 5, 7.5.4).
+//! The attributes of an entry, as far as variables need them (DWARF 5, 7.5.4).
 
 use debug_info::{Abbreviation, AttributeValue, Budget};
 use debug_lines::Reader;

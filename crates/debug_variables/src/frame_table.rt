@@ -5,7 +5,7 @@ use crate::search::VariableSearch;
 use debug_info::DebugSections;
 use std::alloc::{AllocError, Global};
 
-/// What the place of a variable is counted from.
+/// The base from which the place of a variable is counted.
 #[derive(Clone, Copy, PartialEq, Eq, PartialOrd, Ord)]
 pub enum FrameBase {
     /// SP when the function was called.
@@ -52,7 +52,7 @@ pub struct PlacedVariable {
     pub variable: FrameVariable,
     /// Its address.
     pub start: u64,
-    /// The address behind its last byte.
+    /// The address after its last byte.
     pub end: u64,
 }
 
@@ -61,9 +61,9 @@ pub struct PlacedVariable {
 pub struct FrameFunction {
     /// Its first address.
     pub low: u64,
-    /// The address behind its last.
+    /// The address after its last.
     pub high: u64,
-    /// What the places of its variables are counted from where these say no other.
+    /// The base of its variables' places where these name no other.
     pub(crate) base: FrameBase,
     /// Whether its unit was optimized, as far as that shows.
     pub is_optimized: bool,
@@ -77,7 +77,7 @@ pub struct FrameFunction {
 pub struct FrameVariable {
     /// The function, by its place among those that were found.
     pub(crate) function: usize,
-    /// What its place is counted from.
+    /// The base of its place.
     pub(crate) base: FrameBase,
     /// How far its first byte is from that, modulo 2^64.
     pub(crate) offset: u64,
@@ -91,7 +91,7 @@ pub struct FrameVariable {
     pub declaration: Option<Declaration>,
 }
 
-/// What is added to an offset modulo 2^64 so that negative ones come first.
+/// The number added to an offset modulo 2^64 so that negative ones come first.
 const SIGN: u64 = 1 << 63;
 
 impl FrameVariable {
@@ -105,7 +105,7 @@ impl FrameVariable {
         self.function == other.function && self.base == other.base
     }
 
-    /// The place behind it.
+    /// The place after it.
     fn end(&self) -> u64 {
         self.place().saturating_add(self.size)
     }
@@ -135,7 +135,7 @@ pub struct DeclaredObject {
     pub(crate) is_single: bool,
 }
 
-/// What ends where a variable begins. A pointer to its start may be one to the end of that.
+/// The variables that end where a variable begins. A pointer to its start may be one to their end.
 #[derive(Clone, Copy, PartialEq, Eq)]
 pub enum Neighbor {
     /// Nothing that is known.
@@ -225,7 +225,7 @@ impl FrameVariables {
         found
     }
 
-    /// What of a function's variables ends at an address.
+    /// The variables of a function that end at an address.
     pub fn neighbor(&self, function: &FrameFunction, bases: &FrameBases, addr: u64) -> Neighbor {
         match self.variable_at(function, bases, addr.wrapping_sub(1)) {
             Some(placed) if placed.end == addr => Neighbor::of(placed.variable.is_single),
@@ -270,7 +270,7 @@ impl FrameVariables {
             .is_some_and(|object| object.is_single)
     }
 
-    /// What is known of the variable of the image at an address.
+    /// The facts about the variable of the image at an address.
     fn declared_at(&self, addr: u64) -> Option<&DeclaredObject> {
         let at = self
             .declared

@@ -1,6 +1,6 @@
 //! Where an image has its variables: those of frames by `.debug_info` (DWARF 5 and DWARF 4, 2.5,
 //! 3.3 and 4.1), and those of the image by its symbols (System V ABI, Object Files: `Elf64_Sym`).
-//! What cannot be read is left out: a file with wrong entries has fewer variables.
+//! Entries that cannot be read are left out: a file with wrong entries has fewer variables.
 #![tactic(auto)]
 
 mod declaration;

@@ -17,7 +17,7 @@ const OBJECT: u8 = 1;
 
 const FUNCTION: u8 = 2;
 
-/// The most bytes of a name that is looked at, with the 0 behind it.
+/// The most bytes of a name that is looked at, with the 0 after it.
 const LONGEST: usize = 80;
 
 /// The most objects that are kept, and the most marks.
@@ -28,12 +28,12 @@ const MOST: usize = 65_536;
 pub struct ImageObject {
     /// Its address.
     pub start: u64,
-    /// The address behind its last byte.
+    /// The address after its last byte.
     pub end: u64,
     /// Its name.
     pub name: VariableName,
     /// Whether its address is that of a symbol without a size too, as linkers set at the start of
-    /// what is behind one another: a pointer to it may be meant for more than the object.
+    /// what is after one another: a pointer to it may be meant for more than the object.
     pub is_marked: bool,
 }
 
@@ -105,7 +105,7 @@ impl ImageObjects {
 }
 
 impl<'a> ObjectSymbol<'a> {
-    /// What an entry of the symbol table says, where it is of a section.
+    /// The object of an entry of the symbol table, where it is of a section.
     fn of(entry: &[u8], names: &'a [u8]) -> Option<ObjectSymbol<'a>> {
         if entry.get(6..8)? == [0, 0].as_slice() {
             return None;

@@ -17,7 +17,7 @@ const MOST: usize = 65_536;
 /// How many functions may be in one another.
 const DEEPEST: usize = 64;
 
-/// The most bytes of a text that is looked at, with the 0 behind it.
+/// The most bytes of a text that is looked at, with the 0 after it.
 const LONGEST: usize = 1_024;
 
 /// DW_TAG_formal_parameter and DW_TAG_variable.
@@ -204,7 +204,7 @@ impl VariableSearch {
         Ok(())
     }
 
-    /// What the next entry has; nothing inside where it is the end of those of one entry.
+    /// The next entry; nothing inside where it is the end of those of one entry.
     fn next_entry<'a>(
         &mut self,
         scope: &UnitScope<'_, '_, 'a>,
@@ -418,7 +418,7 @@ impl<'t, 's, 'a> UnitScope<'t, 's, 'a> {
         }
     }
 
-    /// What the type of a variable has, if that is known.
+    /// The type of a variable, if that is known.
     fn size(&self, entry: &VariableEntry<'a>, budget: &mut Budget) -> Option<TypeSize> {
         self.types.size(entry.type_.entry()?, budget)
     }
@@ -471,7 +471,7 @@ enum VariablePlace {
     Image(u64),
 }
 
-/// What the expression of a function's base says.
+/// The base in the expression of a function.
 fn base_of(expression: &[u8]) -> Option<FrameBase> {
     match expression {
         [CALLER_FRAME] => Some(FrameBase::Caller),

@@ -29,7 +29,7 @@ const OTHERS: [u64; 5] = [0x16, 0x26, 0x35, 0x37, 0x47];
 /// DW_TAG_subrange_type.
 const RANGE: u64 = 0x21;
 
-/// What a variable of a type has.
+/// The facts about variables of a type.
 #[derive(Clone, Copy)]
 pub struct TypeSize {
     pub bytes: u64,
@@ -71,7 +71,7 @@ impl<'t, 'a> UnitTypes<'t, 'a> {
         None
     }
 
-    /// How many elements an array has, by the entries behind its own.
+    /// How many elements an array has, by the entries after its own.
     fn elements(&self, mut entries: Reader<'a>, budget: &mut Budget) -> Option<u64> {
         let mut elements = 1u64;
         for _ in 0..DIMENSIONS {

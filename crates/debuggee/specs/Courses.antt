@@ -19,7 +19,7 @@ after_attempts_of zero rest m = m
 after_attempts_of (suc n) rest m = (after_attempt rest (after_attempts_of n (suc rest) m)).machine
 
 -- A machine after whole slices and some attempts of the next one, which has `cut` steps.
--- What is left of that slice makes of it what the whole slice makes.
+-- The rest of that slice makes of it what the whole slice makes.
 pub record IsAt (c : Cuts) (start : Machine) (slices cut done : ℕ) (m : Machine) : Type 0 where
   pub next : cut ≡ next_cut c slices (after_slices c slices start)
   pub machine : m ≡ after_attempts_of done (cut - done) (after_slices c slices start)

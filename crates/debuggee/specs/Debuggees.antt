@@ -1,4 +1,4 @@
--- What a debugged tenant is: what it was admitted with, how its run is cut into slices, and where
+-- A debugged tenant: its admission, how its run is cut into slices, and where
 -- it is.
 use Rattle.std.specs.Prelude.{ℕ, ◌-◌, ◌==◌, ◌&&◌, Bool, nat_lt}
 use Rattle.mte_svc.specs.Results.{is_running}
@@ -7,7 +7,7 @@ use Rattle.mte_tenant.specs.Machines.{Machine, machine_of, after_attempt}
 use Rattle.debuggee.specs.declared.cuts.Cuts.{Cuts}
 use Rattle.debuggee.specs.declared.tenant.Debuggee.{Debuggee}
 
--- What the tenant was admitted with.
+-- The tenant's admission.
 abbrev pub admission_of : Debuggee → Admission
 admission_of d = d.admission
 

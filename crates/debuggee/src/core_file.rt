@@ -35,7 +35,7 @@ const TAGS: u32 = 0x7000_0002;
 pub struct CoreSubject<'a> {
     /// All of its machine but the memory.
     pub parts: &'a TenantParts,
-    /// What a tag that differs does.
+    /// The mode of tag checks.
     pub mode: TagMode,
     /// Its program's name, of which 15 bytes are written.
     pub name: &'a str,

@@ -52,14 +52,14 @@ const LINUX: NoteOwner = NoteOwner {
     len: 6,
 };
 
-/// What the notes describe.
+/// The subject of the notes.
 #[derive(Clone, Copy)]
 pub struct Noted<'a> {
     /// The registers.
     pub regs: &'a Regs,
     /// The signal that ended it.
     pub signal: Signal,
-    /// What a tag that differs does.
+    /// The mode of tag checks.
     pub mode: TagMode,
     /// The program's name.
     pub name: &'a str,

@@ -12,7 +12,7 @@ pub struct MappedRegion {
     pub start: u64,
     /// The address after the last.
     pub end: u64,
-    /// What may be done with the pages.
+    /// The attributes of the pages.
     pub attrs: Attrs,
 }
 

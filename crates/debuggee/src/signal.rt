@@ -67,7 +67,7 @@ impl Signal {
     }
 }
 
-/// What `prctl(PR_GET_TAGGED_ADDR_CTRL)` would answer (Linux, "Memory Tagging Extension (MTE) in
+/// The answer of `prctl(PR_GET_TAGGED_ADDR_CTRL)` (Linux, "Memory Tagging Extension (MTE) in
 /// AArch64 Linux"): tagged addresses are on, tags 1 to 15 are drawn, and a tag that differs is a
 /// fault at once or later.
 pub fn tag_control(mode: TagMode) -> u64

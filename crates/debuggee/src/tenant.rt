@@ -24,7 +24,7 @@ use run_records::{Book, Moment};
 use std::alloc::{AllocError, Global};
 
 /// A tenant alone, which attempts its instructions one at a time, or a slice at a time, and can
-/// begin anew. Nothing else changes it.
+/// begin again. Nothing else changes it.
 #[derive(Drop)]
 pub struct Debuggee<'a> {
     admission: Admission<'a>,
@@ -52,7 +52,7 @@ impl<'a> Debuggee<'a> {
     ghost use Rattle.debuggee.specs.Debuggees.{done_of, slices_of};
 
     /// A tenant at its first instruction, or why it is refused. Only `OutOfMemory`, where an
-    /// allocation failed, can come in place of the refusals from `Image` on.
+    /// allocation failed, can come instead of the refusals from `Image` on.
     pub fn new(
         alloc: Global,
         admission: &Admission<'a>,
@@ -163,7 +163,7 @@ impl<'a> Debuggee<'a> {
         self.done == 0
     }
 
-    /// What a tag that differs does.
+    /// The mode of tag checks.
     pub fn mode(&self) -> TagMode
         ensures { result ≡ (admission_of self.now).terms.mode }
     {
@@ -270,7 +270,7 @@ impl<'a> Debuggee<'a> {
         let _ = book.note(&self.parts, &mut self.memory.flat);
     }
 
-    /// Shows the last step to a watch for a store, with what stood before it.
+    /// Shows the last step to a watch for a store, with what was there before it.
     pub fn show_to(&mut self, watch: &mut StoreWatch, moment: &Moment) {
         watch.note(moment, &self.parts, &mut self.memory.flat);
     }

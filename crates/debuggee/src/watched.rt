@@ -41,7 +41,7 @@ pub struct Hit {
 }
 
 impl Watchpoint {
-    /// What an access of some bytes from an address on meets of it.
+    /// The hit of an access of some bytes from an address on.
     fn meet(&self, start: u64, end: u64, writes: bool) -> Option<Hit> {
         let is_wanted = match self.access {
             WatchedAccess::Write => writes,

@@ -1,4 +1,4 @@
-//! What is to be written.
+//! The parts of a name that are written.
 
 use cxx_tree::Id;
 
@@ -9,9 +9,9 @@ pub enum NamePart<'a> {
     Number(usize),
     /// All of a node.
     Whole(Id),
-    /// What a type writes in front of the name of what has it.
+    /// The text of a type in front of the name of what has it.
     Left(Id),
-    /// What it writes behind that name.
+    /// The text of a type after that name.
     Right(Id),
     /// A value as a part of another.
     Value(Id),
@@ -21,7 +21,7 @@ pub enum NamePart<'a> {
     Expansion(Id, usize),
     /// Qualifiers by their letters.
     Qualifiers(&'a str),
-    /// A text, with a blank in front where that is behind the same sign.
+    /// A text, with a blank in front where that is after the same sign.
     Apart(&'static str),
     /// The bracket in front of an array's length.
     Bracket,

@@ -15,7 +15,7 @@ pub struct Rank {
     order: u32,
 }
 
-/// What of a symbol decides its place.
+/// The keys that order symbols.
 #[derive(Clone, Copy)]
 pub struct SymbolRank {
     /// Its address.
@@ -73,7 +73,7 @@ struct Open {
 /// A sweep over the symbols by their rank.
 #[derive(Drop)]
 pub struct Sweep {
-    /// Those that still reach. Each reaches farther than the ones behind it, of which the last
+    /// Those that still reach. Each reaches farther than the ones after it, of which the last
     /// names the addresses.
     open: Vec<Open>,
     /// The pieces so far: at most two a symbol.
@@ -81,7 +81,7 @@ pub struct Sweep {
 }
 
 impl Sweep {
-    /// A sweep with room for the pieces of some symbols.
+    /// A sweep with capacity for the pieces of some symbols.
     pub fn new(alloc: Global, symbols: usize) -> Result<Sweep, AllocError> {
         Ok(Sweep {
             open: Vec::new(alloc),
@@ -137,7 +137,7 @@ impl Sweep {
         }
     }
 
-    /// The pieces, the lowest first, behind the end of the last symbol too.
+    /// The pieces, the lowest first, after the end of the last symbol too.
     pub fn finish(mut self) -> Result<Vec<Piece>, AllocError> {
         self.close_before(u64::MAX)?;
         Ok(self.pieces)

@@ -5,7 +5,7 @@ use crate::rust_names::{push_all, write_legacy};
 use arrayvec::ArrayString;
 use cxx_tree::{NameReader, Parser};
 
-/// What a linker's name is in the source, at most 4,096 bytes of ASCII: as c++filt writes it, with
+/// The source's name for a linker's name, at most 4,096 bytes of ASCII: as c++filt writes it, with
 /// the parameters of functions. `None` of a name in another form, and of one that is too deep or
 /// too long.
 pub(crate) fn plain_name(name: &str) -> Option<ArrayString<LONGEST>> {
@@ -17,7 +17,7 @@ pub(crate) fn plain_name(name: &str) -> Option<ArrayString<LONGEST>> {
     }
 }
 
-/// The text of a name of C++ behind its `_Z`.
+/// The text of a name of C++ after its `_Z`.
 fn cxx_text(reader: NameReader<'_>) -> Option<ArrayString<LONGEST>> {
     let mut parser = Parser::new(reader);
     let encoding = parser.read()?;

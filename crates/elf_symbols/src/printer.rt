@@ -57,7 +57,7 @@ impl<'n, 'a> Printer<'n, 'a> {
         None
     }
 
-    /// What is to be written next, in this order.
+    /// The parts that are left, in this order.
     fn write(&mut self, pack: Option<usize>, parts: &[NamePart<'a>]) -> Option<()> {
         for part in parts.iter().rev() {
             self.push(NamePiece { part: *part, pack })?;
@@ -186,7 +186,7 @@ impl<'n, 'a> Printer<'n, 'a> {
         }
     }
 
-    /// Writes what a type has behind a name.
+    /// Writes what a type has after a name.
     fn right(&mut self, id: Id, pack: Option<usize>) -> Option<()> {
         let id = resolve(&self.nodes, id, pack);
         match self.nodes.at(id) {
@@ -225,7 +225,7 @@ impl<'n, 'a> Printer<'n, 'a> {
         matches!(plain_type(&self.nodes, id, pack), Node::Function(..))
     }
 
-    /// What is between a type and the sign of a pointer to it.
+    /// The text between a type and the sign of a pointer to it.
     fn opening(&self, inner: Id, pack: Option<usize>) -> &'static str {
         match plain_type(&self.nodes, inner, pack) {
             Node::Function(..) => "(",

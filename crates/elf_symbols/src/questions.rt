@@ -1,4 +1,4 @@
-//! What is asked of a tree to write it.
+//! The questions about a tree that its text depends on.
 
 use cxx_tree::{Id, Node, Nodes};
 
@@ -15,7 +15,7 @@ pub fn base_name(nodes: &Nodes<'_, '_>, class: Id) -> Id {
     part
 }
 
-/// What stands for a node: the argument `pack` of several, the argument of a parameter.
+/// The replacement of a node: the argument `pack` of several, the argument of a parameter.
 pub fn resolve(nodes: &Nodes<'_, '_>, id: Id, pack: Option<usize>) -> Id {
     let mut id = id;
     for _ in nodes.list {
@@ -45,7 +45,7 @@ pub fn plain_type<'a>(nodes: &Nodes<'_, 'a>, id: Id, pack: Option<usize>) -> Nod
     nodes.at(id)
 }
 
-/// Whether a part of a type comes behind the name of what has it.
+/// Whether a part of a type comes after the name of what has it.
 pub fn has_right(nodes: &Nodes<'_, '_>, id: Id, pack: Option<usize>) -> bool {
     let mut node = plain_type(nodes, id, pack);
     for _ in nodes.list {

@@ -44,7 +44,7 @@ fn is_hash(part: &str) -> bool {
     part.len() == HASH && part.starts_with("h") && digits.all(|digit| digit.is_ascii_hexdigit())
 }
 
-/// Writes a part with its escapes, behind a scope or first.
+/// Writes a part with its escapes, after a scope or first.
 fn write_part(text: &mut ArrayString<LONGEST>, is_scoped: bool, part: &str) -> Option<()> {
     if is_scoped {
         push(text, "::")?;
@@ -63,7 +63,7 @@ fn write_part(text: &mut ArrayString<LONGEST>, is_scoped: bool, part: &str) -> O
     Some(())
 }
 
-/// Writes a character, which may be an escape; what is behind it.
+/// Writes a character, which may be an escape; what is after it.
 fn write_next<'a>(text: &mut ArrayString<LONGEST>, part: &'a str) -> Option<&'a str> {
     if let Some(rest) = part.strip_prefix("..") {
         push(text, "::")?;

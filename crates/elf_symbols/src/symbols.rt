@@ -17,7 +17,7 @@ const SYMBOL: usize = 24;
 /// How far from a symbol without a size an address is still named by it.
 const REACH: u64 = 65_536;
 
-/// The most bytes of a name, with the 0 behind it.
+/// The most bytes of a name, with the 0 after it.
 const LONGEST: usize = 1_024;
 
 /// STT_OBJECT and STT_FUNC, the lower half of `st_info`.
@@ -86,7 +86,7 @@ impl<'a> SymbolTable<'a> {
     }
 }
 
-/// What decides the place of an entry's symbol, where the entry has one.
+/// The keys that order an entry's symbol, where the entry has one.
 fn standing_of(entry: &[u8], names: &[u8]) -> Option<SymbolRank> {
     let symbol = Symbol::of(entry, names)?;
     let info = *entry.get(4)?;
@@ -156,7 +156,7 @@ struct Symbol<'a> {
 }
 
 impl<'a> Symbol<'a> {
-    /// What an entry of the symbol table says, where it has a name and is of a section.
+    /// The symbol of an entry of the symbol table, where it has a name and is of a section.
     fn of(entry: &[u8], names: &'a [u8]) -> Option<Symbol<'a>> {
         if half(entry, 6)? == 0 {
             return None;
@@ -230,7 +230,7 @@ impl<'a> SymbolOffset<'a> {
     }
 
     /// Whether it is in the first instructions of a symbol whose size is known, and another
-    /// address of the same symbol is behind it.
+    /// address of the same symbol is after it.
     pub fn begins_function_of(&self, other: &SymbolOffset<'_>, instructions: u64) -> bool {
         match (&self.symbol, &other.symbol) {
             (Some(symbol), Some(same)) if symbol.value == same.value => {

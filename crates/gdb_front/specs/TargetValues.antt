@@ -9,7 +9,7 @@ use Rattle.gdb_front.specs.declared.registers.TargetRegisters.{TargetRegisters}
 abbrev pub word_of_generator : Rgsr → ℕ
 word_of_generator g = 2 ^ 8 * g.seed + g.tag
 
--- The registers behind x0 to x30: SP, PC, the flags, the control of tags, the steps, RGSR_EL1.
+-- The registers after x0 to x30: SP, PC, the flags, the control of tags, the steps, RGSR_EL1.
 abbrev pub special_value : TargetRegisters → ℕ → Option ℕ
 special_value t n =
     if n == 31 then Some t.regs.now.sp

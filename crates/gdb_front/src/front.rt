@@ -22,7 +22,7 @@ pub struct Front<'a> {
     pub(crate) shown: usize,
     /// Whether GDB wants to know that a breakpoint was reached.
     pub(crate) tells_breakpoints: bool,
-    /// Whether GDB may begin the tenant anew, also after it was killed.
+    /// Whether GDB may begin the tenant again, also after it was killed.
     pub(crate) is_extended: bool,
     /// The file that GDB has open.
     pub(crate) file: File,

@@ -65,7 +65,7 @@ fn put_flag(text: &mut TextBuffer, attrs: Attrs, attr: Attrs, word: &[u8]) {
     }
 }
 
-/// What a region is of.
+/// The use of a region.
 fn name_of<'a>(region: &MappedRegion, image: &'a [u8]) -> &'a [u8] {
     if region.start >= STACK {
         b"[stack]"

@@ -1,4 +1,4 @@
-//! What is asked of memory and its tags.
+//! Requests for memory and its tags.
 
 use crate::front::Front;
 use crate::reply::Reply;

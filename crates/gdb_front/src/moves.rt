@@ -35,7 +35,7 @@ impl Front<'_> {
         self.tell_stop(alloc, stop, reply);
     }
 
-    /// Begins the tenant anew, with no points, as GDB expects it of one that it starts.
+    /// Begins the tenant again, with no points, as GDB expects it of one that it starts.
     pub(crate) fn run_anew(&mut self, alloc: Global, reply: &mut Reply) {
         if self.tenant.go_to(alloc, 0).is_err() {
             reply.answer.fail();

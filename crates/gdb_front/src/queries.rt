@@ -1,4 +1,4 @@
-//! What is asked of registers, features and objects, and what has one answer.
+//! Requests for registers, features and objects, and requests that have one answer.
 
 use crate::description::put_description;
 use crate::front::Front;
@@ -9,7 +9,7 @@ use debuggee::Signal;
 use gdb_packets::{Command, read_register};
 use std::alloc::Global;
 
-/// What the front can do, whoever asks.
+/// The features of the front, which depend on nothing.
 const FEATURES: &[u8] = b"PacketSize=4000;QStartNoAckMode+;multiprocess+;vContSupported+;\
 ReverseStep+;ReverseContinue+;memory-tagging+;qXfer:features:read+;qXfer:siginfo:read+;\
 qXfer:exec-file:read+";

@@ -16,7 +16,7 @@ const COUNT: u64 = 37;
 pub struct TargetRegisters<'a> {
     /// Its core's.
     pub regs: &'a Regs,
-    /// What a tag that differs does.
+    /// The mode of tag checks.
     pub mode: TagMode,
     /// How many steps it has done.
     pub step: u64,

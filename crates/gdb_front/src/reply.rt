@@ -1,12 +1,12 @@
-//! What a packet is answered.
+//! The reply to a packet.
 
 use crate::text::TextBuffer;
 use std::alloc::Global;
 
-/// What a packet is answered: a text for GDB's user, and the answer.
+/// The reply to a packet: a text for GDB's user, and the answer.
 #[derive(Drop)]
 pub struct Reply {
-    /// What GDB prints before the answer.
+    /// The text that GDB prints before the answer.
     pub console: TextBuffer,
     /// The answer. It is empty where a packet is not known.
     pub answer: TextBuffer,

@@ -1,4 +1,4 @@
-//! What GDB's user reads.
+//! The texts that GDB's user reads.
 
 use crate::front::Front;
 use crate::reply::Reply;
@@ -14,7 +14,7 @@ const COMMAND_LIMIT: usize = 256;
 /// Where the part of a report ends that is written with a stop: the line of the instruction.
 const MACHINE: &[u8] = b"\ninstruction at ";
 
-/// What a user may ask.
+/// The requests of a user.
 #[derive(Clone, Copy)]
 enum UserRequest {
     Why,
@@ -135,7 +135,7 @@ impl Front<'_> {
     }
 }
 
-/// A decimal number, or a hexadecimal one behind `0x`.
+/// A decimal number, or a hexadecimal one after `0x`.
 fn read_count(text: &[u8]) -> Option<u64> {
     match text.strip_prefix(b"0x") {
         Some(digits) => read_number(digits),

@@ -44,7 +44,7 @@ put_behind room piece new old n k fits e put rest =
     ap (drop (n + k)) (piece_put room piece new n fits put) ∙ drop_at (take n room ++ piece) (drop (length piece) (drop n room)) (n + k) long
     ∙ ap (λ z. drop z (drop n room)) (sym e) ∙ ap (drop k) rest ∙ drop-drop k n old
 
--- A text at the front of a room, and what stood behind it.
+-- A text at the front of a room, and what stood after it.
 pub whole_room : (text new old : List ℕ) (n : ℕ) → take n new ≡ text → drop n new ≡ drop n old → new ≡ text ++ drop n old
 whole_room text new old n front rest = rw (← front, ← rest) (sym (take-append-drop n new))
 

@@ -17,7 +17,7 @@ length-closing bytes = ap suc (length-encode_with _ (checksum_of bytes ∷ []))
 pub length-frame_of : (bytes : List ℕ) → length (frame_of bytes) ≡ length bytes + 4
 length-frame_of bytes = ap suc (length-append bytes (closing bytes)) ∙ omega (arith, length-closing bytes)
 
--- The data behind a `$`, and what stands behind them.
+-- The data after a `$`, and what stands after them.
 pub frame_put : (room sub bytes new : List ℕ) (n : ℕ) → n ≡ length bytes → length bytes + 4 ≤ length room
     → sub ≡ bytes ++ drop (length bytes) (take (length (set room 0 36) - 1) (drop 1 (set room 0 36)))
     → new ≡ take (1 + n) (put_mid 1 (length (set room 0 36) - 1) (set room 0 36) sub)

@@ -52,7 +52,7 @@ hex_again text old new r h bytes small e =
     let k = rw some at h in
     (k.0, ap (take (length bytes)) k.1 ∙ take_at bytes (drop (length bytes) old) (length bytes) refl)
 
--- The value of a register. Zeros behind its bytes change nothing.
+-- The value of a register. Zeros after its bytes change nothing.
 from_le_same : (a b : List ℕ) → ((i : ℕ) → get_or a i 0 ≡ get_or b i 0) → from_le_bytes w64 a ≡ from_le_bytes w64 b
 from_le_same a b h = rw (h 0, h 1, h 2, h 3, h 4, h 5, h 6, h 7) refl
 

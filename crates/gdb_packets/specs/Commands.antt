@@ -55,7 +55,7 @@ point_kind n =
 abbrev pub point_command : (Point → ℕ → ℕ → Command) → ℕ × ℕ × ℕ → Command
 point_command c t = unwrap_or (option_map (λ k. c k t.1 t.2) (point_kind t.0)) command.Unknown
 
--- All processes, or the one behind a separator.
+-- All processes, or the one after a separator.
 abbrev pub process_of : ℕ → List ℕ → Option (Option ℕ)
 process_of separator text =
     if length text == 0 then Some None
@@ -65,7 +65,7 @@ process_of separator text =
 abbrev pub command_or_malformed : Option Command → Command
 command_or_malformed o = unwrap_or o command.Malformed
 
--- A command with nothing behind its name.
+-- A command with nothing after its name.
 abbrev pub alone : List ℕ → Command → Option Command
 alone rest c = if length rest == 0 then Some c else None
 
@@ -109,7 +109,7 @@ select_of (b ∷ text) =
 abbrev pub signal_of : List ℕ → Option ℕ
 signal_of text = option_and_then (λ n. if nat_lt n 256 then Some n else None) (number_of text)
 
--- A signal, and an address where one follows behind a `;`.
+-- A signal, and an address where one follows after a `;`.
 abbrev pub signal_cases : Option (List ℕ × List ℕ) → List ℕ → Option (ℕ × Option ℕ)
 signal_cases None text = option_map (λ s. (s, None)) (signal_of text)
 signal_cases (Some parts) text = do
@@ -117,11 +117,11 @@ signal_cases (Some parts) text = do
   signal ← signal_of parts.0
   Some (signal, Some address)
 
--- A signal, and an address behind a semicolon if there is one.
+-- A signal, and an address after a semicolon if there is one.
 unfoldable pub signal_and_address : List ℕ → Option (ℕ × Option ℕ)
 signal_and_address text = signal_cases (cut_at (λ b. b == 59) text) text
 
--- An action with nothing behind its letter.
+-- An action with nothing after its letter.
 abbrev pub lone : List ℕ → Action → Option Action
 lone rest a = if length rest == 0 then Some a else None
 
@@ -137,7 +137,7 @@ action_of (b ∷ rest) =
     else if b == 114 then option_map (λ r. action.StepRange r.0 r.1) (range_of rest)
     else None
 
--- An action, and its thread where one follows behind a `:`.
+-- An action, and its thread where one follows after a `:`.
 abbrev pub thread_action_by : Option (List ℕ × List ℕ) → List ℕ
     → Option (Action × Option Thread)
 thread_action_by None text = option_map (λ a. (a, None)) (action_of text)
@@ -146,7 +146,7 @@ thread_action_by (Some parts) text = do
   t ← thread_of parts.1
   Some (a, Some t)
 
--- An action, and the thread behind a colon if there is one.
+-- An action, and the thread after a colon if there is one.
 unfoldable pub thread_action : List ℕ → Option (Action × Option Thread)
 thread_action text = thread_action_by (cut_at (λ b. b == 58) text) text
 
@@ -156,7 +156,7 @@ first_action text =
     if list_all (λ piece. is_some (thread_action piece)) (slice_split (λ b. b == 59) text)
     then thread_action (before_first (λ b. b == 59) text) else None
 
--- `s` or `c` behind a `b`.
+-- `s` or `c` after a `b`.
 abbrev pub back_of : List ℕ → Command
 back_of (b ∷ []) =
     if b == 115 then command.StepBack else if b == 99 then command.ContinueBack
@@ -171,7 +171,7 @@ IsNoneOf known x = AllByRecursion (λ k. x ≢ k) known
 abbrev pub letters : List ℕ
 letters = codes "!?bcCDgGHkmMpPqQsSTvxXzZ"
 
--- What these letters ask, with what is behind them.
+-- The commands of these letters, with the bytes after them.
 pub record Asks (letter : ℕ) (rest : List ℕ) (c : Command) : Type 0 where
   pub other : IsNoneOf letters letter → c ≡ command.Unknown
   pub back : letter ≡ 98 → c ≡ back_of rest
@@ -222,7 +222,7 @@ queries = codes "Supported" ∷ codes "Xfer" ∷ codes "MemTags" ∷ codes "Rcmd
     ∷ codes "Symbol" ∷ codes "C" ∷ codes "fThreadInfo" ∷ codes "sThreadInfo" ∷ codes "Offsets"
     ∷ []
 
--- What these names behind a `q` ask, with what is behind them.
+-- The commands of these names after a `q`, with the bytes after them.
 pub record AsksQuery (name rest : List ℕ) (c : Command) : Type 0 where
   pub other : IsNoneOf queries name → c ≡ command.Unknown
   pub thread : name ≡ codes "C" → c ≡ command_or_malformed (alone rest command.CurrentThread)
@@ -235,7 +235,7 @@ pub record AsksQuery (name rest : List ℕ) (c : Command) : Type 0 where
   pub attached : name ≡ codes "Attached"
       → c ≡ command_or_malformed (option_map command.IsAttached (process_of 58 rest))
 
--- What these names behind a `Q` ask.
+-- The commands of these names after a `Q`.
 pub record AsksSetting (name rest : List ℕ) (c : Command) : Type 0 where
   pub other : IsNoneOf (codes "MemTags" ∷ codes "StartNoAckMode" ∷ []) name
       → c ≡ command.Unknown
@@ -247,7 +247,7 @@ abbrev pub operations : List (List ℕ)
 operations = codes "open" ∷ codes "pread" ∷ codes "close" ∷ codes "fstat" ∷ codes "setfs"
     ∷ codes "readlink" ∷ []
 
--- What these operations on files ask.
+-- The commands of these operations on files.
 pub record AsksFile (operation rest : List ℕ) (c : Command) : Type 0 where
   pub other : IsNoneOf operations operation → c ≡ command.Unknown
   pub close : operation ≡ codes "close"
@@ -261,12 +261,12 @@ pub record AsksFile (operation rest : List ℕ) (c : Command) : Type 0 where
       → c ≡ command_or_malformed (option_map (λ t. command.File (file.Read t.0 t.1 t.2))
       (triple_of rest))
 
--- The names behind a `v` that are known.
+-- The names after a `v` that are known.
 abbrev pub names : List (List ℕ)
 names = codes "Cont" ∷ codes "Cont?" ∷ codes "File" ∷ codes "Kill" ∷ codes "MustReplyEmpty"
     ∷ codes "Run" ∷ []
 
--- What these names behind a `v` ask.
+-- The commands of these names after a `v`.
 pub record AsksNamed (name rest : List ℕ) (c : Command) : Type 0 where
   pub other : IsNoneOf names name → c ≡ command.Unknown
   pub actions : name ≡ codes "Cont?" → c ≡ command_or_malformed (alone rest command.ResumeActions)
@@ -284,10 +284,10 @@ pub record AsksNamed (name rest : List ℕ) (c : Command) : Type 0 where
   pub run : name ≡ codes "Run"
       → c ≡ command_or_malformed (option_map (λ _. command.Run) (after 59 rest))
 
--- A name, and what is behind it.
+-- A name, and what is after it.
 abbrev pub name_in : List ℕ → List ℕ
 name_in text = before_first is_separator text
 
--- The text behind the name of a packet.
+-- The text after the name of a packet.
 abbrev pub behind_name : List ℕ → List ℕ
 behind_name text = drop (position_or_len is_separator text) text

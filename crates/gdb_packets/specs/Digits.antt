@@ -19,8 +19,8 @@ number_of text =
 abbrev pub hex_bytes : List ℕ → Option (List ℕ)
 hex_bytes text = result_ok (decode_of text)
 
--- Bytes were put at the front of a room, before what was behind that place; or there are none,
--- and the room stays as it was.
+-- Bytes were put at the front of a buffer, before what was after that place; or there are none,
+-- and the buffer stays as it was.
 abbrev pub Puts : Option (List ℕ) → List ℕ → List ℕ → Option ℕ → Type 0
 Puts (Some bytes) old new r =
     (r ≡ Some (length bytes)) × (new ≡ bytes ++ drop (length bytes) old)

@@ -1,4 +1,4 @@
--- What bytes frame a payload (GDB's documentation, "Remote Protocol", "Overview").
+-- The bytes that frame a payload (GDB's documentation, "Remote Protocol", "Overview").
 use Rattle.std.specs.Prelude.{ℕ, ◌%◌, ◌==◌, ◌||◌, Bool, if◌then◌else◌, bit_xor}
 use Rattle.std.specs.Prelude.{sum}
 use Rattle.std.specs.Prelude.{List, [], ◌∷◌, ◌++◌, Option, Some, None, option_map}

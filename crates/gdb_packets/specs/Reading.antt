@@ -1,4 +1,4 @@
--- What the bytes that came so far are (GDB's documentation, "Remote Protocol", "Overview").
+-- The meaning of the bytes that came so far (GDB's documentation, "Remote Protocol", "Overview").
 use Rattle.std.specs.Prelude.{ℕ, ◌+◌, ◌<◌, ◌≤◌, ◌==◌, ◌||◌, nat_lt, not}
 use Rattle.std.specs.Prelude.{Bool, false, if◌then◌else◌}
 use Rattle.std.specs.Prelude.{List, [], ◌∷◌, take, drop, length, Option, Some, None}
@@ -68,7 +68,7 @@ abbrev pub after_data : List ℕ → List ℕ → Reading
 after_data bytes [] = more
 after_data bytes (b ∷ rest) = if b == 36 then bad (length bytes + 1) else check_packet bytes rest
 
--- What follows a `$`.
+-- The bytes after a `$`.
 abbrev pub after_dollar : List ℕ → Reading
 after_dollar rest =
     let n = prefix_len is_data rest in
@@ -76,7 +76,7 @@ after_dollar rest =
     if nat_lt PACKET_SIZE (length bytes) then bad (PACKET_SIZE + 2)
     else after_data bytes (drop n rest)
 
--- What the first of the bytes are: a packet, an answer to one, an interrupt, or noise.
+-- The meaning of the first bytes: a packet, an answer to one, an interrupt, or noise.
 abbrev pub reading_of : List ℕ → Reading
 reading_of [] = more
 reading_of (b ∷ rest) =

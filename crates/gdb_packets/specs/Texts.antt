@@ -5,7 +5,7 @@ use Rattle.std.specs.Prelude.{option_map}
 use Rattle.std.specs.Borrow.{Bor}
 use Rattle.std.specs.List.{position_or_len, before_first, after_first}
 
--- What is before the first byte that passes, and what is after it, if one passes.
+-- The text before the first byte that passes, and the text after it, if one passes.
 abbrev pub cut_at : (ℕ → Bool) → List ℕ → Option (List ℕ × List ℕ)
 cut_at p text =
     if nat_lt (position_or_len p text) (length text)
@@ -15,7 +15,7 @@ cut_at p text =
 abbrev pub parts : Option (Bor (List ℕ) × Bor (List ℕ)) → Option (List ℕ × List ℕ)
 parts o = option_map (λ p. (p.0.now, p.1.now)) o
 
--- What is behind a first byte, if a text begins with it.
+-- The text after a first byte, if a text begins with it.
 abbrev pub after : ℕ → List ℕ → Option (List ℕ)
 after first [] = None
 after first (b ∷ rest) = if b == first then Some rest else None

@@ -11,7 +11,7 @@ use crate::command::{Command, Id, Thread};
 use crate::digits::{is_hex, read_number};
 use crate::text::{split_once, strip};
 
-/// A command with nothing behind its name.
+/// A command with nothing after its name.
 pub fn bare<'a>(rest: &[u8], command: Command<'a>) -> Option<Command<'a>>
     ensures { result ≡ alone rest.now command.entry }
 {
@@ -29,7 +29,7 @@ pub fn some_digits(text: &[u8]) -> Option<&[u8]>
     }
 }
 
-/// `ADDRESS,LENGTH` and the like.
+/// `ADDRESS,LENGTH` and similar.
 #[tactic(auto, unfolding(crate::specs::Commands::range_of))]
 pub fn parse_range(text: &[u8]) -> Option<(u64, u64)>
     ensures { result ≡ range_of text.now }
@@ -98,7 +98,7 @@ pub fn parse_thread(text: &[u8]) -> Option<Thread>
     parse_process_thread(rest)
 }
 
-/// What follows a `p`.
+/// The argument of a `p`.
 #[tactic(auto, unfolding(crate::specs::Commands::process_thread))]
 fn parse_process_thread(text: &[u8]) -> Option<Thread>
     ensures { result ≡ process_thread (cut_at (λ b. b == 46) text.now) text.now }

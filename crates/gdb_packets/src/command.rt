@@ -1,4 +1,4 @@
-//! What a packet asks.
+//! The command of a packet.
 
 /// A packet's command (GDB's documentation, "Packets", "General Query Packets", "vCont packet",
 /// "Host I/O Packets").

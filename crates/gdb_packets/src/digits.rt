@@ -17,7 +17,7 @@ const NUMBER_LEN: usize = 16;
 /// The number of 1 to 16 digits, the highest first, as GDB writes addresses, lengths and ids.
 pub fn read_number(text: &[u8]) -> Option<u64>
     ensures exact { result ≡ number_of text.now }
-    // What was written is read again.
+    // The number that was written is read again.
     ensures again { (value : ℕ) → value < 2 ^ 64 → text.now ≡ digits 16 false value
         → result ≡ Some value }
 {
@@ -40,8 +40,8 @@ fn digits_number(text: &[u8]) -> Option<u64>
     Some(value)
 }
 
-/// Puts the digits of a number at the front of a room, with no leading zeros. Returns how many
-/// they are, or `None` where they are more than the room has, which then stays as it was.
+/// Puts the digits of a number at the front of a buffer, with no leading zeros. Returns how many
+/// they are, or `None` where they are more than the buffer has, which then stays as it was.
 pub fn write_number(value: u64, room: &mut [u8]) -> Option<usize>
     ensures { Writes (digits 16 false value) room.old room.new result }
 {
@@ -85,8 +85,8 @@ fn digit_of(value: u8) -> u8
     }
 }
 
-/// Puts two digits for each byte at the front of a room. Returns how many digits they are, or
-/// `None` where they are more than the room has, which then stays as it was.
+/// Puts two digits for each byte at the front of a buffer. Returns how many digits they are, or
+/// `None` where they are more than the buffer has, which then stays as it was.
 pub fn write_hex(bytes: &[u8], room: &mut [u8]) -> Option<usize>
     ensures { Writes (encode_lower bytes.now) room.old room.new result }
 {
@@ -117,12 +117,12 @@ fn is_digit(byte: u8) -> bool
     matches!(byte, b'0'..=b'9' | b'a'..=b'f' | b'A'..=b'F')
 }
 
-/// Puts the bytes of a text with two digits for each at the front of a room. Returns how many they
-/// are, or `None` where the text is no such text; the room then stays as it was.
+/// Puts the bytes of a text with two digits for each at the front of a buffer. Returns how many
+/// they are, or `None` where the text is no such text; the buffer then stays as it was.
 pub fn read_hex(text: &[u8], room: &mut [u8]) -> Option<usize>
     requires { length text.now ≤ 2 * length room.old }
     ensures exact { Puts (hex_bytes text.now) room.old room.new result }
-    // What was written is read again.
+    // The text that was written is read again.
     ensures again { (bytes : List ℕ) → IsBytes bytes → text.now ≡ encode_lower bytes
         → (result ≡ Some (length bytes)) × (take (length bytes) room.new ≡ bytes) }
 {
@@ -134,9 +134,9 @@ pub fn read_hex(text: &[u8], room: &mut [u8]) -> Option<usize>
     Some(len)
 }
 
-/// Puts the digits of a register's value at the front of a room: those of the `size` low bytes, the
-/// lowest first. Returns how many they are, or `None` where they are more than the room has, which
-/// then stays as it was.
+/// Puts the digits of a register's value at the front of a buffer: those of the `size` low bytes,
+/// the lowest first. Returns how many they are, or `None` where they are more than the buffer has,
+/// which then stays as it was.
 pub fn write_register(value: u64, size: usize, room: &mut [u8]) -> Option<usize>
     requires { size ≤ 8 }
     ensures { Writes (encode_lower (take size (to_le_bytes w64 value))) room.old room.new result }
@@ -147,7 +147,7 @@ pub fn write_register(value: u64, size: usize, room: &mut [u8]) -> Option<usize>
 /// The value of a register from the digits of its 1 to 8 bytes, the lowest first.
 pub fn read_register(text: &[u8]) -> Option<u64>
     ensures exact { result ≡ register_of text.now }
-    // What was written is read again.
+    // The value that was written is read again.
     ensures again { (value size : ℕ) → 0 < size → size ≤ 8 → value < 256 ^ size
         → text.now ≡ encode_lower (take size (to_le_bytes w64 value)) → result ≡ Some value }
 {

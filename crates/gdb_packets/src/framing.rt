@@ -25,8 +25,8 @@ pub fn checksum(bytes: &[u8]) -> u8
     sum
 }
 
-/// Puts the frame of a payload at the front of a room: `$`, the payload with its escapes, `#` and
-/// the checksum. Returns its length, or `None` where it is longer than the room, which then stays
+/// Puts the frame of a payload at the front of a buffer: `$`, the payload with its escapes, `#` and
+/// the checksum. Returns its length, or `None` where it is longer than the buffer, which then stays
 /// as it was.
 pub fn write_packet(payload: &[u8], room: &mut [u8]) -> Option<usize>
     ensures { Writes (frame_of_payload payload.now) room.old room.new result }
@@ -39,7 +39,7 @@ pub fn write_packet(payload: &[u8], room: &mut [u8]) -> Option<usize>
     Some(end + 3)
 }
 
-/// How much of a room the escaped payload leaves, if it fits.
+/// How much of a buffer the escaped payload leaves, if it fits.
 fn room_left(payload: &[u8], room: usize) -> Option<usize>
     ensures { SomeIff result (length (with_escapes payload.now) ≤ room)
         (room - length (with_escapes payload.now)) }
@@ -51,7 +51,7 @@ fn room_left(payload: &[u8], room: usize) -> Option<usize>
     Some(left)
 }
 
-/// Puts the escaped payload at the front of a room, and returns its length.
+/// Puts the escaped payload at the front of a buffer, and returns its length.
 fn escape(payload: &[u8], room: &mut [u8]) -> usize
     requires { length (with_escapes payload.now) ≤ length room.old }
     ensures len { result ≡ length (with_escapes payload.now) }
@@ -65,7 +65,7 @@ fn escape(payload: &[u8], room: &mut [u8]) -> usize
     len
 }
 
-/// Puts one byte, or its escape, at the front of a room, and returns how many bytes it took.
+/// Puts one byte, or its escape, at the front of a buffer, and returns how many bytes it took.
 fn escape_byte(byte: u8, room: &mut [u8]) -> usize
     requires { length (escape_of byte) ≤ length room.old }
     ensures len { result ≡ length (escape_of byte) }
@@ -88,7 +88,7 @@ fn is_special(byte: u8) -> bool
     matches!(byte, b'#' | b'$' | b'}' | b'*')
 }
 
-/// Puts `#` and the checksum of the data before `end` behind them.
+/// Puts `#` and the checksum of the data before `end` after them.
 fn close(room: &mut [u8], end: usize)
     requires begun { 1 ≤ end }
     requires fits { end + 3 ≤ length room.old }
@@ -101,15 +101,15 @@ fn close(room: &mut [u8], end: usize)
     let _ = hex::encode_to_slice([sum], &mut room[end + 1..end + 3]);
 }
 
-/// Puts the payload of a packet's data at the front of a room, without their escapes. Returns its
-/// length, or `None` where the data end in the midst of an escape; the room then holds what came
+/// Puts the payload of a packet's data at the front of a buffer, without their escapes. Returns its
+/// length, or `None` where the data end in the midst of an escape; the buffer then holds what came
 /// before that.
 pub fn unescape(bytes: &[u8], room: &mut [u8]) -> Option<usize>
     requires { length bytes.now ≤ length room.old }
     ensures payload { payload_of bytes.now ≡ option_map (λ n. take n room.new) result }
     ensures len { IfSome result (λ n. n ≤ length bytes.now) }
     ensures rest { IfSome result (λ n. drop n room.new ≡ drop n room.old) }
-    // What was escaped comes back.
+    // The payload that was escaped comes back.
     ensures again { (payload : List ℕ) → bytes.now ≡ with_escapes payload
         → (result ≡ Some (length payload)) × (take (length payload) room.new ≡ payload) }
 {

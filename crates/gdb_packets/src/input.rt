@@ -1,4 +1,4 @@
-//! What the bytes that came so far are.
+//! The meaning of the bytes that came so far.
 
 ghost use Rattle.std.specs.Prelude.{◌≡◌, ◌≢◌, ◌≤◌, ◌++◌, length, ℕ, List};
 ghost use Rattle.std.specs.List.{prefix_len};
@@ -15,7 +15,7 @@ pub const PACKET_SIZE: usize = 16_384;
 /// The most bytes of a packet with its frame: a buffer of this length holds every packet.
 pub const FRAME_LIMIT: usize = PACKET_SIZE + 4;
 
-/// What the first of the bytes that came are.
+/// The meaning of the first of the bytes that came.
 #[derive(Clone, Copy)]
 pub enum PacketInput<'a> {
     /// `$data#cc`: the data as they came, with their escapes, and the length of the whole.
@@ -54,7 +54,7 @@ pub fn read_input(bytes: &[u8]) -> PacketInput<'_>
 
     // It takes some of the bytes, or a bounded number of bytes is waited for.
     ensures takes { Takes bytes.now (seen result) }
-    // What was framed is read again, whatever follows it.
+    // The payload that was framed is read again, whatever follows it.
     ensures again { (payload rest : List ℕ) → length (with_escapes payload) ≤ PACKET_SIZE
         → bytes.now ≡ frame_of_payload payload ++ rest
         → seen result ≡ packet (with_escapes payload) (length (frame_of_payload payload)) }
@@ -80,7 +80,7 @@ fn first_input(bytes: &[u8]) -> PacketInput<'_>
     }
 }
 
-/// What follows a `$`.
+/// The bytes after a `$`.
 fn read_packet(rest: &[u8]) -> PacketInput<'_>
     ensures { seen result ≡ after_dollar rest.now }
 {

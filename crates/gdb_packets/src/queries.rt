@@ -39,7 +39,7 @@ pub fn parse_query(text: &[u8]) -> Option<Command<'_>>
     }
 }
 
-/// A query with nothing behind its name.
+/// A query with nothing after its name.
 fn parse_bare_query<'a>(name: &'a [u8], rest: &'a [u8]) -> Option<Command<'a>>
     requires other { name.now ≢ codes "MemTags" }
     requires another { name.now ≢ codes "Attached" }
@@ -300,7 +300,7 @@ fn action_of(text: &[u8]) -> Option<Action>
     }
 }
 
-/// An action with nothing behind its letter.
+/// An action with nothing after its letter.
 fn lone(rest: &[u8], action: Action) -> Option<Action>
     ensures { result ≡ lone rest.now action }
 {

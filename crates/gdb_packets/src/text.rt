@@ -31,7 +31,7 @@ fn front_len(text: &[u8], separator: u8) -> usize
     text.iter().take_while(|b| **b != separator).count()
 }
 
-/// What is behind a first byte, if a text begins with it.
+/// The text after a first byte, if a text begins with it.
 pub fn strip(text: &[u8], first: u8) -> Option<&[u8]>
     ensures { rest_of result ≡ after first text.now }
 {

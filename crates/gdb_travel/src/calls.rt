@@ -34,7 +34,7 @@ impl fmt::Display for Made {
     }
 }
 
-/// The heap calls that a tenant has made, the oldest first: it runs anew for them.
+/// The heap calls that a tenant has made, the oldest first: it runs again for them.
 pub(crate) fn made_calls(alloc: Global, tenant: &Traveller<'_>) -> Result<Vec<Made>, AllocError> {
     let mut all = Vec::new(alloc);
     let (mut past, steps) = tenant.past(alloc)?;

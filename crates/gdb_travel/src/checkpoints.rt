@@ -28,7 +28,7 @@ impl<'a> Checkpoints<'a> {
         }
     }
 
-    /// Notes where a tenant is, if it is an interval behind all that were noted.
+    /// Notes where a tenant is, if it is an interval after all that were noted.
     pub(crate) fn note(&mut self, alloc: Global, tenant: &Debuggee<'a>) {
         let last = steps_of(&self.far).max(steps_of(&self.near));
         if tenant.steps() < last.saturating_add(INTERVAL) {

@@ -46,7 +46,7 @@ fn is_in(chunk: &Allocation, address: u64) -> bool {
     start <= address.saturating_add(16) && address < start.saturating_add(chunk.size.max(16))
 }
 
-/// The first call behind an index that freed the chunk at an address.
+/// The first call after an index that freed the chunk at an address.
 fn freed_after(calls: &[Made], index: usize, start: u64) -> Option<Made> {
     calls
         .iter()

@@ -55,7 +55,7 @@ impl Points {
         self.breakpoints.is_empty() && self.watchpoints.is_empty()
     }
 
-    /// What is watched.
+    /// The accesses that are watched.
     pub fn watchpoints(&self) -> &[Watchpoint] {
         self.watchpoints.as_slice()
     }

@@ -9,9 +9,9 @@ use mte_tags::TagMode;
 use mte_tenant::{Status, TenantParts};
 use std::alloc::{AllocError, Global};
 
-/// A tenant that is moved forwards and backwards. To go back it begins at a checkpoint, or anew. It
-/// holds four memories at most: its own, those of two checkpoints, and that of one that looks ahead
-/// or goes back.
+/// A tenant that is moved forwards and backwards. To go back it begins at a checkpoint, or at its
+/// first instruction. It holds four memories at most: its own, those of two checkpoints, and that
+/// of one that looks ahead or goes back.
 #[derive(Drop)]
 pub struct Traveller<'a> {
     /// The tenant where it is.
@@ -42,7 +42,7 @@ impl<'a> Traveller<'a> {
         self.now.parts()
     }
 
-    /// What a tag that differs does.
+    /// The mode of tag checks.
     pub fn mode(&self) -> TagMode {
         self.now.mode()
     }

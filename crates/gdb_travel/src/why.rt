@@ -12,7 +12,7 @@ use std::alloc::{AllocError, Global};
 use std::io;
 use std::io::Write;
 
-/// What is debugged.
+/// The tenant that is debugged.
 #[derive(Clone, Copy)]
 pub struct DebugSubject<'a> {
     /// The image.
@@ -23,8 +23,8 @@ pub struct DebugSubject<'a> {
     pub seed: Option<u64>,
 }
 
-/// Writes why a tenant ended, as the report has it: it runs anew for that. Of one that can go on it
-/// writes how many steps it has done.
+/// Writes why a tenant ended, as the report has it: it runs again for that. Of one that can
+/// continue it writes how many steps it has done.
 pub fn tell_why<W: Write>(
     alloc: Global,
     out: &mut W,
@@ -59,14 +59,14 @@ pub fn tell_why<W: Write>(
 /// How many of the last instructions are remembered, by which a cause is found.
 const LAST: usize = 16;
 
-/// What is remembered of a tenant that runs anew.
+/// The records of a tenant that runs again.
 #[derive(Drop)]
 struct Remembered {
     /// Its heap calls.
     book: Book,
     /// Its last instructions, the oldest first.
     last: HeapCircularBuffer<Moment>,
-    /// What wrote the target last of the jump to no code that ended it, if it is known.
+    /// The store that wrote the target last of the jump to no code that ended it, if it is known.
     store: Option<LastStore>,
 }
 
@@ -96,7 +96,7 @@ fn report_of<'x, 'n>(
     }
 }
 
-/// The same tenant where it is, and what is remembered of its way: it runs anew for that.
+/// The same tenant where it is, and what is remembered of its way: it runs again for that.
 fn retold<'a>(
     alloc: Global,
     tenant: &Traveller<'a>,
@@ -117,8 +117,8 @@ fn retold<'a>(
     Ok((past, remembered))
 }
 
-/// What wrote the target last of the jump to no code that ended a tenant, if one did: it runs anew
-/// for that, up to the load of the target.
+/// The store that wrote the target last of the jump to no code that ended a tenant, if one did: it
+/// runs again for that, up to the load of the target.
 fn store_of(
     alloc: Global,
     tenant: &Traveller<'_>,

@@ -1,4 +1,4 @@
--- What a plain address is for, and which block of a size class it is in.
+-- The use of a plain address, and which block of a size class it is in.
 use Rattle.std.specs.Prelude.{◌≡◌, ℕ, ◌+◌, ◌-◌, ◌%◌, ◌<◌, ◌≤◌}
 use Rattle.common.specs.declared.ranges.TheConstants.{REGION_SIZE}
 use Rattle.scudo_header.specs.Classes.{IsClass, size_of}

@@ -1,4 +1,4 @@
--- What an answered heap call did to chunks, and where a chunk's bytes lie.
+-- The effect of an answered heap call on chunks, and where a chunk's bytes lie.
 use Rattle.std.specs.Prelude.{ℕ, ◌*◌, ◌^◌, ◌%◌, ◌==◌, Option, Some, None, option_map}
 use Rattle.std.specs.Prelude.{if◌then◌else◌}
 use Rattle.a64_bits.specs.Addresses.{plain}

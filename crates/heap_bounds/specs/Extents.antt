@@ -1,4 +1,4 @@
--- What an access to a byte of the heap does to a chunk.
+-- The effect of an access to a byte of the heap on a chunk.
 use Rattle.std.specs.Prelude.{ℕ, ◌*◌, ◌/◌, ◌<◌, ◌≤◌}
 use Rattle.heap_bounds.specs.declared.bounds.ChunkBytes.{ChunkBytes}
 

@@ -1,4 +1,4 @@
-//! What an address is for.
+//! The use of an address.
 
 ghost use Rattle.std.specs.Prelude.{◌≡◌, ℕ, ◌↔◌, ◌≤◌, ◌<◌, IfSome, None};
 ghost use Rattle.common.specs.declared.ranges.TheConstants.{IMAGE_START, IMAGE_END};
@@ -13,7 +13,7 @@ use common::{
 use scudo_header::{CLASSES, size_of_class};
 use std::fmt;
 
-/// What a range of addresses is for.
+/// The use of a range of addresses.
 #[derive(Clone, Copy, PartialEq, Eq)]
 pub enum RangeUse {
     /// An image's segments.

@@ -12,7 +12,7 @@ use std::alloc::{AllocError, Global};
 use std::collections::BTreeMap;
 use std::marker::Model;
 
-/// What an access does that a chunk's bounds forbid.
+/// An access that a chunk's bounds forbid.
 #[derive(Clone, Copy, Debug)]
 pub enum Trespass {
     /// It goes past the size of a live chunk, in the chunk's last granule.
@@ -54,7 +54,7 @@ impl ChunkBytes {
         self.start <= addr && addr / 16 * 16 < self.end
     }
 
-    /// What an access to a byte does, where it is wrong.
+    /// The fault of an access to a byte, where it is wrong.
     fn trespass(&self, addr: u64) -> Option<Trespass>
         ensures none { (result ≡ None) ↔ ((self.now.live ≡ true) × IsByteOf self.now addr) }
         ensures no_chunk { (result ≡ Some NoChunk) ↔ (IsGranuleOf self.now addr → ⊥) }
@@ -184,7 +184,7 @@ impl Bounds {
         }
     }
 
-    /// What an access to the byte at a plain address does, where it is wrong.
+    /// The fault of an access to the byte at a plain address, where it is wrong.
     fn check_byte(&self, addr: u64) -> Option<Trespass> {
         match RangeUse::of(addr) {
             RangeUse::Class(_) | RangeUse::Large => match self.extent_at(addr) {

@@ -1,4 +1,4 @@
-//! What a heap call does to chunks.
+//! The effect of a heap call on chunks.
 
 ghost use Rattle.std.specs.Prelude.{◌≡◌};
 ghost use Rattle.heap_bounds.specs.Chunks.{returned_chunk, ended_chunk};

@@ -17,8 +17,8 @@ pub struct Span {
     pub is_write: bool,
 }
 
-/// What the instruction of a word or the service that it requested accessed, by the registers
-/// before and after it. A service's result says how many bytes it took.
+/// The bytes that the instruction of a word or the service that it requested accessed, by the
+/// registers before and after it. A service's result says how many bytes it took.
 pub fn span_of(word: u32, before: &Regs, after: &Regs) -> Option<Span> {
     let instr = decode(word)?;
     if let Instr::Svc = instr {
@@ -35,7 +35,7 @@ pub fn span_of(word: u32, before: &Regs, after: &Regs) -> Option<Span> {
     })
 }
 
-/// What the service accessed that reads or writes for the tenant.
+/// The bytes that a service accessed which reads or writes for the tenant.
 fn span_of_service(before: &Regs, after: &Regs) -> Option<Span> {
     let service = before.x[8];
     if service != WRITE && service != READ {

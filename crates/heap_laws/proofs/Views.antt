@@ -33,7 +33,7 @@ pub record SoundBlocks (m : Memory) (h : StackState) (l : LiveBlocks) : Type 0 w
   pub placed : ArePlaced h l
   pub tagged : AreTagged m h l
 
--- of these, what a change of one block shows anew; the rest is the heap's condition
+-- of these, what a change of one block shows again; the rest is the heap's condition
 pub record TaggedBlocks (m : Memory) (h : StackState) (l : LiveBlocks) : Type 0 where
   pub whole : IsWhole m
   pub limit : m.limit ≤ MAX_PAGES

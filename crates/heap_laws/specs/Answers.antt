@@ -1,4 +1,4 @@
--- What a call answers is the pointer to its chunk, which may be used through it.
+-- A call answers the pointer to its chunk, which may be used through it.
 --     AnswersPointerTo s c x    the call c answers the pointer to the chunk x
 --     asked_bytes c             how many bytes a call asks for
 use Rattle.std.specs.Prelude.{◌≡◌, ◌≢◌, ℕ, ◌+◌, ◌*◌, max, Some, Ok}

@@ -111,7 +111,7 @@ live_realloc_cases w l size (Ok f) = live_after_realloc w l f size
 
 -- ---- calls
 
--- What the checks of a pointer find.
+-- The findings of a pointer's checks.
 abbrev pub found_at : World → ℕ → Result Found HeapAbort
 found_at w pointer = check_pointer w.memory w.heap (plain pointer)
 

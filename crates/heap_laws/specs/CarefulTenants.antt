@@ -1,4 +1,4 @@
--- A tenant's machine through careful instructions, with its live chunks beside it.
+-- A tenant's machine through careful instructions, with its live chunks next to it.
 --     state_of m l         the state of the machine m with the live chunks l
 --     next_call m          the heap call of the next instruction, if it is a service of the heap
 --     live_after m l       the live chunks after the next attempted instruction

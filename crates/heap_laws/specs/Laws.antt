@@ -1,4 +1,4 @@
--- Accesses that fault, and blocks beside each other.
+-- Accesses that fault, and blocks next to each other.
 use Rattle.std.specs.Prelude.{◌≡◌, ℕ, ◌+◌, ◌%◌, ◌^◌, ◌<◌, ◌≤◌, ◌⊎◌, true, IsSome}
 use Rattle.a64_bits.specs.Addresses.{plain, address_tag}
 use Rattle.mte_tags.specs.Memory.{Memory}

@@ -1,9 +1,9 @@
--- The live chunks of the size classes beside a run: by user address where each is, its tag, and
+-- The live chunks of the size classes along a run: by user address where each is, its tag, and
 -- the header that the heap wrote for it; and what holds of them where a tenant stores no tags.
 --     chunk_at l u         the chunk at a user address
 --     IsPlace s p          a place is in a carved block, with a granule for the header before it
 --     ArePlaced s l        each chunk has a block of its own, which is in no stack
---     AreTagged m s l      each chunk's granules have its tag, and those beside it tag 0
+--     AreTagged m s l      each chunk's granules have its tag, and those next to it tag 0
 use Rattle.std.specs.Prelude.{◌≡◌, ◌≢◌, ℕ, ◌+◌, ◌-◌, ◌/◌, ◌%◌, ◌<◌, ◌≤◌, ◌⊎◌, Option, Some, true}
 use Rattle.std.specs.Prelude.{false}
 use Rattle.std.specs.Ordering.{nat_cmp}
@@ -58,7 +58,7 @@ pub record IsCarved (s : StackState) (c b : ℕ) : Type 0 where
   pub class : IsClass c
   pub block : IsBlock c (pages_of s c) b
 
--- A chunk is in a carved block, behind its header.
+-- A chunk is in a carved block, after its header.
 pub record IsPlace (s : StackState) (p : Place) : Type 0 where
   pub carved : IsCarved s p.class p.block
   pub aligned : p.user % 16 ≡ 0

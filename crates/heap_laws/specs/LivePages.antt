@@ -1,4 +1,4 @@
--- The live chunks with pages of their own beside a run, by user address; and what holds of them.
+-- The live chunks with pages of their own along a run, by user address; and what holds of them.
 --     large_at g u       the chunk at a user address
 --     AreLarge ms g      each is with its header in the mapping of its user address
 use Rattle.std.specs.Prelude.{◌≡◌, ℕ, ◌+◌, ◌%◌, ◌^◌, ◌<◌, ◌≤◌, List, Option, Some}

@@ -1,4 +1,4 @@
--- What a reallocation does with the chunk that it names.
+-- The effect of a reallocation on the chunk that it names.
 use Rattle.std.specs.Prelude.{◌≡◌, ◌≢◌, ℕ, ◌+◌, ◌<◌, ◌≤◌}
 use Rattle.std.specs.Prelude.{Some, Ok, false}
 use Rattle.std.specs.List.{list_any}

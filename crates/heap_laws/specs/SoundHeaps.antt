@@ -1,5 +1,5 @@
--- What holds of a tenant's memory, its heap and its live chunks, in the synchronous mode, where the
--- tenant stores no tags and leaves headers unwritten.
+-- The invariant of a tenant's memory, its heap and its live chunks, in the synchronous mode, where
+-- the tenant stores no tags and leaves headers unwritten.
 use Rattle.std.specs.Prelude.{◌≡◌, ◌≤◌}
 use Rattle.mte_tags.specs.declared.state.TagMode.TheVariants.{Sync}
 use Rattle.mte_tags.specs.Whole.{IsWhole}
@@ -9,7 +9,7 @@ use Rattle.heap_laws.specs.LiveChunks.{ArePlaced, AreTagged}
 use Rattle.heap_laws.specs.LivePages.{AreLarge}
 use Rattle.heap_laws.specs.CarefulRuns.{State}
 
--- What holds throughout a careful run in the synchronous mode.
+-- The invariant throughout a careful run in the synchronous mode.
 pub record Sound (s : State) : Type 0 where
   pub whole : IsWhole s.world.memory
   pub limit : s.world.memory.limit ≤ MAX_PAGES

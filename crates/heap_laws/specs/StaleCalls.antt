@@ -1,4 +1,4 @@
--- What free, realloc and usable_size do by a stale pointer: they go by its address alone.
+-- The effect of free, realloc and usable_size by a stale pointer: they go by its address alone.
 use Rattle.std.specs.Prelude.{◌≡◌, ◌≢◌, ℕ, None, Ok}
 use Rattle.a64_bits.specs.Addresses.{plain}
 use Rattle.scudo_heap.specs.declared.call.HeapCall.TheVariants.{Free, Realloc, UsableSize}

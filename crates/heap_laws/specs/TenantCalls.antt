@@ -1,4 +1,4 @@
--- What a tenant may use, and its heap calls.
+-- The memory that a tenant may use, and its heap calls.
 use Rattle.std.specs.Prelude.{◌≡◌, ℕ, Some, ◌≢◌, true}
 use Rattle.scudo_secondary.specs.Mappings as secondary
 use Rattle.scudo_heap.specs.Chunks.{end_of}

@@ -69,7 +69,7 @@ ReusedTagsStayDifferent =
 
 -- ---- tenants of a session
 
--- What the other laws rest on holds of each tenant of a host whose slices were careful, whatever
+-- The premises of the other laws hold of each tenant of a host whose slices were careful, whatever
 -- the other tenants did.
 abbrev pub TenantsStaySound : Type 0
 TenantsStaySound =

@@ -89,7 +89,7 @@ pub fn freed_chunks_stay_freed()
     ensures { FreedChunksInTurns }
 {}
 
-/// The life of a chunk in a tenant of a session, beside any other tenants: malloc makes it, live
+/// The life of a chunk in a tenant of a session, next to any other tenants: malloc makes it, live
 /// and zero; it may be used, and not its surroundings; once it is freed it is out of reach and is
 /// not freed again; its address is given out with another tag. Wherever malloc makes a chunk in a
 /// block, the premises of the laws of freed chunks are met.

@@ -15,7 +15,7 @@ ghost use Rattle.heap_laws.specs.OtherTags.{OtherTagsAreRefused, FreedTagsDiffer
 ghost use Rattle.heap_laws.specs.LargeChunks.{LargeChunksAreGuarded};
 ghost use Rattle.heap_laws.specs.DrawnTags.{AllowedTagsAreDrawn};
 
-/// What the other laws rest on holds of a new heap, and after each step of a careful run.
+/// The premises of the other laws hold of a new heap, and after each step of a careful run.
 pub fn careful_runs_are_sound()
     ensures start { StartsSound }
     ensures run { StaysSound }

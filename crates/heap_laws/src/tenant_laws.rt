@@ -1,6 +1,6 @@
 //! The laws of careful runs for tenants: a tenant in the synchronous mode that stores no tags
 //! itself and whose heap calls are careful is in a state that `tag_laws` is about, along its
-//! instructions, over the ends of its slices, and in a session beside any other tenants.
+//! instructions, over the ends of its slices, and in a session next to any other tenants.
 
 ghost use Rattle.heap_laws.specs.TenantLaws.{TenantsStartSound, SlicesStaySound};
 ghost use Rattle.heap_laws.specs.TenantLaws.{TenantsStaySound, ReusedTagsStayDifferent};
@@ -11,7 +11,7 @@ ghost use Rattle.heap_laws.specs.TenantLaws.{ChunksOfTenantsAreGuarded};
 ghost use Rattle.heap_laws.specs.TenantCalls.{ChunksOfTenantsMayBeUsed, ServicesAreCalls};
 ghost use Rattle.heap_laws.specs.TenantCalls.{AskedBytesOfTenantsMayBeUsed};
 
-/// What the laws rest on holds of a tenant that is admitted, and after each slice of careful
+/// The premises of the laws hold of a tenant that is admitted, and after each slice of careful
 /// instructions: of each tenant of a host whose slices were careful, whatever the other tenants
 /// did.
 pub fn careful_tenants_are_sound()

@@ -37,7 +37,7 @@ impl Spot {
     }
 }
 
-/// An arrow from a granule to another one, as `{}` writes it. It is written behind the rows.
+/// An arrow from a granule to another one, as `{}` writes it. It is written after the rows.
 #[derive(Clone, Copy)]
 pub struct Arrow {
     /// Where it begins.

@@ -1,11 +1,11 @@
-//! What is said between two rows that do not follow each other.
+//! The text between two rows that do not follow each other.
 
 use crate::layout::PITCH;
 use crate::part::Part::{Hexadecimal, Number, Text};
 use crate::part::write_parts;
 use std::fmt;
 
-/// The addresses that are left out between two rows, as `{}` writes them in place of a row.
+/// The addresses that are left out between two rows, as `{}` writes them instead of a row.
 #[derive(Clone, Copy)]
 pub struct Gap {
     /// The number in the picture that a row would have there, from 0.

@@ -1,4 +1,4 @@
-//! What is above the rows: the title, what the colours and lines mean, and the pages.
+//! The heading above the rows: the title, what the colours and lines mean, and the pages.
 
 use crate::layout::{PITCH, ROWS};
 use crate::legend::{Definitions, Legend};
@@ -7,12 +7,12 @@ use crate::part::Part::{Number, Text};
 use crate::part::{Escaped, write_parts};
 use std::fmt;
 
-/// What is above the rows: the title, what the colours and lines mean, and the pages.
+/// The heading above the rows: the title, what the colours and lines mean, and the pages.
 #[derive(Clone, Copy)]
 pub struct Heading<'a> {
     /// The title, any text of one line.
     pub title: &'a str,
-    /// What happened where, any text of one line.
+    /// The title, any text of one line.
     pub story: &'a str,
     /// The pages that are mapped; the first 60 ranges are listed.
     pub pages: &'a [MappedRange],
@@ -58,10 +58,10 @@ impl<'a> fmt::Display for Heading<'a> {
     }
 }
 
-/// What is before the height of the picture.
+/// The text before the height of the picture.
 const OPEN: &str = "<svg xmlns=\"http://www.w3.org/2000/svg\" width=\"1600\" height=\"";
 
-/// What is between the height and the height of the box that is seen.
+/// The text between the height and the height of the box that is seen.
 const BOX: &str = "\" viewBox=\"0 0 1600 ";
 
 /// The rest of the element.
@@ -73,10 +73,10 @@ const LONGEST: usize = 130;
 /// The most letters of a story that has its usual width.
 const LONGEST_STORY: usize = 180;
 
-/// What makes a longer title as wide as the picture.
+/// The text that makes a longer title as wide as the picture.
 const FIT: &str = " textLength=\"1560\" lengthAdjust=\"spacingAndGlyphs\"";
 
-/// What is beside the list of pages.
+/// The label of the list of pages.
 const PAGES: &str = "<text class=\"at\" x=\"-10\">pages</text>\n";
 
 /// From the top of a picture to the bottom of the first line of pages.
@@ -91,5 +91,5 @@ const RULER: &str = "<text class=\"ruler\" y=\"-8\">+0</text>\
     <text class=\"ruler\" x=\"512\" y=\"-8\">+0x200</text>\
     <text class=\"ruler\" x=\"768\" y=\"-8\">+0x300</text>\n";
 
-/// What is after the last line.
+/// The text after the last line.
 pub const END: &str = "</g>\n</svg>\n";

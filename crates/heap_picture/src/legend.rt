@@ -1,4 +1,4 @@
-//! What the colours and lines of a picture mean.
+//! The meaning of a picture's colours and lines.
 
 use crate::cell::{CELL_WIDTH, Cell};
 use crate::part::Part::{Number, Tag, Text};
@@ -12,8 +12,8 @@ const COLOURS: [&str; 16] = [
     "#d8d684", "#93dee6", "#ffe86e", "#74c7b0", "#8fa6dc", "#ecc6a8", "#c3e85f", "#d99ad8",
 ];
 
-/// What the rows name: how the elements of a class look, and a cell for each tag, `t0` to `t15`,
-/// and for memory that is not mapped, `u`.
+/// The styles that rows name: how the elements of a class look, and a cell for each tag, `t0` to
+/// `t15`, and for memory that is not mapped, `u`.
 #[derive(Clone, Copy)]
 pub struct Definitions;
 
@@ -34,7 +34,7 @@ impl fmt::Display for Definitions {
 /// The rest of a tag's cell up to its colour.
 const CELL: &str = "\"><rect width=\"16\" height=\"18\" fill=\"";
 
-/// What is between the colour of a tag's cell and its number.
+/// The text between the colour of a tag's cell and its number.
 const CELL_TEXT: &str = "\"/><text class=\"tag\" x=\"8\" y=\"13\">";
 
 /// How the elements of a class look.
@@ -69,7 +69,7 @@ const PATTERNS: &str = "<g id=\"u\"><rect width=\"16\" height=\"18\" fill=\"#bbb
     <path d=\"M0,0L8,4L0,8z\" fill=\"#e00000\"/></marker>\n\
     <clipPath id=\"row\"><rect x=\"7\" y=\"-4\" width=\"1026\" height=\"26\"/></clipPath>\n";
 
-/// What the colours and lines mean, on three lines of 18 pixels, 10 apart.
+/// The meaning of the colours and lines, on three lines of 18 pixels, 10 apart.
 #[derive(Clone, Copy)]
 pub struct Legend;
 

@@ -2,7 +2,7 @@
 //! the blocks, the chunks that are live or freed, and the access or pointer that was refused.
 //!
 //! A picture is the text of a [`Heading`], of its [`PictureLine`]s in order, each with its
-//! [`Note`]s behind it, of an [`Arrow`] where there is one, and [`END`]. A [`Gap`] is between
+//! [`Note`]s after it, of an [`Arrow`] where there is one, and [`END`]. A [`Gap`] is between
 //! rows that do not follow each other.
 #![tactic(auto)]
 

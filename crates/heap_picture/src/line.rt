@@ -8,7 +8,7 @@ use crate::row::{Boundaries, Cells, FirstGranules, PictureRow};
 use crate::run::RowChunks;
 use std::fmt;
 
-/// What is marked.
+/// The mark of a granule.
 #[derive(Clone, Copy)]
 pub enum Marked {
     /// An access that faulted.
@@ -45,7 +45,7 @@ pub struct PictureLine {
     pub row: PictureRow,
     /// Its number in the picture, from 0.
     pub number: usize,
-    /// What was refused, which is drawn where its address is in the row.
+    /// The refused access, which is drawn where its address is in the row.
     pub mark: Option<Mark>,
 }
 
@@ -92,7 +92,7 @@ impl fmt::Display for PictureLine {
     }
 }
 
-/// What is behind the row with the mark, and behind what is said above it.
+/// The text after the row with the mark, and after the notes above it.
 const BAND: &str = "<rect class=\"band\" x=\"-166\" y=\"-34\" width=\"1220\" height=\"64\"/>";
 
 /// How far above its row what is said of a mark begins.
@@ -124,7 +124,7 @@ impl ChunkFrame {
         write!(f, "<g transform=\"translate(0 {ABOVE})\">{cell}</g>")
     }
 
-    /// Writes where what is said begins: behind the cell above the granule, or before it where the
+    /// Writes where what is said begins: after the cell above the granule, or before it where the
     /// row has more room there.
     fn write_start<W: fmt::Write>(&self, f: &mut fmt::Formatter<W>, left: u64) -> fmt::Result {
         let (end, y) = (Text("\" y=\"-19\">"), Text("\" x=\""));

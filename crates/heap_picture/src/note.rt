@@ -1,4 +1,4 @@
-//! What is said of a chunk.
+//! The note of a chunk.
 
 use crate::cell::CELL_WIDTH;
 use crate::layout::PITCH;
@@ -9,9 +9,9 @@ use std::fmt;
 /// The width of a letter of a label.
 const LETTER: u64 = 6;
 
-/// What is said of granules that follow each other in a row: a label below them and the granule
-/// behind them, which is a header, and a title that viewers show where one points at them. Where
-/// there is no room for the label, only its first word is written. It is written behind the row.
+/// The note of granules that follow each other in a row: a label below them and the granule
+/// after them, which is a header, and a title that viewers show where one points at them. Where
+/// there is no space for the label, only its first word is written. It is written after the row.
 #[derive(Clone, Copy)]
 pub struct Note<'a> {
     /// The number of the row in the picture, from 0.
@@ -34,7 +34,7 @@ impl<'a> Note<'a> {
         CELL_WIDTH.saturating_mul(self.end.saturating_sub(self.start) as u64)
     }
 
-    /// The label, or its first word where there is no room for more.
+    /// The label, or its first word where there is no space for more.
     fn fitting_label(&self) -> &'a str {
         let room = self.width().saturating_add(CELL_WIDTH);
         if LETTER.saturating_mul(self.label.len() as u64) <= room {

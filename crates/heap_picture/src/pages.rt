@@ -5,7 +5,7 @@ use crate::part::write_parts;
 use common::PAGE_SIZE;
 use std::fmt;
 
-/// What a range of pages is for.
+/// The use of a range of pages.
 #[derive(Clone, Copy)]
 pub enum Kind {
     /// An image's segments.
@@ -37,7 +37,7 @@ pub struct MappedRange {
     pub start: u64,
     /// Their number.
     pub count: u64,
-    /// What they are for.
+    /// The use of the pages.
     pub kind: Kind,
 }
 

@@ -1,4 +1,4 @@
-//! What a row of a picture shows.
+//! A row of a picture.
 
 ghost use Rattle.std.specs.Prelude.{◌≡◌, ◌↔◌, ◌⊎◌, ◌+◌, ◌*◌, ◌<◌, ◌≤◌, IfSome, None};
 ghost use Rattle.common.specs.declared.limits.TheConstants.{GRANULE_SIZE};
@@ -72,7 +72,7 @@ impl PictureRow {
         behind.and_then(|bytes| bytes.checked_rem(self.size)) == Some(0)
     }
 
-    /// How many granules are shown: in a row of blocks those up to two blocks behind the last that
+    /// How many granules are shown: in a row of blocks those up to two blocks after the last that
     /// has a tag, a chunk or the mark.
     pub(crate) fn shown(&self, marked: Option<usize>) -> usize {
         if self.size == 0 {

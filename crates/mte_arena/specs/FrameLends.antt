@@ -1,4 +1,4 @@
--- What an arena ends as, once a loan of a frame's bytes has ended.
+-- An arena after a loan of a frame's bytes has ended.
 use Rattle.std.specs.Prelude.{ℕ, List, Option}
 use Rattle.std.specs.Borrow.{Fml, MutBor, Lends, LendsIf, Array, u8}
 use Rattle.mte_arena.specs.Frames.{Frame, with_bytes, with_bytes_cases}

@@ -1,4 +1,4 @@
--- What a contract sees of an arena: a list of optional frames. A frame that is absent has no bytes
+-- An arena as contracts see it: a list of optional frames. A frame that is absent has no bytes
 -- and no tags.
 --     IsLive fs f                the frame f is present
 --     frame_at fs f              the frame f, where it is present

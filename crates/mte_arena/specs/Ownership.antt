@@ -1,4 +1,4 @@
--- What the parts of an arena own, in the logic's terms: of each frame's 4224 bytes either raw
+-- The ownership of an arena's parts, in the logic's terms: of each frame's 4224 bytes either raw
 -- memory, which nothing can read, or the bytes that were written there.
 use Rattle.std.specs.Prelude.{ℕ, ◌+◌, ◌*◌, ◌^◌, List, [], ◌∷◌, length, Option, Some, None}
 use base.Fraction.{full_share}

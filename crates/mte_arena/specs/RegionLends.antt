@@ -1,4 +1,4 @@
--- What a region ends as, once the loan of a part of a frame has ended.
+-- A region after the loan of a part of a frame has ended.
 use Rattle.std.specs.Prelude.{ℕ, List, slice_set, Option, Some}
 use Rattle.std.specs.Borrow.{Fml, MutBor, Lends, Array, u8}
 use Rattle.mte_arena.specs.Blocks.{block_at, with_part}

@@ -1,4 +1,4 @@
--- What holds of the fields of an arena.
+-- The invariant of an arena's fields.
 use Rattle.std.specs.Prelude.{◌≡◌, ◌≤◌, length}
 use Rattle.common.specs.declared.limits.TheConstants.{MAX_FRAMES}
 use Rattle.mte_arena.specs.Blocks.{presence, AreBlocks}

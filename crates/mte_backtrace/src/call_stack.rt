@@ -60,7 +60,7 @@ impl CallStack {
     }
 
     /// The calls by x30, or 0, which may be that of a call that has returned, and the return
-    /// addresses of records, and 0 behind the last.
+    /// addresses of records, and 0 after the last.
     fn new(
         alloc: Global,
         pc: u64,
@@ -109,7 +109,7 @@ impl CallStack {
         Ok(())
     }
 
-    /// Writes the addresses of its instruction and its calls, each behind a blank.
+    /// Writes the addresses of its instruction and its calls, each after a blank.
     pub fn write_addresses<W: Write>(&self, out: &mut W) -> io::Result<()> {
         write!(out, " {:#x}", self.pc)?;
         for caller in &self.callers {
@@ -136,7 +136,7 @@ fn write_frames<W: Write>(
     Ok(number)
 }
 
-/// What is said of a caller that may be none.
+/// The text of a caller that may be none.
 const OLD: &str = " (x30, may be old)";
 
 /// In how many instructions at its start a function writes its frame record.

@@ -14,7 +14,7 @@ const DEPTH: usize = 7;
 pub struct Callers {
     /// x30, or 0 where it has no caller that a record does not.
     pub(crate) link: u64,
-    /// The addresses of the frame records, the innermost first, and 0 behind the last.
+    /// The addresses of the frame records, the innermost first, and 0 after the last.
     pub(crate) records: [u64; DEPTH],
 }
 
@@ -31,7 +31,7 @@ impl Callers {
     }
 }
 
-/// Fills numbers with the return addresses of frame records, and with 0 behind the last one.
+/// Fills numbers with the return addresses of frame records, and with 0 after the last one.
 pub fn fill<M: Tagged>(memory: &mut M, regs: &Regs, records: &mut [u64])
     ensures memory { M.memory memory.new ≡ M.memory memory.old }
     ensures kept { M.kept memory.old memory.new }

@@ -8,7 +8,7 @@ use debug_lines::SourceLine;
 use elf_symbols::{SymbolName, SymbolOffset};
 use std::fmt;
 
-/// What a frame is called.
+/// The name of a frame.
 #[derive(Clone, Copy)]
 pub enum FrameName<'a> {
     /// The name of a function that was inlined, where it has one.
@@ -57,7 +57,7 @@ fn write_label<W: fmt::Write>(f: &mut fmt::Formatter<W>, place: &SymbolOffset<'_
     write!(f, "{label}")
 }
 
-/// The frames of an address, the innermost first: a call's line is that of the frame behind it.
+/// The frames of an address, the innermost first: a call's line is that of the frame after it.
 #[derive(Clone, Copy)]
 pub struct FramesAt<'n, 'a> {
     calls: CallsAt<'n, 'a>,

@@ -1,4 +1,4 @@
-//! What the addresses of an image are called.
+//! The names of an image's addresses.
 
 use crate::frames::FramesAt;
 use debug_info::{DebugInfo, InlinedCalls};
@@ -31,7 +31,7 @@ impl<'a> Names<'a> {
         })
     }
 
-    /// What some addresses are called, by one pass over the line tables and one over the entries of
+    /// The names of some addresses, by one pass over the line tables and one over the entries of
     /// functions. `Err` where there is no memory for their lines and inlined calls.
     pub fn of_frames(
         &self,
@@ -46,7 +46,7 @@ impl<'a> Names<'a> {
     }
 }
 
-/// Addresses whose names and lines are wanted.
+/// Addresses whose names and lines are requested.
 #[derive(Drop)]
 pub struct FrameAddresses {
     addresses: Vec<u64>,

@@ -5,7 +5,7 @@ ghost use Rattle.std.specs.Prelude.{◌≡◌};
 use elf_symbols::{SymbolOffset, Symbols};
 use mte_tags::Tagged;
 
-/// How far behind a function's start its frame record is looked for, in bytes.
+/// How far after a function's start its frame record is looked for, in bytes.
 const REACH: u64 = 256;
 
 /// Whether x30 has the return address of the function that an instruction is in, and no frame

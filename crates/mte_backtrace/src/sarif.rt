@@ -52,7 +52,7 @@ fn write_encoded<W: fmt::Write>(f: &mut fmt::Formatter<W>, path: &str) -> fmt::R
     Ok(())
 }
 
-/// The parts of a location that a frame has, each behind the comma of the one in front.
+/// The parts of a location that a frame has, each after the comma of the one in front.
 #[derive(Clone, Copy)]
 struct FrameParts<'a>(StackFrame<'a>);
 

@@ -1,4 +1,4 @@
-//! The frames that a line has room for.
+//! The frames that a line has capacity for.
 
 use crate::call_stack::CallStack;
 use crate::frames::{FramesAt, StackFrame};

@@ -46,7 +46,7 @@ any_header-next file at i count p r below other e =
     let f = rw (one_more, other) at e in
     rw next at f
 
--- the code looks at the segments behind the one at i
+-- the code looks at the segments after the one at i
 pub any_share_page-next : (segments : List Segment) (i n : ℕ) (d : Segment) → i < length segments
     → length (drop (i + 1) segments) ≤ n
     → list_any (share_page (get_or segments i d)) (take n (drop (i + 1) segments)) ≡ false

@@ -115,7 +115,7 @@ ready_first size m s more h =
     let bytes = and_true (has_bytes s) (list_all has_bytes more) h.some in
     ((and_true (is_in_range size s) (list_all (is_in_range size) more) h.in_range).0, ltb-true 0 s.memsz bytes.0, h.free.0, omega arith)
 
--- and the others behind it
+-- and the others after it
 pub ready_next : (file : List ℕ) (size : ℕ) (m : Memory) (s : Segment) (more : List Segment) → IsReady size m (s ∷ more) → IsReady size (with_segment file m s) more
 unfolding with_segment
 ready_next file size m s more h =

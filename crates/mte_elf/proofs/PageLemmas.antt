@@ -55,7 +55,7 @@ pub record IsWritten (m : Memory) (q : ℕ) (p : Page) (a : ℕ) (bs : List ℕ)
   pub inside : (i : ℕ) → i < length bs → (a + i) / 4096 ≡ q → get_or page.bytes ((a + i) % 4096) 0 ≡ get_or bs i 0
   pub outside : (o : ℕ) → ((i : ℕ) → i < length bs → a + i ≢ 4096 * q + o) → get_or page.bytes o 0 ≡ get_or p.bytes o 0
 
--- the bytes behind the first are written, and the first one is there if it lies in the page
+-- the bytes after the first are written, and the first one is there if it lies in the page
 with_first : (m : Memory) (q a b : ℕ) (p r : Page) (bs : List ℕ) → r.attrs ≡ p.attrs → r.tags ≡ p.tags → (w : IsWritten m q r (a + 1) bs)
     → (a / 4096 ≡ q → get_or w.page.bytes (a % 4096) 0 ≡ b)
     → ((o : ℕ) → ((i : ℕ) → i < length (b ∷ bs) → a + i ≢ 4096 * q + o) → get_or w.page.bytes o 0 ≡ get_or p.bytes o 0)

@@ -94,7 +94,7 @@ segment_tests file =
     ∷ (not (list_any (is_entry (entry_of file)) (segments_of file)), NoEntry)
     ∷ []
 
--- What a file is tested for, in this order, each test with its refusal.
+-- The tests of a file, in this order, each with its refusal.
 abbrev pub tests_of : List ℕ → List (Bool × ElfError)
 tests_of file = header_tests file ++ segment_tests file
 

@@ -1,4 +1,4 @@
--- What loading an image makes of a memory.
+-- The memory after an image was loaded.
 use Rattle.std.specs.Prelude.{ℕ, ◌+◌, ◌==◌, List, [], ◌∷◌, if◌then◌else◌, slice_range}
 use Rattle.mte_tags.specs.Memory.{Memory, with_new_pages}
 use Rattle.mte_tags.specs.Accesses.{with_bytes_at}

@@ -1,4 +1,4 @@
--- What the pages of an image hold (System V ABI, Program Loading), said of each page by itself.
+-- The contents of an image's pages (System V ABI, Program Loading), each page by itself.
 use Rattle.std.specs.Prelude.{ℕ, ◌+◌, ◌-◌, ◌*◌, nat_lt, nat_le, ◌&&◌, Bool, List, [], ◌∷◌, map}
 use Rattle.std.specs.Prelude.{replicate, slice_index, if◌then◌else◌, Option, Some, None}
 use Rattle.std.specs.List.{range_with_len}

@@ -10,7 +10,7 @@ use crate::image::Segment;
 use byteorder::{ByteOrder, LittleEndian};
 use std::alloc::{AllocError, Global};
 
-/// What the loader reads of a program header (Elf64_Phdr).
+/// The fields of a program header (Elf64_Phdr) that the loader reads.
 #[derive(Clone, Copy)]
 pub struct ProgramHeader {
     /// `p_type`.

@@ -1,4 +1,4 @@
-//! What the loader does for an image.
+//! The plan by which the loader loads an image.
 
 /// A loadable segment: `memsz` bytes from `vaddr` on, of which the first `filesz` are in the file
 /// from `offset` on and the others are 0. Its flags are execute 1, write 2 and read 4.
@@ -16,7 +16,7 @@ pub struct Segment {
     pub flags: u32,
 }
 
-/// What the loader does for an image: the pages and bytes of its segments, and where its program
+/// The plan of an image: the pages and bytes of its segments, and where its program
 /// begins.
 #[derive(Drop)]
 pub struct Plan {

@@ -37,7 +37,7 @@ const EXECUTABLE: u16 = 2;
 /// Reads an image as a whole, before anything of it is mapped.
 ///
 /// The refusal is the first of [`ElfError`]'s tests that the file fails. Only `OutOfMemory`, where
-/// an allocation was refused, can come in place of another answer, and not in place of a refusal by
+/// an allocation was refused, can come instead of another answer, and not instead of a refusal by
 /// the file's headers, whose tests need no memory.
 #[tactic(auto, unfolding(crate::specs::Images::refusal_of))]
 pub fn plan(alloc: Global, file: &[u8]) -> Result<Plan, Obstacle<ElfError>>

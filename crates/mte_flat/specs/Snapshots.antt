@@ -4,7 +4,7 @@ use Rattle.std.proofs.Common.{◌∙◌}
 use Rattle.std.specs.Coded.{Coded, code_by, coded×}
 use Rattle.mte_tags.specs.Memory.{Memory, coded_memory}
 
--- What the memory holds now, and what it held when the snapshot was made.
+-- The memory now, and the memory when the snapshot was made.
 pub record SnapshotState : Type 0 where
   pub now : Memory
   pub saved : Memory

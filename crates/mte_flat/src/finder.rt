@@ -31,7 +31,7 @@ fn hash(page: u64) -> usize
 }
 
 impl Finder {
-    /// One with room for `pages` pages.
+    /// One with capacity for `pages` pages.
     pub(crate) fn new(alloc: Global, pages: usize) -> Result<Finder, AllocError> {
         Ok(Finder {
             code: 0,

@@ -12,7 +12,7 @@ use std::alloc::{AllocError, Global};
 pub struct MappedPage {
     /// Its number: its first address divided by 4096.
     pub number: u64,
-    /// What may be done with it.
+    /// The attributes of the page.
     pub attrs: Attrs,
 }
 

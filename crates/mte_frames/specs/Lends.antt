@@ -1,4 +1,4 @@
--- What a pool ends as, once a loan of a frame's bytes has ended.
+-- A pool after a loan of a frame's bytes has ended.
 use Rattle.std.specs.Prelude.{ℕ, List, Option}
 use Rattle.std.specs.Borrow.{Fml, MutBor, Lends, LendsIf, Array, u8}
 use Rattle.mte_frames.specs.Pool.{Pool, with_bytes_at, with_bytes_at_cases, with_block_at}

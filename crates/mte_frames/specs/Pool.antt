@@ -1,4 +1,4 @@
--- What a contract sees of a pool of frames: the arena's frames, the quota that each is out under,
+-- A pool of frames as contracts see it: the arena's frames, the quota that each is out under,
 -- and what each quota has reserved and taken. A quota is known by its number; a number of which
 -- nothing is reserved is no quota's.
 --     frames_left p               how many frames no quota has reserved
@@ -78,7 +78,7 @@ abbrev pub owned_by : ℕ → List (Option ℕ) → ℕ
 owned_by q [] = 0
 owned_by q (c ∷ cs) = is_owned q c + owned_by q cs
 
--- What holds of every pool: nobody takes more than was reserved, and what is reserved is there.
+-- The invariant of every pool: nobody takes more than was reserved, and what is reserved is there.
 pub record IsSound (p : Pool) : Type 0 where
   pub few : length p.frames ≤ MAX_FRAMES
   -- there is a place for each frame and for each number of a quota, of which there are as many
@@ -92,7 +92,7 @@ pub record IsSound (p : Pool) : Type 0 where
   -- a frame that is out is present
   pub live : (f q : ℕ) → IsHeldBy p f q → IsLive p.frames f
 
--- What a call for quota q leaves of all other quotas: their counts and their frames.
+-- A call for quota q keeps all other quotas: their counts and their frames.
 pub record KeepsOthers (q : ℕ) (p n : Pool) : Type 0 where
   -- how many frames there are
   pub count : length n.frames ≡ length p.frames

@@ -1,4 +1,4 @@
--- What holds of the fields of a pool.
+-- The invariant of a pool's fields.
 use Rattle.std.specs.Prelude.{◌≡◌, ℕ, ◌+◌, ◌≤◌, if◌then◌else◌, nat_eq, List, [], ◌∷◌, length, sum}
 use Rattle.std.specs.Prelude.{get_or, Option, Some, None, vec_capacity}
 use Rattle.mte_frames.specs.Pool.{Pool, make_pool, IsSound}

@@ -320,7 +320,7 @@ impl FramePool {
     }
 }
 
-/// What is kept of the other quotas: nothing changes them where nothing is done, what one call
+/// The other quotas are kept: nothing changes them where nothing is done, what one call
 /// after another keeps both keep, and a loan of a frame that is out under a quota keeps all others.
 /// This holds of every pool, and the call does nothing.
 pub fn others_are_kept()
@@ -332,7 +332,7 @@ pub fn others_are_kept()
         → KeepsOthers q p (with_bytes_at p f ws) × KeepsOthers q p (with_block_at p f ws) }
 {}
 
-/// What a pool keeps beside its arena.
+/// The fields of a pool besides its arena.
 #[derive(Drop)]
 struct PoolLists {
     free: Vec<usize>,

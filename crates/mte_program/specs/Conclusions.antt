@@ -1,4 +1,4 @@
--- What the program does once its command line is read.
+-- The program's work once its command line is read.
 use Rattle.std.specs.Prelude.{◌≡◌, ◌⊎◌, ℕ}
 use Rattle.mte_streams.specs.Writing.{WriteLog, WroteAll, WrotePart}
 use Rattle.mte_session.specs.declared.ending.Ending.{Ending}
@@ -10,7 +10,7 @@ use Rattle.mte_program.specs.declared.invocation.Invocation.TheVariants.{Run, Ex
 use Rattle.mte_program.specs.Reads.{FilesLog}
 use Rattle.mte_program.specs.Runs.{Ran}
 
--- What was read and written, as far as it is known.
+-- The bytes that were read and written, as far as they are known.
 pub record Logs : Type 0 where
   pub files : FilesLog
   pub out : WriteLog
@@ -32,7 +32,7 @@ pub record Untouched (old new : Logs) : Type 0 where
   pub files : new.files ≡ old.files
   pub out : new.out ≡ old.out
 
--- What became of a command line, with the exit status.
+-- The outcome of a command line, with the exit status.
 abbrev pub Concluded : Invocation → Logs → Logs → ℕ → Type 0
 Concluded (Run p) old new status = HasEnded p old new status
 Concluded (Exit n) old new status = (status ≡ n) × (new ≡ old)

@@ -66,13 +66,13 @@ pub record StoppedAt (names : List (List ℕ)) (e : ReadFault) (name : List ℕ)
   pub log : new ≡ with_reads old
       (whole_reads before contents ++ record { name = name; came = Err e } ∷ [])
 
--- One of the files was not read, and none behind it.
+-- One of the files was not read, and none after it.
 pub record StoppedSomewhere (names : List (List ℕ)) (e : ReadFault) (old new : FilesLog)
     : Type 0 where
   pub name : List ℕ
   pub stopped : StoppedAt names e name old new
 
--- What was read where the program ends before all files were, or for want of memory.
+-- The reads where the program ends before all files were read, or since memory ran out.
 abbrev pub Stopped : List (List ℕ) → Ending → FilesLog → FilesLog → Type 0
 Stopped names Memory old new =
     StoppedSomewhere names fault.OutOfMemory old new ⊎ ReadSome names old new

@@ -1,4 +1,4 @@
--- What a run of the program does: it reads the script and then each file, in order, up to the first
+-- A run of the program: it reads the script and then each file, in order, up to the first
 -- fault, and then runs the session.
 use Rattle.std.specs.Prelude.{ℕ, List, ◌∷◌}
 use Rattle.mte_streams.specs.Writing.{WriteLog}

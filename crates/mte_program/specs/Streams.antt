@@ -1,4 +1,4 @@
--- What becomes of a count of bytes, or of an error of any kind.
+-- The outcome for a count of bytes, or for an error of any kind.
 use Rattle.std.specs.Prelude.{ℕ, Result, Ok, Err}
 use Rattle.mte_streams.specs.declared.error.StreamError.{StreamError}
 

@@ -1,4 +1,4 @@
-//! What a command line requests, and what the program does then.
+//! The request of a command line, and the program's work after it.
 
 ghost use Rattle.mte_program.specs.Conclusions.{Concluded};
 
@@ -8,7 +8,7 @@ use crate::running::run_program;
 use mte_session::{Ending, Sink, finish};
 use std::alloc::Global;
 
-/// What a command line requests.
+/// The request of a command line.
 #[derive(Drop)]
 pub enum Invocation {
     /// A session.

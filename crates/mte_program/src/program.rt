@@ -1,8 +1,8 @@
-//! What the program is run on.
+//! The inputs and outputs of the program.
 
 ghost use Rattle.std.specs.Prelude.{◌≤◌, length};
 
-/// What the program is run on.
+/// The inputs and outputs of the program.
 #[derive(Drop)]
 pub struct Program {
     /// The frames that all tenants share, 1 to 65536.

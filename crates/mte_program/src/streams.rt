@@ -11,7 +11,7 @@ use mte_session::{Sink, Source, StreamError};
 use std::io;
 use std::io::{Read, Write};
 
-/// What a read or a write came to. One that failed stays a failure: it is neither the end nor a
+/// The outcome of a read or a write. One that failed stays a failure: it is neither the end nor a
 /// count of 0.
 pub fn passed(count: io::Result<usize>) -> Result<usize, StreamError>
     ensures { result ≡ count_or_failure count }

@@ -1,4 +1,4 @@
--- What a host makes of its tenants, whatever a tenant is, and that no tenant can observe another.
+-- A host over tenants of any behaviour, and that no tenant can observe another.
 --     Behaviour M R          what a tenant is from its admission to its stop: M while it lives, R
 --                            from then on
 --     after_calls b c calls  what calls make of the content c of a host
@@ -56,7 +56,7 @@ pub record Tenant (M R : Type 0) : Type 0 where
   pub pages : ℕ
   pub held : TenantState M R
 
--- What a host has: a number of frames, and its tenants in the order of their admissions.
+-- The state of a host: a number of frames, and its tenants in the order of their admissions.
 pub record Content (M R : Type 0) : Type 0 where
   pub frames : ℕ
   pub tenants : List (Tenant M R)
@@ -123,7 +123,7 @@ after_calls b c [] = c
 after_calls b c (e ∷ more) =
     after_calls b (after_call_cases b (call_refusal c.frames (ledger_of c) e) c e) more
 
--- What a session's host has after all its calls.
+-- The host of a session after all its calls.
 abbrev pub content_after : {M R : Type 0} → Behaviour M R → Session → Content M R
 content_after b s = after_calls b (empty s.frames) s.calls
 

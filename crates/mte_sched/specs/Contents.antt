@@ -1,5 +1,6 @@
--- What a host has: a machine for each live tenant, and the record alone of each that was stopped.
--- A session's definitions are those of Behaviours, with a tenant's machine as the behaviour.
+-- The content of a host: a machine for each live tenant, and the record alone of each that was
+-- stopped. A session's definitions are those of Behaviours, with a tenant's machine as the
+-- behaviour.
 use Rattle.std.specs.Prelude.{ℕ, ◌==◌, List, map, Option, Some, None, if◌then◌else◌, Bool}
 use Rattle.std.specs.List.{refill}
 use Rattle.mte_tags.specs.Memory.{Memory, Page, page_at, with_page}

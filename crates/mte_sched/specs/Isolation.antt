@@ -7,11 +7,11 @@ use Rattle.mte_sched.specs.Contents.{Content, empty, ledger_of, after_call, afte
 use Rattle.mte_sched.specs.Contents.{tenant_of, record_of, machine}
 pub use Rattle.mte_sched.specs.Behaviours.{tenant_among}
 
--- What a session's host has after all its calls.
+-- The host of a session after all its calls.
 abbrev pub content_after : Session → Content
 content_after s = after_calls (empty s.frames) s.calls
 
--- What a tenant does cannot change who is admitted: a call changes the ledger as the ledger says.
+-- The tenants cannot change who is admitted: a call changes the ledger as the ledger says.
 abbrev pub LedgerFollows : Type 0
 LedgerFollows = (c : Content) (e : Call) → ledger_of (after_call c e) ≡ ledger_after (ledger_of c) e
 

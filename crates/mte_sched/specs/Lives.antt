@@ -8,7 +8,7 @@ use Rattle.mte_tenant.specs.Machines.{Start}
 use Rattle.mte_tenant.specs.Ledger.{Call, Admit, Slice, Stop, LedgerEntry, call_refusal}
 use Rattle.mte_tenant.specs.Ledger.{ledger_cases}
 
--- What may happen to a tenant: a slice, with its number of steps, and its stop.
+-- The events of a tenant's life: a slice, with its number of steps, and its stop.
 pub data TenantEvent : Type 0 where
   OwnSlice : ℕ → TenantEvent
   OwnStop : TenantEvent
@@ -48,7 +48,7 @@ refusals_of n (d ∷ more) =
 
 -- ---- the tenants that accepted calls admit
 
--- What a call is to a tenant: its slice, its stop, or nothing.
+-- The event of a call for a tenant: its slice, its stop, or nothing.
 abbrev pub own_event_of : ℕ → Call → List TenantEvent
 own_event_of id (Admit k start) = []
 own_event_of id (Slice k n) = if id == k then OwnSlice n ∷ [] else []

@@ -1,4 +1,4 @@
--- What a host is, once a loan of the bytes of a page has ended.
+-- A host after a loan of the bytes of a page has ended.
 use Rattle.std.specs.Prelude.{◌≡◌, ℕ, List, Option}
 use Rattle.std.specs.Option.{OnSome}
 use Rattle.std.specs.Borrow.{Fml, MutBor, LendsSo, Array, u8}
@@ -12,7 +12,7 @@ use Rattle.mte_sched.specs.Hosts.{pool_of, content_of, frame_in, rooms_of}
 abbrev pub KeepsFrames : Host → Host → Type 0
 KeepsFrames h n = (id q : ℕ) → frame_in n id q ≡ frame_in h id q
 
--- The bytes ws were left behind the loan of the page q of the tenant with a number: they are its
+-- The bytes ws were left after the loan of the page q of the tenant with a number: they are its
 -- frame's, and that page's in the tenant's machine. All else is as it was, and no list took memory.
 pub record Wrote (h n : Host) (id q : ℕ) (ws : List ℕ) : Type 0 where
   pub content : content_of n ≡ after_write_of (content_of h) id q ws

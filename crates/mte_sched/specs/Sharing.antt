@@ -1,4 +1,4 @@
--- What holds of every host: its live tenants share a pool of frames and a translation lookaside
+-- The invariant of every host: its live tenants share a pool of frames and a translation lookaside
 -- buffer, and have nothing in common in them. A tenant's ASID is its place in the order of the
 -- admissions.
 use Rattle.std.specs.Prelude.{◌≡◌, ℕ, ◌-◌, ◌≤◌, Bool, true, false, List, ◌++◌, All, length}

@@ -10,7 +10,7 @@ use Rattle.mte_tenant.specs.Ledger.{LedgerEntry}
 use Rattle.mte_sched.specs.Contents.{TenantState, Live, Gone, Tenant}
 use Rattle.mte_sched.specs.Memories.{memory_at}
 
--- What is kept of a tenant with a reservation.
+-- The record of a tenant with a reservation.
 abbrev pub state_of_holding : Pool → ℕ → Holding → TenantState
 state_of_holding p pages (kept.Live l) =
     Live (machine_of l.parts.value (memory_at p l.memory pages))

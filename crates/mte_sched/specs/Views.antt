@@ -1,4 +1,4 @@
--- What a host shows of a tenant: its record, its pages, and the frames that hold them.
+-- The view of a tenant in a host: its record, its pages, and the frames that hold them.
 use Rattle.std.specs.Prelude.{◌≡◌, ℕ, ◌==◌, List, [], ◌∷◌, Option, Some, None, option_map}
 use Rattle.std.specs.Prelude.{if◌then◌else◌}
 use Rattle.std.specs.FinMap.{get}

@@ -83,7 +83,7 @@ impl Host {
     }
 
     /// Admits a tenant, or returns the first refusal that applies. Only `OutOfMemory`, where an
-    /// allocation failed, can come in place of the refusals from `Image` on. How much memory the
+    /// allocation failed, can come instead of the refusals from `Image` on. How much memory the
     /// host's lists take depends on the number of tenants that were admitted alone.
     #[tactic(auto, unfolding(crate::specs::Contents::after_admit))]
     pub fn admit(
@@ -220,7 +220,7 @@ impl Host {
         &self.pool
     }
 
-    /// What the ledger says of an admission with the number.
+    /// The facts of the ledger for an admission with the number.
     fn ledger_facts(&self, id: u16) -> LedgerFacts
         ensures { result ≡ facts_of (length self.now.pool.frames)
             (entries_in self.now.tenants.items) id }

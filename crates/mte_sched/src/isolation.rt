@@ -1,4 +1,4 @@
-//! What a tenant of a session is, and what it is in two sessions.
+//! A tenant of a session, and the same tenant in two sessions.
 
 ghost use Rattle.mte_sched.specs.Isolation.{LedgerFollows, NumbersStay, TenantsAreAlone};
 ghost use Rattle.mte_sched.specs.Isolation.{TenantsAreIsolated};
@@ -6,7 +6,7 @@ ghost use Rattle.mte_sched.specs.Behaviours.{BehavioursAreAlone, BehavioursAreIs
 ghost use Rattle.mte_sched.specs.Flags.{FlagIsClear};
 ghost use Rattle.mte_sched.specs.Bounds.{SlicesAreBounded, TurnsAreBounded};
 
-/// What a tenant does cannot change who is admitted: a call changes a host's ledger as the ledger
+/// The tenants cannot change who is admitted: a call changes a host's ledger as the ledger
 /// says.
 pub fn ledger_follows()
     ensures { LedgerFollows }

@@ -10,11 +10,11 @@ use mte_translate::Tlb;
 pub struct Tenant {
     /// Its reservation.
     pub(crate) pages: u32,
-    /// What is kept of it.
+    /// Its machine or its record.
     pub(crate) holding: Holding,
 }
 
-/// What is kept of a tenant: its machine, and once it was stopped its record alone.
+/// The state of a tenant: its machine, and once it was stopped its record alone.
 #[derive(Drop)]
 pub(crate) enum Holding {
     Live(Live),
@@ -24,16 +24,16 @@ pub(crate) enum Holding {
 /// A machine.
 #[derive(Drop)]
 pub(crate) struct Live {
-    /// All of it but its memory. It is apart, so that a stopped tenant needs no room for it.
+    /// All of it but its memory. It is apart, so that a stopped tenant needs no space for it.
     pub(crate) parts: Box<TenantParts>,
     /// Where its memory is.
     pub(crate) memory: TenantMemory,
 }
 
-/// What is remembered for all tenants.
+/// The caches that all tenants share.
 #[derive(Drop)]
 pub(crate) struct Caches {
     pub(crate) tlb: Tlb,
-    /// What their instructions mean; it holds for all of them.
+    /// The decoded instructions, which hold for all of them.
     pub(crate) ops: OpCache,
 }

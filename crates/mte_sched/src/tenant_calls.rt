@@ -1,4 +1,4 @@
-//! What a host asks of a tenant.
+//! The calls of a host for a tenant.
 
 ghost use Rattle.std.specs.Prelude.{◌≡◌, ◌==◌, ◌&&◌, option_map};
 ghost use Rattle.mte_tenant.specs.Ledger.{has_id, has_live_id};

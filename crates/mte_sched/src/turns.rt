@@ -1,4 +1,4 @@
-//! One tenant's turn, beside the others: a slice, a stop.
+//! One tenant's turn, next to the others: a slice, a stop.
 
 ghost use Rattle.std.specs.Prelude.{◌≡◌, ◌+◌, map, length, count_by, vec_capacity};
 ghost use Rattle.mte_sched.specs.Contents.{tenant_after_slice, tenant_after_stop};

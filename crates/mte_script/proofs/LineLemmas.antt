@@ -43,7 +43,7 @@ end_text text i over within =
     let none : drop i text ≡ [] = nil_from_length (drop i text) (simp length-drop (omega arith)) in
     rw none (omega arith)
 
--- A text whose line goes on behind the first word: the pieces of the line, and its length.
+-- A text whose line goes on after the first word: the pieces of the line, and its length.
 abbrev GoesOn : List ℕ → Type 0
 GoesOn text =
     (pieces_at 32 (line_of text) ≡ take (word_len text) text ∷ pieces_at 32 (line_of (drop (word_len text + 1) text)))
@@ -88,7 +88,7 @@ unfolding pieces_at piece_len_of line_of
 ends_here [] last = (refl, refl)
 ends_here (b ∷ more) last = ends_step b more (b == 10) (b == 32) refl refl (ends_here more) last
 
--- Of a list with as many words as are read, what is added behind them is passed over.
+-- Of a list with as many words as are read, what is added after them is passed over.
 pub take_twice : (n : ℕ) (xs ys : List (List ℕ)) → take n (take n xs ++ ys) ≡ take n (xs ++ ys)
 take_twice n xs ys = elim (cases_lt n (length xs)) [
   | inl many ↦
@@ -150,7 +150,7 @@ add_none read (b ∷ more) few none = absurd (omega arith)
 pub add_over : (read more : List (List ℕ)) → length read ≡ 14 → read ≡ take 14 (read ++ more)
 add_over read more full = sym (take_all 14 read (omega arith)) ∙ sym (take-append-le 14 read more (omega arith))
 
--- The lines of a script from a place on; none behind its end.
+-- The lines of a script from a place on; none after its end.
 abbrev pub lines_from : List ℕ → ℕ → List (List ℕ)
 lines_from script start = if nat_le start (length script) then pieces_at 10 (drop start script) else []
 
@@ -223,7 +223,7 @@ unfolding line_of pieces_at
 no_line [] none = refl
 no_line (b ∷ more) none = absurd (omega arith)
 
--- A line with a word is not behind the script's end.
+-- A line with a word is not after the script's end.
 pub some_word : (script : List ℕ) (start : ℕ) (ws : List (List ℕ)) → ws ≡ take 14 (words_of (line_of (drop start script))) → 0 < length ws
     → start < length script
 some_word script start ws e some = elim (cases_lt start (length script)) [

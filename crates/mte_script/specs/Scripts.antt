@@ -190,7 +190,7 @@ unfoldable pub event_of_line : ℕ → List ℕ → Option (Result Event ScriptF
 event_of_line files line =
     if starts_comment line then None else event_of_words files (words_of line)
 
--- What a script is: its events, or its first faulty line and its first fault.
+-- The meaning of a script: its events, or its first faulty line and its first fault.
 abbrev pub Parsed : Type 0
 Parsed = Result (List Event) (ℕ × ScriptFault)
 
@@ -199,7 +199,7 @@ abbrev pub after_event : Event → Parsed → Parsed
 after_event e (Ok more) = Ok (e ∷ more)
 after_event e (Err fault) = Err fault
 
--- What the lines of a script say, from the n-th on, each with its number: lines without an event
+-- The meaning of a script's lines, from the n-th on, each with its number: lines without an event
 -- are left out. `files` is how many files there are.
 unfoldable pub readings : ℕ → ℕ → List (List ℕ) → List (ℕ × Result Event ScriptFault)
 readings files n [] = []

@@ -1,4 +1,4 @@
-//! What is wrong with a script.
+//! The faults of a script.
 
 ghost use Rattle.std.specs.Prelude.{◌≡◌, Some};
 ghost use Rattle.mte_script.specs.Faults.{fault_name};
@@ -6,7 +6,7 @@ ghost use Rattle.mte_script.specs.Faults.{fault_name};
 use std::fmt;
 use thiserror::Error;
 
-/// What is wrong with a line, in the order in which it is tested.
+/// The faults of a line, in the order in which they are tested.
 #[derive(Clone, Copy, Debug, PartialEq, Eq)]
 pub enum ScriptFault {
     /// It has not the form of an event.

@@ -2,7 +2,7 @@
 
 use tenant_terms::Terms;
 
-/// What a line of a script requests. Files are numbered from 1.
+/// The request of a script's line. Files are numbered from 1.
 #[derive(Clone, Copy, Debug, PartialEq, Eq)]
 pub enum Event {
     /// Admits a tenant.

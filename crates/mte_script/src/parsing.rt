@@ -59,7 +59,7 @@ pub fn parse_script(
     Ok(events)
 }
 
-/// What a script is refused with: a line's number and its fault.
+/// The refusal of a script: a line's number and its fault.
 fn refusal(line: u64, fault: ScriptFault) -> Obstacle<ScriptError>
     ensures { IfRefused result (IsLineFault line (Some (Err fault))) }
 {

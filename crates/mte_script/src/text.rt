@@ -10,8 +10,8 @@ ghost use Rattle.mte_script.specs.Lines.{line_of};
 /// many is known.
 pub const WORD_LIMIT: usize = 14;
 
-/// Reads the words of the line that begins at `start` into a list, as many as it has room for. The
-/// results are their number and where the line ends.
+/// Reads the words of the line that begins at `start` into a list, as many as fit. The results
+/// are their number and where the line ends.
 pub fn read_words<'a>(
     script: &'a [u8],
     start: usize,
@@ -55,7 +55,7 @@ fn word_end(text: &[u8], start: usize) -> usize
     text.len()
 }
 
-/// Writes a word behind the first `count` of a list, unless it is empty or the list is full. The
+/// Writes a word after the first `count` of a list, unless it is empty or the list is full. The
 /// result is the number of words.
 fn add_word<'a>(words: &mut [&'a [u8]; WORD_LIMIT], count: usize, word: &'a [u8]) -> usize
     requires { count ≤ WORD_LIMIT }

@@ -1,4 +1,5 @@
--- What two sessions that agree for a tenant wrote: the same lines of it, whatever else either has.
+-- The reports of two sessions that agree for a tenant: the same lines of it, whatever else either
+-- has.
 use Rattle.std.specs.Prelude.{◌≡◌, ℕ, List, ◌++◌, length, Ok}
 use Rattle.mte_streams.specs.Writing.{WriteLog, WroteAll}
 use Rattle.mte_script.specs.declared.event.Event.{Event}
@@ -12,7 +13,7 @@ use Rattle.mte_session.specs.Outcomes.{Input}
 use Rattle.mte_session.specs.Report.{record_text}
 use Rattle.mte_session.specs.Sessions.{session_of}
 
--- What a session is given: frames, files and script.
+-- The inputs of a session: frames, files and script.
 abbrev pub input_of : Session → Input
 input_of s = record { frames = s.frames; files = contents s.files.now; script = s.script.now }
 

@@ -1,4 +1,4 @@
--- What a session leaves: its whole report, a prefix of it, or nothing.
+-- The outcomes of a session: its whole report, a prefix of it, or nothing.
 use Rattle.std.specs.Prelude.{◌≡◌, ℕ, List, length, Ok, Err}
 use Rattle.mte_streams.specs.Writing.{WriteLog, WroteAll, WrotePart}
 use Rattle.mte_script.specs.declared.event.Event.{Event}
@@ -15,7 +15,7 @@ abbrev pub session_error : Obstacle ScriptError → SessionError
 session_error obstacle.OutOfMemory = OutOfMemory
 session_error (obstacle.Refused e) = Script e.line e.fault
 
--- What a session is run on.
+-- The inputs of a session.
 pub record Input : Type 0 where
   pub frames : ℕ
   pub files : List (List ℕ)
@@ -37,7 +37,7 @@ pub record CutShort (input : Input) (old new : WriteLog) : Type 0 where
 abbrev pub Unwritten : WriteLog → WriteLog → Type 0
 Unwritten old new = new ≡ old
 
--- What each error means.
+-- The meaning of each error.
 abbrev pub Failed : Input → WriteLog → WriteLog → SessionError → Type 0
 Failed input old new (Script line fault) =
     (script_events (length input.files) input.script ≡ Err (line, fault)) × Unwritten old new

@@ -22,12 +22,12 @@ use Rattle.mte_session.specs.Report.{line, record_text}
 abbrev pub file_at : List (List ℕ) → ℕ → List ℕ
 file_at files n = if n == 0 then [] else unwrap_or (slice_get files (n - 1)) []
 
--- What a tenant starts with, by the numbers of its files.
+-- The start of a tenant, by the numbers of its files.
 abbrev pub start_at : List (List ℕ) → ℕ → ℕ → Terms → Start
 start_at files image input terms =
     record { image = file_at files image; input = file_at files input; terms = terms }
 
--- What an event requests of a host.
+-- The call of an event.
 abbrev pub call_of : List (List ℕ) → Event → Call
 call_of files (event.Admit id image input terms) = Admit id (start_at files image input terms)
 call_of files (event.Slice id steps) = Slice id steps

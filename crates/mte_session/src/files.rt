@@ -17,7 +17,7 @@ pub fn file_of(files: &[Vec<u8>], number: u32) -> &[u8]
     files[number as usize - 1].as_slice()
 }
 
-/// What an event admits a tenant with, by the numbers of its image and its input.
+/// The admission of an event, by the numbers of its image and its input.
 pub fn admission_of<'x>(
     files: &'x [Vec<u8>],
     id: u16,

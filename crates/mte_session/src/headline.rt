@@ -9,7 +9,7 @@ use mte_sched::numbers_stay;
 use mte_streams::Sink;
 use std::alloc::Global;
 
-/// What a session is run on: a host's frames, a script, and the files that it refers to.
+/// The inputs of a session: a host's frames, a script, and the files that it refers to.
 #[derive(Clone, Copy)]
 pub struct Session<'a> {
     /// The frames of the host, 1 to 65536.

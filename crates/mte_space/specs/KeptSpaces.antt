@@ -1,4 +1,5 @@
--- What a call leaves beside the memory: nothing is a call, and one call after another is one.
+-- The state that a call keeps besides the memory: no call keeps it, and one call after another
+-- does.
 use Rattle.std.specs.Prelude.{Contains}
 use Rattle.std.proofs.Common.{◌≢◌, ◌∙◌, ℕ, List, subst, refl}
 use Rattle.std.proofs.lemmas.List.Elements.{All-weaker, All-contains, All-contains_itself}

@@ -1,4 +1,4 @@
--- What a space holds, and what its calls leave of all else.
+-- The contents of a space, and the state that its calls keep.
 use Rattle.std.specs.Prelude.{◌≡◌, ℕ}
 use Rattle.std.specs.Borrow.{MutBor}
 use Rattle.mte_tags.specs.Memory.{Memory}
@@ -25,7 +25,7 @@ pub record SameBorrows (a b : Space) : Type 0 where
   pub state : b.state.ghost_name ≡ a.state.ghost_name
   pub remembered : b.remembered.ghost_name ≡ a.remembered.ghost_name
 
--- the borrows are the same, and what they hold beside the memory stays
+-- the borrows are the same, and what they hold besides the memory stays
 pub record IsKept (a b : Space) : Type 0 where
   pub borrows : SameBorrows a b
   pub asid : b.asid ≡ a.asid

@@ -6,7 +6,7 @@
 --     HasFrames p k t n           the quota k has the frames that the table t may still take
 --     IsSpace p k t n             the table t is whole, has n pages at most, each in a frame of its
 --                                 own, and the quota k has frames for the others
---     KeepsRest k p n t u         what a call leaves of pool and table beside the memory
+--     KeepsRest k p n t u         what a call leaves of pool and table besides the memory
 --     NoneEnters asid ts us       of other ASIDs no translation has come
 use Rattle.std.specs.Prelude.{◌≡◌, ◌≢◌, ℕ, ◌+◌, ◌-◌, ◌≤◌, List, map, All, Contains}
 use Rattle.std.specs.Ordering.{nat_cmp}
@@ -54,14 +54,14 @@ pub record IsSpace (p : Pool) (k : ℕ) (t : Root) (limit : ℕ) : Type 0 where
   pub below : t.len ≤ limit
   pub frames : HasFrames p k t limit
 
--- What a call of a tenant leaves of pool and table beside its pages.
+-- The parts of pool and table that a tenant's call keeps besides its pages.
 pub record KeepsRest (k : ℕ) (p n : Pool) (t u : Root) : Type 0 where
   pub others : KeepsOthers k p n
   pub reserved : reserved_by n k ≡ reserved_by p k
   -- nothing allocates
   pub capacities : n.capacities ≡ p.capacities
   pub root : u.frame ≡ t.frame
-  -- as many frames as before are out beside those of pages and leaves
+  -- as many frames as before are out besides those of pages and leaves
   pub taken : (x : ℕ) → taken_by p k ≡ x + t.len + t.leaves → taken_by n k ≡ x + u.len + u.leaves
 
 -- No translation of another ASID came into the lookaside buffer.

@@ -1,4 +1,4 @@
--- What a write to a page does to the frame that holds it.
+-- The effect of a write to a page on the frame that holds it.
 use Rattle.std.specs.Prelude.{ℕ, ◌+◌, ◌*◌, Bool, ◌++◌, take, drop, replicate, slice_set}
 use Rattle.std.specs.Prelude.{Some, if◌then◌else◌}
 use Rattle.mte_arena.specs.Frames.{Frame, make_frame, with_run}
@@ -9,7 +9,7 @@ abbrev pub with_frame : Pool → ℕ → Frame → Pool
 with_frame p f x =
     make_pool p.capacities (slice_set p.frames f (Some x)) p.owners p.reserved p.taken
 
--- a frame with n granules from granule g on retagged, and their bytes zero where that is wanted
+-- a frame with n granules from granule g on retagged, and their bytes zero where that is requested
 abbrev pub retagged_frame : Frame → ℕ → ℕ → ℕ → Bool → Frame
 retagged_frame x g n t zero_it =
     make_frame

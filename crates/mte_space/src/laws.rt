@@ -1,4 +1,4 @@
-//! What stays of a tenant's memory, and what it is, for the layers above.
+//! Laws of a tenant's memory, for the layers above.
 
 ghost use Rattle.std.specs.Prelude.{◌≡◌, ◌≢◌, ℕ, ◌-◌, List, Some, option_map, false};
 ghost use Rattle.std.specs.FinMap.{get, empty};

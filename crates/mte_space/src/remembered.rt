@@ -25,7 +25,7 @@ pub(crate) struct RememberedPage {
     attrs: u64,
 }
 
-/// What is remembered where no page was found yet. All its bytes are alike, so that many are filled
+/// The entry where no page was found yet. All its bytes are alike, so that many are filled
 /// at once.
 const NO_PAGE: RememberedPage = RememberedPage {
     address: u64::MAX,
@@ -57,7 +57,7 @@ impl RememberedPage {
         }
     }
 
-    /// What may be done with the page.
+    /// The attributes of the page.
     #[inline(always)]
     pub(crate) fn attrs(&self) -> Attrs
         ensures { result ≡ attrs_of self.now }
@@ -91,7 +91,7 @@ fn key(address: u64, is_permitted: bool) -> u64
 /// How many pages of data are remembered, one for each place.
 pub(crate) const DATA_PAGES: usize = 256;
 
-/// The place of the page that instructions were fetched from, behind those of data.
+/// The place of the page that instructions were fetched from, after those of data.
 pub(crate) const CODE_PLACE: usize = DATA_PAGES;
 
 /// How many pages are remembered.

@@ -42,7 +42,7 @@ fn command<'a>(alloc: Global) -> Result<Command<'a>, Error> {
     Ok(command.arg(files(alloc))?)
 }
 
-/// The form with the options that say what is wanted, one of which has to be there.
+/// The form with the options that say what is requested, one of which has to be there.
 fn with_wanted<'a>(alloc: Global, command: Command<'a>) -> Result<Command<'a>, Error> {
     let help = "Writes who is admitted and which events are refused, and runs no instruction";
     let command = command.arg(flag(alloc, "list", help))?;
@@ -102,7 +102,7 @@ fn request_of(alloc: Global, matches: &ArgMatches<'_>) -> Result<SplitRequest, A
     })
 }
 
-/// What is wanted.
+/// The request.
 fn wanted_of(matches: &ArgMatches<'_>) -> Wanted {
     if matches.get_flag("merge") {
         return Wanted::Whole;

@@ -17,7 +17,7 @@ pub enum SplitFailure<'a> {
     Read(&'a str),
     /// Standard output could not be written.
     Write,
-    /// What is wrong with a part; its name as it was given.
+    /// The fault of a part; its name as it was given.
     Part(&'a str, PartFault),
     /// No part says who is admitted.
     NoLedger,

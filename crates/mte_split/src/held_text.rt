@@ -7,7 +7,7 @@ use mte_session::{Sink, StreamError};
 /// A writer in memory. A write fails only where an allocation does.
 #[derive(Drop)]
 pub(crate) struct HeldText {
-    /// What was written.
+    /// The text that was written.
     pub(crate) bytes: Vec<u8>,
 }
 

@@ -19,7 +19,7 @@ pub(crate) struct LedgerTenant {
     is_live: bool,
 }
 
-/// What was decided on the events of a session. No machine is in it.
+/// The decisions on the events of a session. No machine is in it.
 #[derive(Drop)]
 pub(crate) struct Ledger {
     /// Where each tenant is among all.
@@ -37,7 +37,7 @@ pub(crate) struct Ledger {
 }
 
 impl Ledger {
-    /// What a host of `frames` frames decides on events.
+    /// The decisions of a host of `frames` frames on events.
     pub(crate) fn of(
         alloc: Global,
         frames: u32,

@@ -5,16 +5,16 @@ use itoa::Buffer;
 use mte_session::Session;
 use std::alloc::{AllocError, Global};
 
-/// What a part begins with: the program and its version.
+/// The first line of a part: the program and its version.
 const HEAD: &[u8] = b"mte_split 1.0 part ";
 
-/// What the last line begins with.
+/// The beginning of the last line.
 const LAST: &[u8] = b"sum ";
 
 /// How long the last line is.
 const LAST_LEN: usize = 69;
 
-/// What is wrong with a part.
+/// The faults of a part.
 #[derive(Clone, Copy)]
 pub enum PartFault {
     /// Its sum is not that of its bytes.
@@ -73,7 +73,7 @@ impl<'a, 't> SessionPart<'a, 't> {
     }
 }
 
-/// What is before the last line, where this has the sum of it.
+/// The text before the last line, where this has the sum of it.
 fn without_sum(text: &[u8]) -> Option<&[u8]> {
     if text.len() < LAST_LEN {
         return None;
@@ -87,7 +87,7 @@ fn without_sum(text: &[u8]) -> Option<&[u8]> {
     }
 }
 
-/// The part that the words behind the session's sum name.
+/// The part that the words after the session's sum name.
 fn kind_of(words: &[u8]) -> Option<PartKind> {
     if matches!(words, b" ledger") {
         return Some(PartKind::Ledger);

@@ -1,6 +1,6 @@
-//! What the program is run on.
+//! The inputs of the program.
 
-/// What is wanted of a session.
+/// The request for a session.
 #[derive(Clone, Copy)]
 pub enum Wanted {
     /// Who is admitted, and which events are refused.
@@ -11,10 +11,10 @@ pub enum Wanted {
     Whole,
 }
 
-/// What the program is run on.
+/// The inputs of the program.
 #[derive(Drop)]
 pub struct SplitRequest {
-    /// What is wanted.
+    /// The request.
     pub wanted: Wanted,
     /// The frames of the session's host, 1 to 65536; of no meaning to parts.
     pub frames: u32,

@@ -1,4 +1,4 @@
-//! A run of the program: files are read, and what is wanted is written.
+//! A run of the program: files are read, and what is requested is written.
 
 use crate::command_line::read_command_line;
 use crate::failure::{SplitFailure, report};
@@ -22,7 +22,7 @@ pub fn answer_command_line(rt: &HostRuntime) -> u8 {
     }
 }
 
-/// Reads the files in order, and writes what is wanted. Nothing is written before all is known.
+/// Reads the files in order, and writes what is requested. Nothing is written before all is known.
 fn run_request<'a>(rt: &HostRuntime, request: &'a SplitRequest) -> Result<(), SplitFailure<'a>> {
     let names = request.names.as_slice();
     let whole = read_files(rt, names)?;

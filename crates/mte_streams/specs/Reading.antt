@@ -1,4 +1,4 @@
--- What reads gave, where it is known (as std's Read means them).
+-- The bytes that reads gave, where they are known (as std's Read means them).
 use Rattle.std.specs.Prelude.{◌≡◌, ℕ, ◌≤◌, ◌<◌, List, take, length, Option, None, Result, Ok, Err}
 use Rattle.std.specs.Prelude.{if◌then◌else◌}
 use Rattle.mte_streams.specs.declared.error.StreamError.{StreamError}

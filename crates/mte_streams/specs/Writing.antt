@@ -1,4 +1,4 @@
--- What writes took, where it is known (as std's Write means them).
+-- The bytes that writes took, where they are known (as std's Write means them).
 use Rattle.std.specs.Prelude.{◌≡◌, ℕ, List, ◌++◌, take, Option, None, Result, Ok, Err}
 use Rattle.std.specs.Prelude.{if◌then◌else◌}
 use Rattle.mte_streams.specs.declared.error.StreamError.{StreamError}
@@ -39,7 +39,7 @@ pub record WrotePart (old new : WriteLog) (text : List ℕ) : Type 0 where
   pub taken : new.taken ≡ append_known old.taken done
   pub failures : new.failures ≡ add_known old.failures 1
 
--- What writing a text leaves, by its result.
+-- The writer after a text was written, by the result.
 abbrev pub Writes : WriteLog → WriteLog → Result (Unit {0}) WriteFault → List ℕ → Type 0
 Writes old new (Ok done) text = WroteAll old new text
 Writes old new (Err fault) text = WrotePart old new text

@@ -12,7 +12,7 @@ use thiserror::Error;
 
 /// A reader, as `std::io::Read` means it.
 pub trait Source {
-    /// What its reads gave, as far as it is known: a file of the system says nothing.
+    /// The bytes that its reads gave, as far as they are known: a file of the system says nothing.
     ghost log: { Self → ReadLog };
 
     /// Reads some bytes into the start of the buffer, and returns how many. 0 is the end, or an

@@ -8,7 +8,8 @@ use thiserror::Error;
 
 /// A writer, as `std::io::Write` means it.
 pub trait Sink {
-    /// What its writes took, as far as it is known: a stream of the system says nothing.
+    /// The bytes that its writes took, as far as they are known: a stream of the system says
+    /// nothing.
     ghost log: { Self → WriteLog };
 
     /// Takes some bytes from the start of `bytes`, and returns how many.

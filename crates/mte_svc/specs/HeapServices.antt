@@ -15,7 +15,8 @@ use Rattle.mte_svc.specs.Results.{Served, x_of, resume_with, ends, with_logged_c
 abbrev pub heap_call_in : TenantParts → Option HeapCall
 heap_call_in p = heap_call_of (x_of p 8) (x_of p 0) (x_of p 1)
 
--- What a heap call changes of a tenant: its memory, its heap, its generator of random tags.
+-- The parts of a tenant that a heap call changes: its memory, its heap, its generator of random
+-- tags.
 abbrev pub world_in : TenantParts → Memory → World
 world_in p m = world_of m p.heap p.regs.rgsr
 
@@ -36,6 +37,6 @@ heap_service_cases p m call w (Ok answer) = resume_with
 abbrev pub finish_call : TenantParts → Memory → HeapCall → CallResult → Served
 finish_call p m call r = heap_service_cases p m call r.world r.answer
 
--- What the service of a heap call makes of a tenant.
+-- A tenant after the service of a heap call.
 unfoldable pub after_heap_service : TenantParts → Memory → HeapCall → Served
 after_heap_service p m call = finish_call p m call (after_call (world_in p m) call)

@@ -1,4 +1,4 @@
--- What a tenant may read.
+-- The input of a tenant.
 use Rattle.std.specs.Prelude.{ℕ, ◌≤◌, List, drop, length}
 use Rattle.mte_svc.specs.declared.input.Input.TheInside.{Inside}
 

@@ -1,9 +1,9 @@
--- What a tenant has written, and how much more it may write.
+-- The output of a tenant, and how much more it may write.
 use Rattle.std.specs.Prelude.{◌≡◌, ℕ, ◌-◌, ◌≤◌, List, vec_len, vec_capacity, refl}
 use Rattle.std.specs.Coded.{Coded, code_by, coded×, coded_ℕ, coded_list}
 use Rattle.mte_svc.specs.declared.output.Output.TheInside.{Inside}
 
--- What a tenant wrote, and how many bytes more it may write.
+-- The bytes that a tenant wrote, and how many more it may write.
 pub record Written : Type 0 where
   pub bytes : List ℕ
   pub left : ℕ

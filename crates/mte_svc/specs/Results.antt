@@ -1,4 +1,4 @@
--- What a service leaves, and how it ends. Its arguments are x0 and x1, its result is x0.
+-- The results of a service, and how it ends. Its arguments are x0 and x1, its result is x0.
 use Rattle.std.specs.Prelude.{ℕ, ◌+◌, ◌%◌, ◌^◌, Bool, true, false, slice_index, slice_set}
 use Rattle.mte_tags.specs.Memory.{Memory}
 use Rattle.mte_svc.specs.declared.calls.AnsweredCall.{AnsweredCall}
@@ -14,7 +14,7 @@ abbrev pub is_running : Status → Bool
 is_running Running = true
 is_running other = false
 
--- What a service leaves: the parts of the tenant, its memory, and how the service ends.
+-- The results of a service: the parts of the tenant, its memory, and how the service ends.
 pub record Served : Type 0 where
   pub parts : TenantParts
   pub memory : Memory

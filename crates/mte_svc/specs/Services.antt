@@ -12,9 +12,9 @@ use Rattle.mte_svc.specs.declared.services.TheConstants.{STEPS_LEFT, PAGES_LEFT}
 use Rattle.mte_svc.specs.Results.{Served, x_of, with_answer, resume_with, ends}
 use Rattle.mte_svc.specs.HeapServices.{heap_call_in, after_heap_service}
 
--- ---- write: the x1 bytes at x0, or as many as there is room for, by one checked read
+-- ---- write: the x1 bytes at x0, or as many as there is space for, by one checked read
 
--- How many bytes a write takes: those that were requested, as far as there is room for output.
+-- How many bytes a write takes: those that were requested, as far as there is space for output.
 abbrev pub write_count : TenantParts → ℕ
 write_count p = min (x_of p 1) p.history.output.left
 
@@ -81,6 +81,6 @@ abbrev pub service_cases : Option HeapCall → TenantParts → Memory → Served
 service_cases (Some call) p m = after_heap_service p m call
 service_cases None p m = after_other_service p m
 
--- What an SVC makes of a tenant: a heap call, or another service.
+-- The effect of an SVC on a tenant: a heap call, or another service.
 unfoldable pub after_svc : TenantParts → Memory → Served
 after_svc p m = service_cases (heap_call_in p) p m

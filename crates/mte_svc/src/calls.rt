@@ -90,7 +90,7 @@ impl Model for HeapCalls {
 }
 
 impl HeapCalls {
-    /// No calls, with room for the last 64.
+    /// No calls, with capacity for the last 64.
     pub fn new(alloc: Global) -> Result<HeapCalls, AllocError>
         ensures { IfOk result (λ calls. calls ≡ record { last = []; count = 0 }) }
     {

@@ -1,4 +1,4 @@
-//! What a tenant may read.
+//! The input of a tenant.
 
 ghost use Rattle.std.specs.Prelude.{◌≡◌, ◌≤◌, length, take, drop, IfOk, OnOk, OnErr, is_ok};
 ghost use Rattle.std.specs.Prelude.{if◌then◌else◌, true};

@@ -1,4 +1,4 @@
-//! What no service changes.
+//! Facts that no service changes.
 
 ghost use Rattle.std.specs.Prelude.{◌≡◌};
 ghost use Rattle.mte_tags.specs.Memory.{Memory};

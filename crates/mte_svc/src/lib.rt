@@ -1,4 +1,4 @@
-//! What a tenant reaches by SVC: its services, and the parts of its machine that they use.
+//! The services that a tenant requests by SVC, and the parts of its machine that they use.
 #![tactic(auto)]
 
 mod calls;

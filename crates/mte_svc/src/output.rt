@@ -1,4 +1,4 @@
-//! What a tenant has written.
+//! The output of a tenant.
 
 ghost use Rattle.std.specs.Prelude.{◌≡◌, ◌≤◌, ◌+◌, ◌-◌, ◌++◌, [], IfOk, OnOk, OnErr, true};
 ghost use Rattle.std.specs.Prelude.{is_ok, if◌then◌else◌, vec_len, vec_capacity, replicate};
@@ -9,10 +9,10 @@ use mte_tags::{MemFault, Tagged};
 use std::alloc::{AllocError, Global};
 use std::marker::Model;
 
-/// What a tenant has written, and the room that is left for more.
+/// The bytes that a tenant has written, and the room that is left for more.
 #[derive(Drop)]
 pub struct Output {
-    /// What was written, in memory for just `room` bytes. No other byte is made, so a tenant that
+    /// The written bytes, in memory for just `room` bytes. No other byte is made, so a tenant that
     /// stops has nothing more to give back.
     bytes: Vec<u8>,
     room: usize,
@@ -31,7 +31,7 @@ impl Model for Output {
 }
 
 impl Output {
-    /// An empty output with room for `room` bytes.
+    /// An empty output with capacity for `room` bytes.
     pub fn new(alloc: Global, room: u32) -> Result<Output, AllocError>
         ensures { IfOk result (λ output. output ≡ record { bytes = []; left = room }) }
     {
@@ -57,7 +57,7 @@ impl Output {
         (self.room - self.bytes.len()) as u64
     }
 
-    /// What was written.
+    /// The bytes that were written.
     pub fn as_slice(&self) -> &[u8]
         ensures { result.now ≡ self.now.bytes }
     {

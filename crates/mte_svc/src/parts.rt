@@ -1,4 +1,4 @@
-//! The parts of a tenant's machine beside its memory.
+//! The parts of a tenant's machine besides its memory.
 
 ghost use Rattle.std.specs.Prelude.{◌≡◌, IfOk};
 ghost use Rattle.mte_svc.specs.Results.{with_answer, with_logged_call, is_running};
@@ -19,7 +19,7 @@ pub struct TenantParts {
     pub history: Record,
     /// Its heap.
     pub heap: Heap,
-    /// What it has not yet read.
+    /// The input that it has not yet read.
     pub input: Input,
     /// The steps of its slice that are left; 0 between slices.
     pub left: u64,

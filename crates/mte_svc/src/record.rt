@@ -39,7 +39,7 @@ pub struct Record {
     pub status: Status,
     /// How many instructions it has attempted; the count stops at 2^64 - 1.
     pub steps: u64,
-    /// What it has written.
+    /// The output that it has written.
     pub output: Output,
     /// The heap calls that it has made.
     pub calls: HeapCalls,

@@ -146,7 +146,7 @@ fn serve_other<M: Paged>(parts: &mut TenantParts, memory: &mut M) -> SvcEnd
     }
 }
 
-/// Appends the x1 bytes at x0, or as many as there is room for, to the output.
+/// Appends the x1 bytes at x0, or as many as there is space for, to the output.
 #[tactic(auto, unfolding(crate::specs::Services::after_write_service))]
 fn write<M: Tagged>(parts: &mut TenantParts, memory: &mut M) -> SvcEnd
     requires ready { IsReady parts.old (M.memory memory.old) }

@@ -1,4 +1,4 @@
--- What an access does to a tagged memory, and how it fails.
+-- The effect of an access on a tagged memory, and how it fails.
 -- An access is the list of its plain addresses. Each is tested for translation, then permission,
 -- then the tag; the first address that fails is the fault, and an access with a fault changes
 -- nothing. In the asynchronous mode a tag that differs fails no access: one that has such a byte

@@ -1,4 +1,4 @@
--- What the code's own clauses name.
+-- Definitions for the code's own clauses.
 use Rattle.std.specs.Prelude.{◌≡◌, ℕ, ◌+◌, ◌%◌, ◌^◌, ◌<◌, ◌≤◌, Bool, IsTrue, if◌then◌else◌}
 use Rattle.std.specs.Prelude.{List, [], ◌∷◌, length, Option, Some, None, is_none, Result, is_ok}
 use Rattle.std.specs.List.{range_with_len}
@@ -27,14 +27,14 @@ run_fault_in x p at count = first_in x (Some p) (range_with_len at count)
 abbrev pub run_passes_in : Access → Page → ℕ → ℕ → Bool
 run_passes_in x p at count = is_none (run_fault_in x p at count)
 
--- What a read from a plain address on returns, and what it leaves of the memory and of the buffer.
+-- The answer of a read from a plain address on, and the memory and the buffer after it.
 pub record IsRead (m after : Memory) (x : Access) (at : ℕ) (old new : List ℕ)
     (r : Result (Unit {0}) MemFault) : Type 0 where
   pub answer : r ≡ result_of (access_fault m x (addresses at (length old)))
   pub bytes : new ≡ (if is_ok r then bytes_at m (addresses at (length old)) else old)
   pub memory : after ≡ (if is_ok r then after_access m x (addresses at (length old)) else m)
 
--- What a write from a plain address on returns, and what it leaves of the memory.
+-- The answer of a write from a plain address on, and the memory after it.
 pub record IsWritten (m after : Memory) (x : Access) (at : ℕ) (bytes : List ℕ)
     (r : Result (Unit {0}) MemFault) : Type 0 where
   pub answer : r ≡ result_of (access_fault m x (addresses at (length bytes)))

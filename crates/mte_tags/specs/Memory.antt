@@ -185,7 +185,7 @@ with_granule_cases m q g t zero_it (Some p) =
       tags = slice_set p.tags g t;
     })
 
--- m with t as the tag of the granule at a plain address, and its bytes zero where that is wanted
+-- m with t as the tag of the granule at a plain address, and its bytes zero where that is requested
 unfoldable pub with_granule : Memory → ℕ → ℕ → Bool → Memory
 with_granule m a t zero_it =
     with_granule_cases m (a / 4096) (a % 4096 / 16) t zero_it (page_at m (a / 4096))

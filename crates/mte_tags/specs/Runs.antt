@@ -12,7 +12,7 @@ with_bytes_run xs o (b ∷ bs) = with_bytes_run (slice_set xs o b) (o + 1) bs
 abbrev pub with_bytes_in : Page → ℕ → List ℕ → Page
 with_bytes_in p o bs = record p { bytes = with_bytes_run p.bytes o bs }
 
--- a page with n granules from granule g on retagged, and their bytes zero where that is wanted
+-- a page with n granules from granule g on retagged, and their bytes zero where that is requested
 abbrev pub with_granule_tags : Page → ℕ → ℕ → ℕ → Bool → Page
 with_granule_tags p g n t zero_it = record {
   attrs = p.attrs;

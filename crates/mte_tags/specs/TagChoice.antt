@@ -24,6 +24,6 @@ abbrev pub chosen_of : List ℕ → ℕ → ℕ → ℕ
 chosen_of tags t zero = tag_in_turn tags (count_by (λ a. nat_lt a t) tags)
 chosen_of tags t (suc k) = tag_in_turn tags (count_by (λ a. nat_lt a (t + 1)) tags + k)
 
--- The tag that is an offset behind t among the allowed ones (ChooseNonExcludedTag).
+-- The tag that is an offset after t among the allowed ones (ChooseNonExcludedTag).
 unfoldable pub chosen_tag : ℕ → ℕ → ℕ → ℕ
 chosen_tag t offset exclude = chosen_of (allowed_tags exclude) t offset

@@ -1,4 +1,4 @@
-//! What an access requires of a page, and how it fails.
+//! The requirements of an access on a page, and how it fails.
 
 ghost use Rattle.std.specs.Prelude.{◌≡◌, ◌&&◌, false};
 ghost use Rattle.mte_tags.specs.Memory.{has};
@@ -9,7 +9,7 @@ use crate::attrs::Attrs;
 use crate::fault::{FaultKind, MemFault};
 use crate::tags::tag_of;
 
-/// What an access requires of each of its bytes.
+/// The requirements of an access on each of its bytes.
 #[derive(Clone, Copy)]
 pub struct Access {
     /// The bits of `Attrs` that the page must have.

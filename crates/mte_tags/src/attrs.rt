@@ -1,4 +1,4 @@
-//! What may be done with a page.
+//! The attributes of a page.
 
 ghost use Rattle.std.specs.Prelude.{◌≡◌};
 ghost use Rattle.std.specs.Int.RustNames.{bit_or};
@@ -6,7 +6,7 @@ ghost use Rattle.mte_tags.specs.Memory.{has};
 
 use std::ops::BitOr;
 
-/// What may be done with a page of 4096 bytes, as the sum of its bits.
+/// The attributes of a page of 4096 bytes, as the sum of its bits.
 #[derive(Clone, Copy, PartialEq, Eq, Debug)]
 pub struct Attrs(pub u8);
 

@@ -1,4 +1,4 @@
-//! What a heap does to a chunk that one page holds, with one look-up of its page.
+//! Accesses of a heap to a chunk that one page holds, with one look-up of its page.
 
 ghost use Rattle.std.specs.Prelude.{◌≡◌, ◌+◌, ◌-◌, ◌/◌, ◌%◌, ◌^◌, ◌<◌, ◌≤◌, IfSome, true, false};
 ghost use Rattle.std.specs.Prelude.{if◌then◌else◌};

@@ -1,4 +1,4 @@
-//! What holds of every memory in each tag mode, whatever the calls.
+//! Laws of every memory in each tag mode, for any calls.
 
 ghost use Rattle.std.specs.Prelude.{◌≡◌, ◌≢◌, ◌≤◌, ◌<◌, ◌+◌, ◌-◌, ℕ, Bool, List, Some, None};
 ghost use Rattle.mte_tags.specs.Memory.{Memory, with_new_pages, without_pages, with_granules};

@@ -1,4 +1,4 @@
-//! What is done within the page that a place holds.
+//! Accesses within the page that a place holds.
 
 ghost use Rattle.std.specs.Prelude.{◌≡◌, ℕ, ◌<◌, ◌≤◌, ◌+◌, ◌*◌, ◌%◌, ◌/◌, ◌^◌, ◌&&◌};
 ghost use Rattle.std.specs.Prelude.{true, Some, IsTrue, is_none, length, slice_index, slice_range};
@@ -14,7 +14,7 @@ use crate::attrs::Attrs;
 use crate::fault::{FaultKind, MemFault};
 use crate::page_store::PageStore;
 
-/// Whether some bytes are wanted, at most 16, and one page holds them.
+/// Whether some bytes are requested, at most 16, and one page holds them.
 #[inline(always)]
 pub(crate) fn fits_one_page(at: u64, count: u64) -> bool
     ensures some { IsTrue result → 0 < count }

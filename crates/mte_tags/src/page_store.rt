@@ -9,15 +9,15 @@ ghost use Rattle.mte_tags.specs.Runs.{with_bytes_in, with_granule_tags};
 use crate::attrs::Attrs;
 use crate::state::TagState;
 
-/// What a tagged memory of one's own has to do: find the place that holds a page, read what a place
-/// holds, and replace its bytes and tags. It then is a `Tagged` memory, whose accesses are made of
-/// these calls. A place is a number of the store's own; it holds its page until a page is found,
-/// mapped or unmapped. No call looks at attributes or compares tags.
+/// The calls that a tagged memory of one's own needs: find the place that holds a page, read what a
+/// place holds, and replace its bytes and tags. It then is a `Tagged` memory, whose accesses are
+/// made of these calls. A place is a number of the store's own; it holds its page until a page is
+/// found, mapped or unmapped. No call looks at attributes or compares tags.
 pub trait PageStore {
-    /// What it holds, however it is kept.
+    /// The contents of the memory, however they are kept.
     ghost memory: { Self → Memory };
 
-    /// What every call leaves of all that is not the memory.
+    /// The state besides the memory that every call keeps.
     ghost kept: { Self → Self → Type 0 };
 
     /// That a place holds a page.

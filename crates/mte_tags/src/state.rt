@@ -1,6 +1,6 @@
-//! What a tag that differs does to its access.
+//! The effect of a tag that differs on its access.
 
-/// What becomes of a checked access whose address tag is not the allocation tag (Arm ARM DDI 0487,
+/// The outcome of a checked access whose address tag is not the allocation tag (Arm ARM DDI 0487,
 /// SCTLR_EL1.TCF0).
 #[derive(Clone, Copy, PartialEq, Eq, Debug)]
 pub enum TagMode {

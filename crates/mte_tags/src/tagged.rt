@@ -23,10 +23,10 @@ use crate::fault::MemFault;
 /// fault; in the asynchronous mode the access completes and sets a flag (Arm ARM DDI 0487, "The
 /// Memory Tagging Extension", SCTLR_EL1.TCF0).
 pub trait Tagged {
-    /// What it holds, however it is kept.
+    /// The contents of the memory, however they are kept.
     ghost memory: { Self → Memory };
 
-    /// What every call leaves of all that is not the memory.
+    /// The state besides the memory that every call keeps.
     ghost kept: { Self → Self → Type 0 };
 
     /// The instruction word at an address, of four bytes, the lowest first. It needs EXEC and is
@@ -117,7 +117,7 @@ pub trait Tagged {
 
 /// A tagged memory by which a heap reads and makes a chunk with one look-up.
 pub trait ChunkAccess: Tagged {
-    /// What a heap reads of a chunk in one look-up: the first eight bytes of the granule before an
+    /// The read of a chunk by a heap in one look-up: the first eight bytes of the granule before an
     /// address, the lowest first, and the tag of the granule at it. `None` where no page with READ
     /// and WRITE holds both, or where it would take a second look-up.
     fn read_chunk(&mut self, user: u64) -> Option<(u64, u8)>
@@ -133,7 +133,7 @@ pub trait ChunkAccess: Tagged {
         ensures memory { Self.memory self.new ≡ Self.memory self.old }
         ensures kept { Self.kept self.old self.new };
 
-    /// What a heap does to a chunk in one look-up, whatever the attributes of its page: tag 0 on
+    /// The write of a chunk by a heap in one look-up, whatever the attributes of its page: tag 0 on
     /// `around` granules from the one before an address on, then a tag and zero bytes on `count`
     /// granules from the address on, and eight bytes in the granule before it. `false` changes
     /// nothing: two pages hold the granules, or it would take a second look-up.

@@ -241,7 +241,7 @@ hash_for asid page ts i d l e =
 pub hashes_long : (ts : List Translation) → length (hashes_of ts) ≡ length ts
 hashes_long ts = length-map ts (λ (u : Translation). hash_of u.asid u.page)
 
--- the head of a page's hash is behind the newest translation where that is the page's
+-- the head of a page's hash is after the newest translation where that is the page's
 pub newest-head : (asid page first : ℕ) (heads gaps : List ℕ) (ts old : List Translation) (t : Translation) → IsChained first heads gaps (hashes_of ts)
     → ts ≡ old ++ t ∷ [] → is_for asid page t ≡ true
     → (slice_index heads (hash_of asid page) ≡ first + length old + 1) × (length ts ≡ length old + 1) × (get_or ts (length old) t ≡ t)

@@ -1,4 +1,4 @@
--- What one step of a table does to the pool.
+-- The effect of one step of a table on the pool.
 use Rattle.std.specs.Prelude.{◌≡◌, ◌≢◌, ℕ, ◌<◌, get_or, None}
 use Rattle.mte_frames.specs.Pool.{Pool, KeepsOthers, reserved_by}
 use Rattle.mte_translate.specs.declared.entries.TheConstants.{TABLE_PAGES}

@@ -79,7 +79,7 @@ walk_at p root q =
 abbrev pub translation_in : ℕ → Option (ℕ × Attrs)
 translation_in e = if is_valid e then Some (frame_in e, attrs_in e) else None
 
--- What a page is mapped to.
+-- The frame and the attributes of a mapped page.
 abbrev pub translation_at : Pool → ℕ → ℕ → Option (ℕ × Attrs)
 translation_at p root q = translation_in (walk_at p root q)
 
@@ -97,7 +97,7 @@ entries_from g q (suc n) = before q (g q) (entries_from g (q + 1) n)
 unfoldable pub map_below : {X : Type 0} → ℕ → (ℕ → Option X) → FinMap nat_cmp X
 map_below n g = map.from_entries (entries_from g 0 n)
 
--- What each mapped page is mapped to: its frame and its attributes.
+-- The mapping of each mapped page: its frame and its attributes.
 abbrev pub Pages : Type 0
 Pages = FinMap nat_cmp (ℕ × Attrs)
 

@@ -31,7 +31,7 @@ without_asid asid ts = filter (λ t. not (t.asid == asid)) ts
 abbrev pub newest : ℕ → List Translation → List Translation
 newest n ts = drop (length ts - n) ts
 
--- The newest 63 of the others, and the new translation behind them.
+-- The newest 63 of the others, and the new translation after them.
 abbrev pub with_translation : Translation → List Translation → List Translation
 with_translation t ts = newest 63 (without t.asid t.page ts) ++ t ∷ []
 

@@ -1,9 +1,9 @@
--- What holds of the fields of a translation lookaside buffer. Its chains lead from each translation
+-- The invariant of a translation lookaside buffer's fields. Its chains lead from each translation
 -- to the next older one of its hash:
 --     hash_of asid page                 the hash of a page of an address space
 --     hashes_of ts                      those of translations
 --     IsChained first heads gaps hs     for translations of the hashes hs, the oldest first and at
---                                       the place first, heads has for each hash the place behind
+--                                       the place first, heads has for each hash the place after
 --                                       the newest, and gaps for each place how many stand between
 --                                       its translation and the next older
 use Rattle.std.specs.Prelude.{◌≡◌, ℕ, ◌+◌, ◌*◌, ◌/◌, ◌%◌, ◌<◌, ◌≤◌, List, length, map, slice_index}

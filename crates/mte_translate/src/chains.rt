@@ -14,7 +14,7 @@ const HASHES: usize = 256;
 /// The translations of each hash, as a chain from the newest to the oldest.
 #[derive(Drop)]
 pub(crate) struct Chains {
-    /// For each hash the place behind its newest translation, or one that is not behind any that
+    /// For each hash the place after its newest translation, or one that is not after any that
     /// stands.
     heads: [u8; HASHES],
     /// For each translation how many of other hashes stand between it and the next older one of its
@@ -33,7 +33,7 @@ impl Chains {
         }
     }
 
-    /// The place behind the newest translation of the page's hash; where none stands, at most the
+    /// The place after the newest translation of the page's hash; where none stands, at most the
     /// place of the oldest of all.
     #[inline]
     pub(crate) fn end(&self, asid: usize, page: u64) -> usize
@@ -42,7 +42,7 @@ impl Chains {
         self.heads[hash(asid, page)] as usize
     }
 
-    /// The place behind the next older translation of the hash of that at a place; where none
+    /// The place after the next older translation of the hash of that at a place; where none
     /// stands, at most the place of the oldest of all.
     pub(crate) fn end_before(&self, place: usize) -> usize
         requires { place < 128 }
@@ -132,7 +132,7 @@ impl Chains {
     }
 }
 
-/// What a head is once the translation at `place` went, behind whose next older one is `end`.
+/// The head of a chain once the translation at `place` went, after whose next older one is `end`.
 #[inline]
 fn head_without(place: u8, end: u8, head: u8) -> u8
     ensures { IsHeadWithout place end head result }
@@ -146,7 +146,7 @@ fn head_without(place: u8, end: u8, head: u8) -> u8
     }
 }
 
-/// What the gap of a translation is once an older one went, with `between` between the two, whose
+/// The gap of a translation once an older one went, with `between` between the two, whose
 /// gap was `older_gap`. Where it led to that one, it leads on to the next; 255 is beyond the
 /// oldest.
 #[inline]

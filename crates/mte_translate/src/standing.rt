@@ -20,7 +20,7 @@ pub(crate) struct Standing {
     places: [Translation; PLACES],
     /// The place of the oldest.
     first: usize,
-    /// The place behind the newest.
+    /// The place after the newest.
     end: usize,
 }
 
@@ -67,7 +67,7 @@ impl Standing {
         self.first
     }
 
-    /// The place behind the newest.
+    /// The place after the newest.
     #[inline]
     pub(crate) fn end(&self) -> usize
         ensures end { result ≡ self.now.first + length self.now.items }

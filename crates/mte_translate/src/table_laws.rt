@@ -1,4 +1,4 @@
-//! What a table stands on, and what stays true of it, for the layers above.
+//! Laws of a table and of its frames, for the layers above.
 
 ghost use Rattle.std.specs.Prelude.{◌≡◌, ◌≢◌, ◌↔◌, ℕ, ◌+◌, ◌/◌, ◌<◌, ◌≤◌, List, Option, Some, None};
 ghost use Rattle.std.specs.Prelude.{true, get_or, slice_set};

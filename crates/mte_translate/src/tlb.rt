@@ -154,7 +154,7 @@ fn find(translations: &Standing, chains: &Chains, asid: usize, page: u64) -> Opt
     None
 }
 
-/// Drops the oldest where 64 stand, and sees to it that a place behind the newest is left.
+/// Drops the oldest where 64 stand, and sees to it that a place after the newest is left.
 fn make_room(translations: &mut Standing, chains: &mut Chains)
     requires chained { IsChained translations.old.first chains.old.heads chains.old.gaps
         (hashes_of translations.old.items) }

@@ -1,4 +1,4 @@
-//! What a translation lookaside buffer remembers of a page.
+//! An entry of a translation lookaside buffer.
 
 ghost use Rattle.std.specs.Prelude.{◌≡◌};
 ghost use Rattle.mte_translate.specs.Translations.{is_for};
@@ -22,7 +22,7 @@ pub struct Translation {
     pub page: u64,
     /// The number of the frame that holds the page.
     pub frame: usize,
-    /// What may be done with the page.
+    /// The attributes of the page.
     pub attrs: Attrs,
 }
 
@@ -36,7 +36,7 @@ impl Translation {
     }
 }
 
-/// What the unused entries hold.
+/// The value of unused entries.
 impl Default for Translation {
     fn default() -> Translation {
         Translation {

@@ -12,7 +12,7 @@ pub enum Fault {
     Trace,
     /// A word is no kind of what is checked.
     Check,
-    /// What is found is not told, or has an exit status, but nothing is checked.
+    /// The report of findings is off, or they have an exit status, but nothing is checked.
     Unchecked,
     /// Lost chunks have an exit status, but are not looked for.
     Lost,
@@ -22,14 +22,14 @@ pub enum Fault {
     RawOutput,
     /// A file that is written is also read, or written twice.
     Names,
-    /// What `--script` needs is not there.
+    /// An argument that `--script` needs is missing.
     Script,
     /// There is no image, or more than one.
     Files,
 }
 
 impl Fault {
-    /// What is wrong.
+    /// The fault.
     pub fn text(self) -> &'static str {
         match self {
             Fault::Seed => "the seed is not a number of 1 to 16 hexadecimal digits",
@@ -64,7 +64,7 @@ pub(crate) fn fault_of(options: &Options) -> Option<Fault> {
     }
 }
 
-/// What is wrong with the options of a check.
+/// The fault of a check's options.
 fn check_fault(output: &OutputOptions) -> Option<Fault> {
     let has_terms = output.suppressions.is_some() || output.found_status.is_some();
     if output.check.is_none() && has_terms {

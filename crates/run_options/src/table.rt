@@ -213,7 +213,7 @@ impl OptionRow {
     }
 }
 
-/// An option whose value stands behind `=`, and may be left out.
+/// An option whose value stands after `=`, and may be left out.
 fn optional<'a>(arg: Arg<'a>, missing: &'a str) -> Arg<'a> {
     arg.num_args(0..=1)
         .require_equals(true)

@@ -87,7 +87,7 @@ fn replay_of(alloc: Global, matches: &ArgMatches<'_>) -> Result<Option<Replay>, 
     Ok(Some(Replay { script, id, frames }))
 }
 
-/// What a tenant that is alone is admitted with.
+/// The terms of a tenant that is alone.
 fn run_of(alloc: Global, matches: &ArgMatches<'_>) -> Result<RunOptions, Obstacle<Fault>> {
     let Some(seed) = seed_of(matches.get_str("seed").unwrap_or("")) else {
         return Err(Obstacle::Refused(Fault::Seed));
@@ -115,7 +115,7 @@ fn mode_of(matches: &ArgMatches<'_>) -> TagMode {
     }
 }
 
-/// The number of 1 to 16 hexadecimal digits, which may be behind `0x`.
+/// The number of 1 to 16 hexadecimal digits, which may be after `0x`.
 fn seed_of(text: &str) -> Option<u64> {
     let digits = text.strip_prefix("0x").unwrap_or(text);
     if digits.is_empty() || digits.len() > 16 || digits.starts_with('+') {
@@ -136,7 +136,7 @@ fn length_of(alloc: Global, matches: &ArgMatches<'_>) -> Result<RunLength, Alloc
     })
 }
 
-/// What is written of a run.
+/// The outputs of a run.
 fn output_of(alloc: Global, matches: &ArgMatches<'_>) -> Result<OutputOptions, Obstacle<Fault>> {
     let page = matches.get_str("html").is_some();
     let last_lines = matches.get_one::<u32>("last").unwrap_or(16) as usize;
@@ -183,7 +183,7 @@ fn status_of(matches: &ArgMatches<'_>, option: &str) -> Option<u8> {
     u8::try_from(status).ok()
 }
 
-/// What is checked, by the value of the option; nothing without it.
+/// The kinds that are checked, by the value of the option; nothing without it.
 fn checked_by(text: Option<&str>) -> Result<CheckKinds, Obstacle<Fault>> {
     match text {
         Some(text) => CheckKinds::parse(text).ok_or(Obstacle::Refused(Fault::Check)),

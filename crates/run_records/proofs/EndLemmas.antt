@@ -34,7 +34,7 @@ pub is_found : (start n : ℕ) (es : List BookEntry) (e : BookEntry) → slice_g
 is_found start n es e h ends =
     ap (ending_call start) (next_entry n es e h) ∙ ap (λ b. if b then Some e else ending_call start (drop (suc n) es)) ends
 
--- Behind the last call there is none.
+-- After the last call there is none.
 pub none_left : (start n : ℕ) (es : List BookEntry) → slice_get es n ≡ None → ending_call start (drop n es) ≡ None
 none_left start n es h = ap (ending_call start) (drop_of_length-le es (past es n h))
 

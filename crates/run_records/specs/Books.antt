@@ -1,4 +1,4 @@
--- What a book has seen of a tenant's heap calls, and which call it enters next.
+-- The calls that a book has seen of a tenant's heap, and which call it enters next.
 use Rattle.std.specs.Prelude.{◌≡◌, ℕ, ◌+◌, ◌-◌, ◌%◌, ◌^◌, List, [], ◌∷◌, ◌++◌, Option, Some, None}
 use Rattle.circular_buffer.specs.Buffer.{keep_last}
 use Rattle.mte_backtrace.specs.declared.callers.Callers.{Callers}

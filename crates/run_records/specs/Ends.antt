@@ -20,6 +20,6 @@ is_at start address = option_eq nat_eq address (Some start)
 abbrev pub ending_call : ℕ → List BookEntry → Option BookEntry
 ending_call start entries = find (λ e. is_at start (ended_chunk e.call)) entries
 
--- A chunk with the call that ended it, the first of those behind the one that made it.
+-- A chunk with the call that ended it, the first of those after the one that made it.
 abbrev pub with_ending : List BookEntry → BookChunk → BookChunk
 with_ending later chunk = record chunk { freed = ending_call (plain chunk.pointer) later }

@@ -1,4 +1,4 @@
-//! What is noted of a run: the book of a tenant's heap calls, with the chunks that they made and
+//! Records of a run: the book of a tenant's heap calls, with the chunks that they made and
 //! freed; the last instructions, with what each changed and requested; calls, returns and numbers.
 #![tactic(auto)]
 

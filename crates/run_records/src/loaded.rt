@@ -1,11 +1,11 @@
-//! What a load brings into registers.
+//! The values that a load brings into registers.
 
 use a64_access::{AccessForm, AccessKind};
 use a64_instr::Instr;
 use a64_registers::Regs;
 use std::fmt;
 
-/// What a load brings into registers.
+/// The values that a load brings into registers.
 #[derive(Clone, Copy)]
 pub struct Loaded {
     addr: u64,
@@ -16,7 +16,8 @@ pub struct Loaded {
     second: Option<u64>,
 }
 
-/// What the instruction loads, by the registers before and after it; `None` where it loads nothing.
+/// The values that the instruction loads, by the registers before and after it; `None` where it
+/// loads nothing.
 pub fn load_of(instr: &Instr, before: &Regs, after: &Regs) -> Option<Loaded> {
     let form = AccessForm::of(instr)?;
     if !matches!(form.kind, AccessKind::Load) {

@@ -10,7 +10,7 @@ use a64_registers::Regs;
 use std::fmt;
 use std::fmt::Display;
 
-/// What stood before an instruction was attempted.
+/// The state before an instruction was attempted.
 #[derive(Clone, Copy)]
 pub struct Moment {
     /// Its number, from 1.
@@ -50,7 +50,7 @@ impl<'a> fmt::Display for TraceLine<'a> {
     }
 }
 
-/// What an instruction changed; nothing where it did not complete.
+/// The changes by an instruction; none where it did not complete.
 #[derive(Clone, Copy)]
 struct Effect<'a> {
     word: u32,

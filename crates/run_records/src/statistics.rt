@@ -27,7 +27,7 @@ pub static KINDS: [HeapCall; 6] = [
     HeapCall::UsableSize { pointer: 0 },
 ];
 
-/// What a tenant did, in numbers. An instruction that failed counts as attempted alone.
+/// The work of a tenant, in numbers. An instruction that failed counts as attempted alone.
 #[derive(Clone, Copy)]
 pub struct Statistics {
     /// Instructions attempted.

@@ -1,11 +1,11 @@
-//! What a store leaves in memory.
+//! The value that a store leaves in memory.
 
 use a64_access::{AccessForm, AccessKind, StoredTags};
 use a64_instr::Instr;
 use a64_registers::Regs;
 use std::fmt;
 
-/// What a store leaves in memory.
+/// The value that a store leaves in memory.
 #[derive(Clone, Copy)]
 pub(crate) enum Stored {
     /// Bytes of registers at an address.
@@ -21,7 +21,8 @@ pub(crate) enum Stored {
     Tags(StoredTags),
 }
 
-/// What the instruction stores, by the registers before it. `None` where it stores nothing.
+/// The value that the instruction stores, by the registers before it. `None` where it stores
+/// nothing.
 pub(crate) fn store_of(instr: &Instr, regs: &Regs) -> Option<Stored> {
     let form = AccessForm::of(instr)?;
     match form.kind {

@@ -27,7 +27,7 @@ impl fmt::Display for BookChunk {
 pub struct Count {
     /// How many.
     pub number: u64,
-    /// What one of them is called; more have an `s` behind it.
+    /// The name of one of them; more have an `s` after it.
     pub unit: &'static str,
 }
 

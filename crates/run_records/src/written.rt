@@ -1,5 +1,5 @@
 // Written by tools/isa.py from isa/a64.rows. Do not edit.
-//! The register that an instruction writes, beside those that it loads.
+//! The register that an instruction writes, besides those that it loads.
 
 use a64_instr::Instr;
 

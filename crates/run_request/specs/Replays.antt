@@ -1,4 +1,4 @@
--- What a replay shows of a session: one of its tenants.
+-- The replay of one tenant of a session.
 use Rattle.std.specs.Prelude.{◌≡◌, ℕ, ◌<◌, List, Option, Some, None, ⊤}
 use Rattle.mte_tenant.specs.Machines.{Machine, machine_of, start_of, after_slice, after_stop}
 use Rattle.mte_tenant.specs.Ledger.{Call, Admit, Slice, Stop}
@@ -43,7 +43,7 @@ with_no_steps (Admit id start) = Admit id start
 with_no_steps (Slice id n) = Slice id 0
 with_no_steps (Stop id) = Stop id
 
--- What an accepted call makes of the machine of the tenant that it names.
+-- The machine of the tenant that an accepted call names, after the call.
 abbrev pub machine_after : Call → Machine → Machine
 machine_after (Admit id start) m = m
 machine_after (Slice id n) m = after_slice n m
@@ -63,7 +63,7 @@ IsStarted files (Admit id start) None = ⊥
 IsStarted files (Slice id n) t = t ≡ None
 IsStarted files (Stop id) t = t ≡ None
 
--- What an accepted call that names a tenant makes of it.
+-- The tenant that an accepted call names, after the call.
 abbrev pub IsPlayed : List (List ℕ) → Call → Option Replayed → Option Replayed → Type 0
 IsPlayed files e (Some t) (Some u) =
     (machine_in u ≡ machine_after e (machine_in t)) × (u.image ≡ t.image)

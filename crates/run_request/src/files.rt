@@ -49,7 +49,7 @@ fn is_folder(file: &File) -> bool {
     }
 }
 
-/// What is not told of what is found, by the file that is named; nothing without one.
+/// The findings that are not reported, by the file that is named; nothing without one.
 pub fn read_suppressions<'a>(
     rt: &HostRuntime,
     options: &'a Options,
@@ -69,7 +69,7 @@ pub fn read_suppressions<'a>(
     }
 }
 
-/// What the session of a script does to its tenant.
+/// The tenant of a script's session.
 pub fn read_course<'a>(
     rt: &HostRuntime,
     replay: &'a Replay,

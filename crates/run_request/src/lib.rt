@@ -1,4 +1,4 @@
-//! What a command line of `mte_run` requests: its files, and the session of which one tenant is
+//! The request of a command line of `mte_run`: its files, and the session of which one tenant is
 //! replayed.
 #![tactic(auto)]
 

@@ -1,9 +1,9 @@
-//! What to do where a tenant is refused.
+//! The text of a tenant's refusal.
 
 use mte_elf::ElfError;
 use mte_tenant::AdmitError;
 
-/// What follows the name of a refusal.
+/// The text after the name of a refusal.
 pub(crate) fn remedy_of(error: AdmitError) -> &'static str {
     match error {
         AdmitError::Image(error) => remedy_of_image(error),
@@ -15,7 +15,7 @@ pub(crate) fn remedy_of(error: AdmitError) -> &'static str {
     }
 }
 
-/// What follows the name of an image's refusal.
+/// The text after the name of an image's refusal.
 fn remedy_of_image(error: ElfError) -> &'static str {
     match error {
         ElfError::Short | ElfError::NotElf64 | ElfError::NotAarch64 => {

@@ -125,7 +125,7 @@ pub fn decide(
     }
 }
 
-/// What an accepted event makes of the tenant with the number, whichever tenant it names.
+/// The tenant with the number after an accepted event, whichever tenant it names.
 fn followed<'a, O: Watcher>(
     alloc: Global,
     id: u16,
@@ -147,7 +147,7 @@ fn followed<'a, O: Watcher>(
     }
 }
 
-/// What an accepted event makes of the tenant that it names.
+/// The tenant that an accepted event names, after the event.
 fn played<'a, O: Watcher>(
     alloc: Global,
     replayed: Option<Replayed>,

@@ -1,10 +1,10 @@
-//! What a command line requests, with the bytes of the files that it names.
+//! The request of a command line, with the bytes of the files that it names.
 
 use mte_session::file_of;
 use mte_tags::TagMode;
 use run_terms::{Options, Suppressions};
 
-/// What a command line requests, with the bytes of the files that it names.
+/// The request of a command line, with the bytes of the files that it names.
 #[derive(Clone, Copy)]
 pub struct RunRequest<'a, 'x> {
     /// The system.
@@ -33,7 +33,7 @@ pub struct Run<'x> {
     pub image: Image<'x>,
     /// Its seed, where it ran alone.
     pub seed: Option<u64>,
-    /// What a tag that differed did.
+    /// The mode of tag checks.
     pub mode: TagMode,
 }
 

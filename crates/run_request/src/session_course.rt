@@ -1,4 +1,4 @@
-//! What a session does to one of its tenants.
+//! The events of a session for one of its tenants.
 
 use crate::replay::decide;
 use common::Obstacle;
@@ -8,7 +8,7 @@ use mte_tenant::{Admission, Terms};
 use run_terms::Replay;
 use std::alloc::{AllocError, Global};
 
-/// What a tenant of a session was admitted with: its files by their numbers.
+/// The admission of a session's tenant: its files by their numbers.
 #[derive(Clone, Copy)]
 pub struct Admitted {
     /// The file with its image.
@@ -26,7 +26,7 @@ impl Admitted {
     }
 }
 
-/// What a session does to one of its tenants.
+/// The events of a session for one of its tenants.
 #[derive(Drop)]
 pub struct SessionCourse {
     /// How it is admitted, if it is.
@@ -36,7 +36,7 @@ pub struct SessionCourse {
 }
 
 impl SessionCourse {
-    /// What events do to the tenant that is replayed. A host that is new decides which of them are
+    /// The events for the tenant that is replayed. A host that is new decides which of them are
     /// refused.
     pub fn of(
         alloc: Global,

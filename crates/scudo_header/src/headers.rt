@@ -9,7 +9,7 @@ ghost use Rattle.scudo_header.specs.Headers.{unpacked_header, FitsInWord};
 
 use a64_bits::plain;
 
-/// What a chunk is used for.
+/// The use of a chunk.
 #[derive(Clone, Copy, Debug, PartialEq, Eq)]
 pub enum State {
     /// 0: free.
@@ -35,12 +35,12 @@ pub enum Origin {
     Memalign,
 }
 
-/// What the header of a chunk says, but for its checksum.
+/// The header of a chunk, but for its checksum.
 #[derive(Clone, Copy, Debug, PartialEq, Eq)]
 pub struct Header {
     /// The size class of the chunk's block (8 bits). It is 0 for a chunk with pages of its own.
     pub class_id: u8,
-    /// What the chunk is used for (2 bits).
+    /// The use of the chunk (2 bits).
     pub state: State,
     /// The call that it was handed out by (2 bits).
     pub origin: Origin,

@@ -1,5 +1,5 @@
-//! What the heap's parts share: the size classes of Scudo's primary allocator, their regions, and
-//! the header in front of each chunk.
+//! The facts that the heap's parts share: the size classes of Scudo's primary allocator, their
+//! regions, and the header in front of each chunk.
 #![tactic(auto)]
 
 mod classes;

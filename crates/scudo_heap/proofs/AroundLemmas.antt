@@ -1,4 +1,4 @@
--- The granules of a chunk and those around it: two runs of tags, of which the second goes over the first, in place of three.
+-- The granules of a chunk and those around it: two runs of tags, of which the second goes over the first, instead of three.
 use Rattle.std.proofs.Common.{◌≡◌, ◌≢◌, ℕ, suc, zero, ◌+◌, ◌-◌, ◌*◌, ◌/◌, ◌%◌, ◌^◌, ◌<◌, ◌≤◌, Bool, true, false, cond, Option, Some, None, set, refl, sym, ap, ◌∙◌, inl, inr, arith}
 use Rattle.std.proofs.lemmas.Bool.{cases_eq}
 use Rattle.std.proofs.lemmas.List.{set-set, set_comm}
@@ -140,7 +140,7 @@ around m u n t low aligned high =
     ∙ run_after n x e u t true (omega arith) (λ i l s. omega arith)
     ∙ ap (λ y. with_granule y e 0 false) (run_twice n (with_granule m b 0 false) u t true (omega arith) ∙ run_after n m b u t true (omega arith) (λ i l s. omega arith))
 
--- the same where nothing of the block is behind the run
+-- the same where nothing of the block is after the run
 pub around_before : (m : Memory) (u n t : ℕ) → 16 ≤ u → u % 16 ≡ 0 → u + 16 * n < 2 ^ 56
     → with_granules (with_granules m (u - 16) (1 + n) 0 false) u n t true ≡ with_granules (with_granules m u n t true) (u - 16) 1 0 false
 unfolding with_granules

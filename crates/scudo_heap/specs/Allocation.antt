@@ -24,7 +24,7 @@ use Rattle.scudo_heap.specs.Chunks.{granules_of}
 use Rattle.scudo_heap.specs.Placing.{World, more_pages, pages_for, after_grow, after_place}
 use Rattle.scudo_heap.specs.Large.{mapping_for, large_placed}
 
--- What an allocation leaves: the world, and the chunk that it made, if it made one.
+-- The result of an allocation: the world, and the chunk that it made, if it made one.
 pub record AllocationResult : Type 0 where
   pub world : World
   pub chunk : Option Chunk
@@ -37,7 +37,7 @@ allocation_of w chunk = record { world = w; chunk = chunk }
 abbrev pub no_chunk : World → AllocationResult
 no_chunk w = allocation_of w None
 
--- What the caller is given: the user address with the tag in its bits 59:56, or 0.
+-- The pointer for the caller: the user address with the tag in its bits 59:56, or 0.
 abbrev pub answer_of : Option Chunk → ℕ
 answer_of None = 0
 answer_of (Some (Small p tag)) = p.user + 2 ^ 56 * tag

@@ -29,7 +29,7 @@ arguments_of (Realloc pointer size) = (pointer, size)
 arguments_of (Memalign alignment size) = (alignment, size)
 arguments_of (UsableSize pointer) = (pointer, 0)
 
--- What a call leaves, and its answer.
+-- The result of a call: the world, and its answer.
 pub record CallResult : Type 0 where
   pub world : World
   pub answer : Result ℕ HeapAbort
@@ -51,7 +51,7 @@ free_answer (Ok done) = Ok 0
 abbrev pub call_of_free : Freed → CallResult
 call_of_free f = record { world = f.world; answer = free_answer f.result }
 
--- What a heap call makes of a world, and its answer.
+-- The effect of a heap call on a world, and its answer.
 unfoldable pub after_call : World → HeapCall → CallResult
 after_call w (Malloc size) = call_of_allocation (after_malloc w size)
 after_call w (Free pointer) = call_of_free (free_of w pointer)

@@ -110,7 +110,7 @@ check_header h user (Some header) = if is_allocated header.state
 
 -- ---- all six
 
--- What the checks of a plain address find, or the first that fails.
+-- The chunk that the checks of a plain address find, or the first check that fails.
 unfoldable pub check_pointer : Memory → HeapState → ℕ → Result Found HeapAbort
 check_pointer m h user = if user % 16 == 0
     then (if is_mapped m user then check_header h user (header_at m h.cookie user)

@@ -37,8 +37,8 @@ tag_parity class block = block / 2 ^ trailing_zeros w32 (size_of class) % 2
 abbrev pub parity_mask : ℕ → ℕ → ℕ
 parity_mask class block = 0x5555 * 2 ^ tag_parity class block
 
--- What a draw excludes: tag 0, the tags of one half, and the tag of the granule at the user
--- address.
+-- The tags that a draw excludes: tag 0, the tags of one half, and the tag of the granule at the
+-- user address.
 unfoldable pub excluded_tags : Memory → Place → ℕ
 excluded_tags m p = bit_or (bit_or 1 (parity_mask p.class p.block)) (2 ^ tag_at m p.user)
 

@@ -11,12 +11,12 @@ use Rattle.scudo_heap.specs.declared.chunk.Found.{Found}
 use Rattle.scudo_heap.specs.declared.chunk.Found.TheVariants.{InBlock, InPages}
 use Rattle.scudo_heap.specs.Checks.{check_pointer, usable_size_cases}
 
--- What a free leaves: the world, and an abort if there is one.
+-- The result of a free: the world, and an abort if there is one.
 pub record Freed : Type 0 where
   pub world : World
   pub result : Result (Unit {0}) HeapAbort
 
--- What is left after a chunk that the checks found is freed.
+-- The world after a chunk that the checks found is freed.
 unfoldable pub without_chunk : World → Found → World
 without_chunk w (InBlock p header) = after_give_back w p header
 without_chunk w (InPages m header) = large_given_back w m

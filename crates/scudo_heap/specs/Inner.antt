@@ -1,5 +1,5 @@
 -- For the code's own clauses, views and invariants.
--- What the parts of the stacks of free blocks are, what of the condition of the calls the size
+-- The parts of the stacks of free blocks, the parts of the condition of the calls that the size
 -- classes and the mappings need, and what a chunk is that the checks found.
 use Rattle.std.specs.Prelude.{◌≡◌, ℕ, ◌+◌, ◌-◌, ◌%◌, ◌^◌, ◌<◌, ◌≤◌, ◌⊎◌, Some, false, List}
 use Rattle.std.specs.Prelude.{◌++◌, ◌∷◌, []}
@@ -85,7 +85,7 @@ pub record IsPlaced (s : StackState) (p : Place) : Type 0 where
   pub small : p.size < 2 ^ 20
   pub within : end_of p ≤ block_end p
 
--- What the checks find of a chunk of a size class.
+-- The findings of the checks of a chunk of a size class.
 pub record IsFoundBlock (s : StackState) (p : Place) (header : Header) : Type 0 where
   pub place : IsPlaced s p
   pub used : is_member (stack_of s p.class) p.block ≡ false

@@ -1,4 +1,4 @@
--- What the heap calls do with a chunk of a size class: its tags, its header and its block.
+-- Heap calls for a chunk of a size class: its tags, its header and its block.
 --     after_grow w class            a class without free blocks gets pages
 --     after_place w origin p        the chunk is made in the block on top of its class's stack
 --     after_give_back w p header    the chunk is freed
@@ -20,7 +20,8 @@ use Rattle.scudo_heap.specs.Heaps.{HeapState}
 use Rattle.scudo_heap.specs.Chunks.{with_chunk_tag, with_end_tag_0, with_header_tag_0, with_header}
 use Rattle.scudo_heap.specs.Chunks.{excluded_tags, after_retag_tail}
 
--- What a heap call changes: the tenant's memory, its heap, and its generator of random tags.
+-- The parts that a heap call changes: the tenant's memory, its heap, and its generator of random
+-- tags.
 pub record World : Type 0 where
   pub memory : Memory
   pub heap : HeapState
@@ -67,7 +68,7 @@ new_header origin p = record {
   offset = (p.user - p.block - 16) / 16;
 }
 
--- A tag is drawn for the chunk's granules, which become zero; the granules beside them get tag 0,
+-- A tag is drawn for the chunk's granules, which become zero; the granules next to them get tag 0,
 -- and the header is written. The block is no longer free.
 unfoldable pub after_place : World → Origin → Place → World
 after_place w origin p =

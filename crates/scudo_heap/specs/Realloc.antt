@@ -23,7 +23,7 @@ pub record ReallocResult : Type 0 where
   pub world : World
   pub result : Result (Option Chunk) HeapAbort
 
--- What the caller is given.
+-- The pointer for the caller.
 abbrev pub realloc_answer : Result (Option Chunk) HeapAbort → Result ℕ HeapAbort
 realloc_answer (Err e) = Err e
 realloc_answer (Ok chunk) = Ok (answer_of chunk)

@@ -23,8 +23,8 @@ heap_page mine = if mine then Some data_attrs.0 else None
 abbrev pub is_inside : ℕ → Mapping → Bool
 is_inside a m = nat_le m.start a && nat_lt a (secondary.end_of m)
 
--- room: the heap has room for all pages that are left in the memory; it is so from the start where
--- the memory may have at most the pages that the heap was made for
+-- room: the heap has capacity for all pages that are left in the memory; it is so from the start
+-- where the memory may have at most the pages that the heap was made for
 -- few: a class's pages are in its region
 -- regions: of a class's region exactly its pages are mapped
 -- mappings: of the range of chunks with pages of their own exactly theirs are mapped

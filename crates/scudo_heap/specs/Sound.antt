@@ -1,4 +1,4 @@
--- What holds of every heap, whatever the calls were, and of a heap with its memory.
+-- The invariant of every heap, whatever the calls were, and of a heap with its memory.
 use Rattle.std.specs.Prelude.{ℕ, ◌+◌, ◌<◌, ◌≤◌}
 use Rattle.scudo_header.specs.declared.config.TheConstants.{CLASSES}
 use Rattle.scudo_secondary.specs.Mappings.{AreMappings}
@@ -8,7 +8,7 @@ use Rattle.scudo_heap.specs.Heaps.{HeapState}
 use Rattle.scudo_heap.specs.Placing.{World}
 use Rattle.scudo_heap.specs.Served.{HeapOwnsItsPages}
 
--- What holds of every heap.
+-- The invariant of every heap.
 pub record IsSound (h : HeapState) : Type 0 where
   pub stacks : AreSound h.stacks
   pub mappings : AreMappings h.maps.mappings
@@ -18,8 +18,8 @@ abbrev pub HasRoom : StackState → Type 0
 HasRoom s =
     (class : ℕ) → 0 < class → class ≤ CLASSES → pages_of s class + s.left ≤ MAX_PAGES
 
--- What a heap with its memory starts with, and each call and each access keeps.
--- owned: the condition of the calls
+-- The invariant of a heap with its memory: it holds at the start, and each call and each access
+-- keeps it. owned: the condition of the calls
 pub record IsSoundWorld (w : World) : Type 0 where
   pub owned : HeapOwnsItsPages w.memory w.heap
   pub room : HasRoom w.heap.stacks

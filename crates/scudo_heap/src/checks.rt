@@ -169,8 +169,8 @@ fn read_header_apart<M: Paged>(memory: &mut M, user: u64) -> Result<(u64, u8), H
     Ok((word, tag_or_zero(memory, user)))
 }
 
-/// What `read_header_apart` returns, copied field by field: so the result of the fast path stays in
-/// registers.
+/// The answer of `read_header_apart`, copied field by field: so the result of the fast path stays
+/// in registers.
 #[inline(always)]
 fn by_parts<M: Paged>(memory: &mut M, user: u64) -> Result<(u64, u8), HeapAbort>
     requires { IsPlainAddress user }
@@ -216,7 +216,7 @@ pub(crate) fn read_header<M: Paged>(memory: &mut M, user: u64) -> Result<(u64, u
     }
 }
 
-/// What the checks of a header's word find, or the first that fails.
+/// The chunk that the checks of a header's word find, or the first check that fails.
 #[inline(always)]
 pub(crate) fn check_word(parts: &HeapParts, user: u64, word: u64) -> Result<Found, HeapAbort>
     requires { IsPlainAddress user }
@@ -233,7 +233,7 @@ pub(crate) fn check_word(parts: &HeapParts, user: u64, word: u64) -> Result<Foun
     by_header(&parts.stacks, &parts.maps, user, &header)
 }
 
-/// What the checks of a plain address find, or the first that fails.
+/// The chunk that the checks of a plain address find, or the first check that fails.
 #[inline(always)]
 pub(crate) fn find_chunk<M: Paged>(
     parts: &HeapParts,

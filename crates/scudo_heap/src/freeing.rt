@@ -1,4 +1,4 @@
-//! What is left after a chunk is freed.
+//! The heap after a chunk is freed.
 
 ghost use Rattle.std.specs.Prelude.{◌≡◌, ◌-◌, ◌<◌, ◌≤◌, ◌/◌, ◌%◌, ◌^◌, ◌+◌, ◌*◌, ℕ};
 ghost use Rattle.std.specs.Prelude.{Some, IfSome, true};

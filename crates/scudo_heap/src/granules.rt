@@ -1,4 +1,4 @@
-//! What the heap does to its pages of the tenant's memory. No access of the heap's own compares
+//! Accesses of the heap to its pages of the tenant's memory. No access of the heap's own compares
 //! tags, so none sets the flag of the asynchronous mode.
 
 ghost use Rattle.std.specs.Prelude.{◌≡◌, ◌+◌, ◌-◌, ◌*◌, ◌%◌, ◌^◌, ◌<◌, ◌≤◌, ℕ};

@@ -272,7 +272,7 @@ impl Heap {
         }
     }
 
-    /// What holds of every heap, whatever the calls were: in each stack of free blocks there are
+    /// The invariant of every heap, whatever the calls were: in each stack of free blocks there are
     /// carved blocks, none of them twice, and the mappings are in order, each with pages of its own
     /// in their range.
     pub fn recall(&self)

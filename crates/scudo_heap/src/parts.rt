@@ -6,7 +6,7 @@ use scudo_secondary::Secondary;
 /// The parts of a heap.
 #[derive(Drop)]
 pub(crate) struct HeapParts {
-    /// What the checksums of the headers start from.
+    /// The number from which the checksums of the headers start.
     pub(crate) cookie: u32,
     /// The free blocks of the size classes.
     pub(crate) stacks: Stacks,

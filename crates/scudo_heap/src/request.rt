@@ -1,4 +1,4 @@
-//! What an allocation asks for.
+//! The request of an allocation.
 
 ghost use Rattle.std.specs.Prelude.{◌≡◌};
 ghost use Rattle.scudo_heap.specs.Allocation.{need_of};
@@ -7,12 +7,12 @@ ghost use Rattle.scudo_heap.specs.Inner.{IsRequest};
 use crate::tagging::granules;
 use scudo_header::Origin;
 
-/// What an allocation asks for.
+/// The request of an allocation.
 #[derive(Clone, Copy)]
 pub(crate) struct Request {
     /// The call that asks.
     pub(crate) origin: Origin,
-    /// What the chunk's address is a multiple of.
+    /// The alignment of the chunk's address.
     pub(crate) align: u64,
     /// The bytes of the chunk.
     pub(crate) size: u64,

@@ -100,7 +100,7 @@ IsBlock-more c m n b h l k =
     let r = k.carved in
     record { inside = k.inside; start = k.start; carved = omega arith }
 
--- the test of a block that has room behind its start
+-- the test of a block that has room after its start
 pub block-test : (c m pages b s start room : ℕ) (answer : Bool) → IsClass c → m ≡ pages → start ≡ region_of c → s ≡ size_of c → start ≤ b → s ≤ room → room ≡ PAGE_SIZE * pages - (b - start)
     → answer ≡ ((b - start) % size_of c == 0) → (IsTrue answer → IsBlock c m b) × (IsBlock c m b → IsTrue answer)
 block-test c m pages b s start room answer h same es ez l fits r e =

@@ -145,7 +145,7 @@ rest-none : (s : List ℕ) → None ≡ slice_get s 0 → s ≡ drop 1 s
 rest-none [] e = refl
 rest-none (x ∷ s) e = cc
 
--- the newest is behind the others
+-- the newest is after the others
 newest-last : (x : ℕ) (xs : List ℕ) → x ∷ xs ≡ take (length xs) (x ∷ xs) ++ get_or (x ∷ xs) (length xs) 0 ∷ []
 newest-last x xs = sym (take_all (suc (length xs)) (x ∷ xs) (omega arith)) ∙ take-suc (x ∷ xs) (length xs) 0 (omega arith)
 
@@ -268,7 +268,7 @@ held-room p p' c xs ys f e h =
     let t = e ∙ sym (room-full c xs p f) in
     held-dropped p p' c (max_count_of c / 2) xs ys (omega arith) (ap (λ (k : Class). k.pool) t) (ap (λ (k : Class). k.entries) t) h
 
--- ---- a block behind the others
+-- ---- a block after the others
 
 pub put-state : (p p' : PoolState) (c b : ℕ) (xs ys : List ℕ) → p' ≡ with_mark p c b true → ys ≡ xs ++ b ∷ [] → class_with ys p' ≡ after_put c b (class_with xs p)
 unfolding after_put

@@ -41,7 +41,7 @@ table-filled es es' ns ns' ks le ln fe fn h =
       linked = λ c hc. (class-kept es es' ns ns' c (list_at ks c) hc (h.linked c hc) (λ x b. entry-filled es es' ns ns' c x fe fn)).1;
     }
 
--- the pool with such lists in place of its own
+-- the pool with such lists instead of its own
 abbrev pub filled : Inside → Vec BlockEntry Global → Vec ℕ Global → Inside
 filled f entries numbers = record { entries = entries; numbers = numbers; lists = f.lists; used = f.used; limit = f.limit }
 

@@ -1,5 +1,5 @@
 -- For the code's own clauses, views and invariants.
--- What holds of the fields of a cache, and of the blocks of one class and the pool.
+-- The invariant of a cache's fields, and of the blocks of one class and the pool.
 use Rattle.std.specs.Prelude.{◌≡◌, ℕ, ◌-◌, ◌≤◌, List, [], length, nat_eq, slice_index_or}
 use Rattle.std.specs.Prelude.{vec_capacity}
 use Rattle.std.specs.List.{All, IsDistinct}

@@ -59,7 +59,7 @@ stack_over entries p class = reverse entries ++ stack_of p class
 abbrev pub one_stack : CacheState → PoolState → ℕ → List ℕ
 one_stack c p class = stack_over (entries_of c class) p class
 
--- What the cache holds is carved, marked free, and in no list of the pool.
+-- The blocks in the cache are carved, marked free, and in no list of the pool.
 pub record IsAbove (c : CacheState) (p : PoolState) : Type 0 where
   pub cached :
       (class : ℕ) → 0 < class → class ≤ CLASSES → All (IsCached p class) (entries_of c class)
@@ -78,7 +78,7 @@ pub record AreStacks (c : CacheState) (p : PoolState) : Type 0 where
       (class : ℕ) → 0 < class → class ≤ CLASSES
       → IsStack class (pages_of p class) (class_at p class).marks (one_stack c p class)
 
--- What a call leaves of all but the stack of its class.
+-- A call keeps all but the stack of its class.
 pub record KeepsRest (class : ℕ) (c : CacheState) (p : PoolState) (c' : CacheState) (p' : PoolState)
     : Type 0 where
   pub above : IsAbove c' p'

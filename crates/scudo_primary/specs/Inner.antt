@@ -85,11 +85,11 @@ place_of ns class block =
     page_number ns class ((block - region_of class) / PAGE_SIZE) * 128
     + (block - region_of class) % PAGE_SIZE / 32
 
--- What an entry is that was never written.
+-- An entry that was never written.
 abbrev pub no_entry : BlockEntry
 no_entry = record { next = 0; free = false; last = false }
 
--- What a class has before its first carve.
+-- A class before its first carve.
 abbrev pub no_list : ClassList
 no_list = record { head = 0; count = 0; pages = 0 }
 

@@ -1,4 +1,4 @@
-//! What the stacks begin as, what becomes of them where the pool itself changes, and what the
+//! Laws of the stacks: how they begin, how they change where the pool itself changes, and what the
 //! equations of the calls say of them.
 
 ghost use Rattle.std.specs.Prelude.{◌≡◌, ◌≢◌, ◌<◌, ◌≤◌, ◌∷◌, [], ℕ, List, false, length, drop};
@@ -33,7 +33,7 @@ pub fn stacks_of_parts()
 
 /// A take that gives the top of the one stack leaves the rest of it, and marks the block used; a
 /// put leaves it with the block on top. The pool's own lists stay where the cache holds a block to
-/// be taken, or has room for one that is put.
+/// be taken, or has capacity for one that is put.
 pub fn stacks_after_calls()
     ensures take { (c : CacheState) (p : PoolState) (class : ℕ)
         → block_taken c p class ≡ slice_get (one_stack c p class) 0

@@ -18,7 +18,7 @@ use scudo_header::{CLASSES, MAX_COUNT, region_start, size_of_class};
 /// How many lists there are: one for each size class.
 pub(crate) const LISTS: usize = CLASSES as usize;
 
-/// What is kept for a block: the address of the block below it in its stack, whether it is marked
+/// The entry of a block: the address of the block below it in its stack, whether it is marked
 /// free, and whether it is the last of its batch.
 #[derive(Clone, Copy)]
 pub(crate) struct BlockEntry {

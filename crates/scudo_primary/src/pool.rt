@@ -162,7 +162,7 @@ impl Primary {
         ensures blocks { buffer.new ≡ top_batch self.old class ++ drop result buffer.old }
         ensures pool { self.new ≡ without_batch self.old class }
 
-        // What follows from the pool's own order.
+        // Facts that follow from the pool's own order.
         ensures most { result ≤ max_count_of class }
         ensures empty { (result ≡ 0) ↔ (stack_of self.old class ≡ []) }
         ensures stack { stack_of self.old class

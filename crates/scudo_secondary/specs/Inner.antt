@@ -1,5 +1,5 @@
 -- For the code's own clauses, views and invariants.
--- What the list of mappings in the code is.
+-- The list of mappings in the code.
 use Rattle.std.specs.Prelude.{◌≤◌, vec_capacity}
 use Rattle.scudo_secondary.specs.Mappings.{SecondaryState, AreMappings, pages_of}
 use Rattle.scudo_secondary.specs.declared.maps.Secondary.TheInside.{Inside}
@@ -8,7 +8,7 @@ use Rattle.scudo_secondary.specs.declared.maps.Secondary.TheInside.{Inside}
 abbrev pub secondary_state : Inside → SecondaryState
 secondary_state f = record { limit = vec_capacity f.mappings; mappings = f.mappings.items }
 
--- there is room for each mapping that may come
+-- there is space for each mapping that may come
 pub record IsSecondary (f : Inside) : Type 0 where
   pub mappings : AreMappings f.mappings.items
   pub room : pages_of f.mappings.items ≤ vec_capacity f.mappings

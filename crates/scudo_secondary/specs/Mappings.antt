@@ -38,7 +38,7 @@ end_of m = m.start + PAGE_SIZE * m.pages
 abbrev pub pages_of : List Mapping → ℕ
 pages_of ms = sum_by (λ m. m.pages) ms
 
--- There is room for a mapping of so many pages more.
+-- There is space for a mapping of so many pages more.
 abbrev pub HasRoom : SecondaryState → ℕ → Type 0
 HasRoom s pages = pages_of s.mappings + pages ≤ s.limit
 

@@ -45,7 +45,7 @@ pub(crate) fn index_of(mappings: &[Mapping], user: u64) -> Option<usize>
     }
 }
 
-/// Adds a mapping where there is room for it, so that nothing is reallocated.
+/// Adds a mapping where there is space for it, so that nothing is reallocated.
 pub(crate) fn insert_in_order(mappings: &mut Vec<Mapping>, mapping: Mapping)
     requires mappings { AreMappings mappings.old.items }
     requires room { vec_len mappings.old < vec_capacity mappings.old }

@@ -32,8 +32,8 @@ impl Model for Secondary {
 }
 
 impl Secondary {
-    /// No mappings, with room for those of `pages` pages together, up to `MAX_PAGES`. It is refused
-    /// only where its memory is.
+    /// No mappings, with capacity for those of `pages` pages together, up to `MAX_PAGES`. It is
+    /// refused only where its memory is.
     pub fn new(alloc: Global, pages: u64) -> Result<Secondary, AllocError>
         requires { pages ≤ MAX_PAGES }
         ensures { IfOk result (λ maps. maps ≡ record { limit = pages; mappings = [] }) }

@@ -50,7 +50,7 @@ pub record IsAlone (frames : ℕ) (life : Life) : Type 0 where
   pub refused : refusals (session_alone life) ≡ []
   pub has : lives (session_alone life) ≡ life ∷ []
 
--- What a session accepts of a tenant is accepted in the tenant's own session.
+-- An event of a tenant that a session accepts is accepted in the tenant's own session.
 abbrev pub AcceptedAlone : Type 0
 AcceptedAlone = (s : Session) → All (IsAlone s.frames) (lives s)
 

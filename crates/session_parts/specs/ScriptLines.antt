@@ -4,7 +4,7 @@ use Rattle.std.specs.Prelude.{is_some, Ok, codes}
 use Rattle.mte_script.specs.declared.event.Event.{Event}
 use Rattle.mte_script.specs.Scripts.{lines_of, event_of_line, script_events}
 
--- What a mask keeps of a list.
+-- The members of a list that a mask keeps.
 abbrev pub chosen : {X : Type 0} → List Bool → List X → List X
 chosen mask xs = map (λ p. p.0) (filter (λ p. p.1) (zip xs mask))
 

@@ -16,9 +16,9 @@ pub fn decisions_need_no_steps()
     ensures { DecisionsNeedNoSteps }
 {}
 
-/// What a session accepts of a tenant, a session of the tenant's own accepts: a host with frames
-/// for its reservation and no more, its admission, its own slices and its own stop. Those are no
-/// more frames than the session had.
+/// An event of a tenant that a session accepts, a session of the tenant's own accepts: a host with
+/// frames for its reservation and no more, its admission, its own slices and its own stop. Those
+/// are no more frames than the session had.
 pub fn accepted_alone()
     ensures { AcceptedAlone }
 {}

@@ -1,4 +1,4 @@
-//! What a picture says of chunks.
+//! Notes of a picture about chunks.
 
 use crate::extent::Extent;
 use heap_picture::Note;
@@ -8,12 +8,12 @@ use std::alloc::Global;
 use std::io::Write;
 use std::{fmt, io};
 
-/// What is said of the chunks of a picture.
+/// The notes about the chunks of a picture.
 #[derive(Clone, Copy)]
 pub struct Notes<'e, 'n> {
     /// The granules of the chunks.
     pub extents: &'e [Extent],
-    /// What the addresses of the image are called.
+    /// The names of the image's addresses.
     pub names: &'n FrameNames<'n>,
     /// The number of the call that made the chunk that the cause names.
     pub cause: Option<u64>,
@@ -81,7 +81,7 @@ impl fmt::Display for ChunkSize {
     }
 }
 
-/// What is said of a chunk: its size, its calls, where it was made, and that its block had another
+/// The note of a chunk: its size, its calls, where it was made, and that its block had another
 /// chunk before.
 #[derive(Clone, Copy)]
 struct Title<'a> {

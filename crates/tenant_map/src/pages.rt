@@ -15,9 +15,9 @@ pub struct MappedPages {
     pub start: u64,
     /// The address after the last.
     pub end: u64,
-    /// What may be done with them.
+    /// The attributes of the pages.
     pub attrs: Attrs,
-    /// What they are for.
+    /// The use of the pages.
     pub range: RangeUse,
 }
 

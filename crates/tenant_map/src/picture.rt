@@ -13,7 +13,7 @@ use std::alloc::{AllocError, Global};
 use std::io::Write;
 use std::{fmt, io};
 
-/// What a picture is written as.
+/// The format of a picture.
 #[derive(Clone, Copy)]
 pub enum PictureForm {
     /// A drawing in SVG.
@@ -25,17 +25,17 @@ pub enum PictureForm {
 /// A picture of a tenant's heap and its tags.
 #[derive(Clone, Copy)]
 pub struct Picture<'a> {
-    /// What is above it, a line.
+    /// The title above it, a line.
     pub title: &'a str,
-    /// What happened where, a line that may be empty.
+    /// The event that it shows, a line that may be empty.
     pub story: &'a str,
     /// The granules of the chunks.
     pub extents: &'a [Extent],
-    /// What the addresses of the image are called.
+    /// The names of the image's addresses.
     pub names: &'a FrameNames<'a>,
     /// The number of the call that made the chunk that the cause names.
     pub cause: Option<u64>,
-    /// What is framed.
+    /// The granules with a frame.
     pub mark: Option<Mark>,
 }
 
@@ -84,7 +84,7 @@ impl<'a> Picture<'a> {
             .find(|extent| extent.chunk.made.number == number)
     }
 
-    /// What is said of its chunks.
+    /// The notes about its chunks.
     fn notes(&self) -> Notes<'a, 'a> {
         Notes {
             extents: self.extents,
@@ -262,7 +262,7 @@ fn listed(
     Ok(list)
 }
 
-/// What the pages of a range are for.
+/// The use of the pages of a range.
 fn kind_of(range: RangeUse) -> Option<Kind> {
     match range {
         RangeUse::Image => Some(Kind::Image),

@@ -179,7 +179,7 @@ fn is_blank<M: Tagged>(memory: &mut M, address: u64) -> bool {
     true
 }
 
-/// Adds the row of an address, and the rows beside it that have tags.
+/// Adds the row of an address, and the rows next to it that have tags.
 fn push_marked<M: Tagged>(
     rows: &mut Vec<u64>,
     memory: &mut M,
@@ -237,7 +237,7 @@ fn tag_of<M: Tagged>(memory: &mut M, addr: u64) -> Option<u8> {
     }
 }
 
-/// What the row at an address shows.
+/// The contents of the row at an address.
 pub fn row_at<M: Tagged>(memory: &mut M, extents: &[Extent], address: u64) -> PictureRow {
     let unmapped = PictureGranule {
         tag: None,

@@ -9,7 +9,7 @@ use run_records::Bytes;
 use std::io::Write;
 use std::{fmt, io};
 
-/// What is above the rows.
+/// The text above the rows.
 const HEAD: &str =
     "each sign is a granule of 16 bytes: its tag in hexadecimal, or . where no page is mapped; \
     below it = in a live chunk, x in a freed one, ^ what was refused";
@@ -84,7 +84,7 @@ impl<'a> fmt::Display for ExtentLabel<'a> {
     }
 }
 
-/// The tags of a row, behind its address and its class.
+/// The tags of a row, after its address and its class.
 #[derive(Clone, Copy)]
 struct RowTags<'a>(&'a PictureRow);
 

@@ -1,4 +1,4 @@
--- What a handle owns: nothing, or the block of a box and its value.
+-- The ownership of a handle: nothing, or the block of a box and its value.
 use Rattle.std.specs.Prelude.{Option, Some, None}
 use base.Fml.{Fml, feq}
 use denote.RawPtr.{Ptr, null_ptr}

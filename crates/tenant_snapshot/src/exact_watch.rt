@@ -1,4 +1,4 @@
-//! What watches whether a run keeps to the bytes of its tenant's chunks, whatever the tags.
+//! The watch of whether a run keeps to the bytes of its tenant's chunks, whatever the tags.
 
 ghost use Rattle.std.specs.Prelude.{None};
 
@@ -21,11 +21,11 @@ pub struct ExactFinding {
     pub addr: u64,
     /// The access.
     pub span: Span,
-    /// What it does there.
+    /// The access.
     pub trespass: Trespass,
 }
 
-/// What was before an instruction that is attempted.
+/// The state before an instruction that is attempted.
 #[derive(Clone, Copy)]
 struct Before {
     /// Its word, if it could be fetched.
@@ -114,7 +114,7 @@ fn enter_last(chunks: &mut Bounds, calls: &HeapCalls) -> bool {
     }
 }
 
-/// What an instruction that completed, or the service that it requested, accessed and may not.
+/// The access that an instruction that completed, or the service that it requested, may not make.
 fn judge(chunks: &Bounds, before: &Before, parts: &TenantParts) -> Option<ExactFinding> {
     let span = span_of(before.word?, &before.regs, &parts.regs)?;
     let (addr, trespass) = chunks.check(span.addr, span.bytes)?;

@@ -66,7 +66,7 @@ impl FuzzHandle {
         }
     }
 
-    /// What owns a machine, as a handle.
+    /// The owner of a machine, as a handle.
     fn tight(machine: LooseBox<SnapshotTenant, Global>) -> FuzzHandle
         ensures { result.value ≡ Some machine.value }
     {
@@ -76,7 +76,7 @@ impl FuzzHandle {
         }
     }
 
-    /// What owns the machine, if there is one.
+    /// The owner of the machine, if there is one.
     fn loose(self, alloc: Global) -> Option<LooseBox<SnapshotTenant, Global>>
         ensures { option_map (λ l. l.value) result ≡ self.value }
     {

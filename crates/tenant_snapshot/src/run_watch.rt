@@ -1,10 +1,10 @@
-//! What watches a run from a snapshot.
+//! The watch of a run from a snapshot.
 
 use crate::edge_map::{CountedEdges, EdgeMap};
 use crate::exact_watch::{ExactFinding, ExactWatch};
 use heap_bounds::Bounds;
 
-/// What watches a run: what counts its branches alone, or what judges its accesses too.
+/// The watch of a run: one counts its branches alone, one judges its accesses too.
 #[derive(Drop)]
 pub enum RunWatch<'a> {
     /// Its branches are counted.

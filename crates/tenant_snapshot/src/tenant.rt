@@ -40,7 +40,7 @@ impl SnapshotTenant {
     ghost use Rattle.tenant_snapshot.specs.Snapshots.{with_input};
 
     /// A tenant at its first instruction, which is its snapshot too, or why it is refused. Only
-    /// `OutOfMemory`, where an allocation failed, can come in place of the refusals from `Image`
+    /// `OutOfMemory`, where an allocation failed, can come instead of the refusals from `Image`
     /// on.
     pub fn new(
         alloc: Global,

@@ -13,6 +13,6 @@ pub struct Terms {
     pub pages: u32,
     /// How many bytes it may write; at most `MAX_OUTPUT` are accepted.
     pub room: u32,
-    /// What a tag that differs does to its accesses.
+    /// The mode of tag checks.
     pub mode: TagMode,
 }

@@ -13,7 +13,7 @@ use Rattle.tombolopan.specs.declared.trace_request.TraceRequest.{TraceRequest}
 held_short : {A : Type 0} (xs old : List A) → length xs ≤ length old → held xs old ≡ xs ++ drop (length xs) old
 held_short xs old h = ap (λ t. t ++ drop (length xs) old) (take_all (length old) xs h)
 
--- what is entered behind items that an array holds
+-- what is entered after items that an array holds
 pub set_held : {A : Type 0} (xs old : List A) (v : A) → length xs < length old → set (held xs old) (length xs) v ≡ held (xs ++ v ∷ []) old
 set_held xs old v h =
     let n = length xs in
@@ -25,7 +25,7 @@ set_held xs old v h =
     ∙ ap (λ k. (xs ++ v ∷ []) ++ drop k old) more
     ∙ sym (held_short (xs ++ v ∷ []) old (omega (arith, h, more)))
 
--- an array holds what is entered behind the items that it held
+-- an array holds what is entered after the items that it held
 pub holds_more : {A : Type 0} (xs old now : List A) (count : ℕ) (v : A) → count < length old → Holds xs old now count
     → Holds (xs ++ v ∷ []) old (set now count v) (count + 1)
 holds_more xs old now count v room h =

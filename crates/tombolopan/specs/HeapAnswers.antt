@@ -1,4 +1,4 @@
--- What an operation answers and leaves. One that aborts or faults changes nothing.
+-- The answer of an operation, and the world after it. One that aborts or faults changes nothing.
 use Rattle.std.specs.Prelude.{ℕ, true, Option, Some, None, Result, Ok, Err}
 use Rattle.std.specs.Int.{w64, from_le_bytes, to_le_bytes}
 use Rattle.a64_bits.specs.Addresses.{plain}
@@ -14,7 +14,7 @@ use Rattle.tombolopan.specs.declared.heap_op.HeapOp.TheVariants.{Call, Load, Sto
 use Rattle.tombolopan.specs.declared.heap_op.HeapAnswer.{HeapAnswer}
 use Rattle.tombolopan.specs.declared.heap_op.HeapAnswer.TheVariants.{Value, Abort, Fault}
 
--- What an operation leaves: the world, and its answer.
+-- The result of an operation: the world, and its answer.
 pub record Answered : Type 0 where
   pub world : World
   pub answer : HeapAnswer
@@ -32,7 +32,7 @@ answered_call r = record { world = r.world; answer = of_call r.answer }
 
 -- ---- accesses, with the tags compared
 
--- What an access leaves: the memory, and its answer.
+-- The result of an access: the memory, and its answer.
 pub record Accessed : Type 0 where
   pub memory : Memory
   pub answer : HeapAnswer
@@ -62,7 +62,7 @@ in_world w x = record { world = record w { memory = x.memory }; answer = x.answe
 
 -- ---- all operations
 
--- What an operation makes of a world.
+-- The effect of an operation on a world.
 unfoldable pub after_operation : World → HeapOp → Answered
 after_operation w (Call call) = answered_call (after_call w call)
 after_operation w (Load addr) = in_world w (load_of w.memory addr)

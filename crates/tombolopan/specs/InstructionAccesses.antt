@@ -29,7 +29,7 @@ use Rattle.tombolopan.specs.declared.instruction_access.InstructionAccess.{Instr
 use Rattle.tombolopan.specs.declared.trace_arrays.TracedAccess.{TracedAccess}
 use Rattle.tombolopan.specs.declared.trace_request.TraceRequest.{TraceRequest}
 
--- What reads or writes bytes: a store writes.
+-- An access that reads or writes bytes: a store writes.
 abbrev pub byte_kind : ℕ → ℕ
 byte_kind op = if op == STORE then ACCESS_WRITE else ACCESS_READ
 
@@ -43,7 +43,7 @@ both_of unit x y =
     if unit == 8 then x ∷ y ∷ []
     else (x % 2 ^ 32 + 2 ^ 32 * (y % 2 ^ 32)) ∷ 0 ∷ []
 
--- What a store leaves in memory; of a load nothing is known yet.
+-- The bytes that a store leaves in memory; of a load nothing is known yet.
 abbrev pub known_of : ℕ → List ℕ → List ℕ
 known_of op stored = if op == STORE then stored else 0 ∷ 0 ∷ []
 
@@ -158,12 +158,13 @@ number_there m a size = result_unwrap_or (number_read m a (size_code size) false
 abbrev pub tag_there : Memory → ℕ → ℕ
 tag_there m a = result_unwrap_or (tag_result (tag_load_fault m a) (tag_at m (plain a))) 0
 
--- What a load has put into a register. The zero register keeps nothing: it is what memory has.
+-- The value that a load has put into a register. The zero register keeps nothing: it is what memory
+-- has.
 abbrev pub loaded_in : Regs → Memory → ℕ → ℕ → ℕ → ℕ
 loaded_in r m a size rt =
     if nat_lt rt 31 then low_bytes size (register r rt) else number_there m a size
 
--- What a load of one register or of two has read, by what it left.
+-- The value that a load of one register or of two has read, by what it left.
 abbrev pub loaded_of : Regs → Memory → InstructionAccess → Option ℕ → List ℕ
 loaded_of r m a None = loaded_in r m a.addr a.size a.first ∷ 0 ∷ []
 loaded_of r m a (Some second) =
@@ -171,7 +172,7 @@ loaded_of r m a (Some second) =
     (loaded_in r m a.addr (a.size / 2) a.first)
     (loaded_in r m ((a.addr + a.size / 2) % 2 ^ 64) (a.size / 2) second)
 
--- What an access has read or written, by what its instruction left.
+-- The value that an access has read or written, by what its instruction left.
 unfoldable pub value_of : Regs → Memory → InstructionAccess → List ℕ
 value_of r m a =
     if a.kind == ACCESS_READ then loaded_of r m a a.second
@@ -202,7 +203,7 @@ next_access r m = option_and_then (λ i. accessed i r) (next_instr r m)
 abbrev pub completed : Outcome → Option InstructionAccess → Option InstructionAccess
 completed o a = if is_next o then a else None
 
--- What is entered of step k, which leaves s.
+-- The entry of step k, which leaves s.
 abbrev pub accesses_of_step : TraceRequest → ℕ → Regs → Memory → Stepped → List TracedAccess
 accesses_of_step q k r m s =
     entered_access q k r.pc s.regs s.memory (completed s.outcome (next_access r m))

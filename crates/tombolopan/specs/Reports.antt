@@ -1,4 +1,4 @@
--- What a session comes to: its report, or why it has none.
+-- The outcome of a session: its report, or why it has none.
 use Rattle.std.specs.Prelude.{◌≡◌, ℕ, List, length, Ok, Err, ⊤}
 use Rattle.mte_script.specs.declared.event.Event.{Event}
 use Rattle.mte_script.specs.Scripts.{script_events}

@@ -26,7 +26,7 @@ is_code low high pc = nat_le low pc && nat_le pc high
 abbrev pub is_stop : List ℕ → ℕ → Bool
 is_stop stops pc = list_any (λ a. a == pc) stops
 
--- What stopped a run, unless a step went on.
+-- The outcome that stopped a run, unless a step continued.
 abbrev pub stopping : Outcome → Option Outcome
 stopping outcome.Next = None
 stopping other = Some other
@@ -38,12 +38,12 @@ entered q k pc w =
     then record { step = k; pc = pc; word = w; unused = 0 } ∷ []
     else []
 
--- What is entered of step k, by the word that it fetched: nothing where the fetch failed.
+-- The entry of step k, by the word that it fetched: nothing where the fetch failed.
 abbrev pub fetched : TraceRequest → ℕ → ℕ → Option ℕ → List TracedInstruction
 fetched q k pc (Some w) = entered q k pc w
 fetched q k pc None = []
 
--- What a number of steps leave: whether an outcome or a stop ended them, and what was entered.
+-- The result of a number of steps: whether an outcome or a stop ended them, and what was entered.
 pub record Trace : Type 0 where
   pub regs : Regs
   pub memory : Memory
@@ -98,7 +98,7 @@ held items old = take (length old) items ++ drop (length items) old
 abbrev pub MayGoOn : TraceEnd → Type 0
 MayGoOn e = e.steps + 1 < 2 ^ 64
 
--- An array that holds the items xs in front of what it held before; where it has no room, it holds
+-- An array that holds the items xs in front of what it held before; where it has no space, it holds
 -- none and none is counted.
 pub record Holds {A : Type 0} (xs old now : List A) (count : ℕ) : Type 0 where
   pub list : now ≡ held xs old
@@ -114,12 +114,12 @@ pub record Arrays : Type 0 where
 abbrev pub arrays : List TracedInstruction → List TracedAccess → Arrays
 arrays i a = record { instructions = i; accesses = a }
 
--- What is entered of an access, if there is one.
+-- The entry of an access, if there is one.
 abbrev pub listed : Option TracedAccess → List TracedAccess
 listed None = []
 listed (Some a) = a ∷ []
 
--- What a traced run has left, is what its first steps leave.
+-- A traced run leaves what its first steps leave.
 pub record IsTraced (q : TraceRequest) (r0 : Regs) (m0 : Memory) (old : Arrays) (e : TraceEnd)
     (r : Regs) (m : Memory) (now : Arrays) : Type 0 where
   pub regs : r ≡ (trace_of e.steps q r0 m0).regs
@@ -130,12 +130,12 @@ pub record IsTraced (q : TraceRequest) (r0 : Regs) (m0 : Memory) (old : Arrays) 
       Holds (trace_of e.steps q r0 m0).instructions old.instructions now.instructions e.instructions
   pub accesses : Holds (trace_of e.steps q r0 m0).accesses old.accesses now.accesses e.accesses
 
--- An array in which something is entered has no room left.
+-- An array in which something is entered has no space left.
 abbrev pub HasNoRoom : ℕ → ℕ → Type 0
 HasNoRoom count room = (0 < room) × (room ≤ count)
 
 -- A run that stopped since an array is full has done nothing else that ends it, and one of the
--- arrays, which have room for these numbers of entries, is full.
+-- arrays, which have capacity for these numbers of entries, is full.
 pub record IsFull (e : TraceEnd) (instructions accesses : ℕ) : Type 0 where
   pub outcome : e.outcome ≡ None
   pub reached : e.reached ≡ false

@@ -45,7 +45,7 @@ fn tag_at<M: Tagged>(memory: &mut M, addr: u64) -> u64
     u64::from(memory.load_tag(addr).unwrap_or(0))
 }
 
-/// What a load has put into a register; what memory has where that was the zero register.
+/// The value that a load has put into a register; that of memory where it was the zero register.
 #[inline(always)]
 fn loaded_in<M: Tagged>(regs: &Regs, memory: &mut M, addr: u64, size: u32, rt: u8) -> u64
     ensures number { result
@@ -61,7 +61,7 @@ fn loaded_in<M: Tagged>(regs: &Regs, memory: &mut M, addr: u64, size: u32, rt: u
 }
 
 impl InstructionAccess {
-    /// What a load of one register or of two has read, by what it left.
+    /// The value that a load of one register or of two has read, by what it left.
     #[inline(always)]
     fn loaded<M: Tagged>(&self, regs: &Regs, memory: &mut M) -> [u64; 2]
         ensures value { result
@@ -79,7 +79,7 @@ impl InstructionAccess {
         both(u64::from(unit), low, high)
     }
 
-    /// What the access has read or written, by what its instruction left.
+    /// The value that the access has read or written, by what its instruction left.
     #[inline(always)]
     #[tactic(auto, unfolding(crate::specs::InstructionAccesses::value_of))]
     pub(crate) fn value<M: Tagged>(&self, regs: &Regs, memory: &mut M) -> [u64; 2]

@@ -19,7 +19,7 @@ pub enum HeapOp {
     LoadTag { addr: u64 },
 }
 
-/// What an operation answers. One that aborts or faults has changed nothing.
+/// The answer of an operation. One that aborts or faults has changed nothing.
 #[derive(Clone, Copy, PartialEq, Eq)]
 pub enum HeapAnswer {
     /// The pointer to the chunk or 0 where there is none, the size, the number that was read or the

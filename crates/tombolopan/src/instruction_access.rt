@@ -28,7 +28,8 @@ pub struct InstructionAccess {
     pub addr: u64,
     /// How many bytes: 1 to 16; of the tags of one granule 16, of two 32.
     pub size: u32,
-    /// What is stored: the bytes, the lowest first, or of tags alone the tag; 0 of a load.
+    /// The value that is stored: the bytes, the lowest first, or of tags alone the tag; 0 of a
+    /// load.
     pub value: [u64; 2],
     /// The register that is loaded or stored.
     pub first: u8,
@@ -149,7 +150,7 @@ pub(crate) fn both(unit: u64, first: u64, second: u64) -> [u64; 2]
     }
 }
 
-/// What an instruction with STORE or a load in this field does to bytes.
+/// The effect on bytes of an instruction with STORE or a load in this field.
 #[inline(always)]
 fn kind_of(op: u8) -> u32
     ensures { result ≡ byte_kind op }

@@ -3,7 +3,7 @@
 //! - instructions: `decode`, `Decoder`, `Instr`, and their text, `Text` and `TextAt`;
 //! - a memory with tags: `Flat`, over the traits `Tagged` and `Paged`, or one of your own over
 //!   `PageStore`;
-//! - `step` and `run` over any such memory, `run_cached` with a table of kept instructions
+//! - `step` and `run` over any such memory, `run_cached` with a table of decoded instructions
 //!   (`OpCache`), `run_traced` that enters instructions and accesses in arrays of the caller;
 //! - a heap with tags: `Heap` in a memory, `HeapBench` with one of its own, `answer` over any;
 //! - ELF64 images: `plan`, `load`;

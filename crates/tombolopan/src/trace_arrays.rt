@@ -24,8 +24,8 @@ pub struct TracedAccess {
     pub pc: u64,
     /// The address that was used, its tag in bits 59 to 56.
     pub addr: u64,
-    /// What was read or written: the bytes, the lowest first; of tags alone the tag. Of a load, the
-    /// low bytes of its register; into the zero register, what memory has then, or 0.
+    /// The value that was read or written: the bytes, the lowest first; of tags alone the tag. Of a
+    /// load, the low bytes of its register; into the zero register, what memory has then, or 0.
     pub value: [u64; 2],
     /// How many bytes: 1 to 16; of the tags of one granule 16, of two 32.
     pub size: u32,

@@ -77,7 +77,7 @@ fn attempt<M: Tagged>(
     Some(word)
 }
 
-/// Whether an array in which something is entered has no room left.
+/// Whether an array in which something is entered has no space left.
 #[inline(always)]
 fn is_full(count: usize, room: usize) -> bool
     ensures free { IsFalse result → 0 < room → count < room }
@@ -239,9 +239,9 @@ fn advance<M: Tagged>(
 /// Attempts at most `request.steps` instructions, and enters each instruction that is fetched and
 /// each access that is completed, those that are asked for, from the start of the arrays on. It
 /// stops after the first outcome that is not `Next`, where PC is one of the stops after one, and
-/// before an instruction where an array has no room left. An array without room is not wanted, and
-/// never full. Where `full` is set, nothing else has ended it and one of the arrays has no room
-/// left.
+/// before an instruction where an array has no space left. An array without elements is not
+/// requested, and never full. Where `full` is set, nothing else has ended it and one of the arrays
+/// has no space left.
 pub fn run_traced<M: Tagged>(
     regs: &mut Regs,
     memory: &mut M,

@@ -65,6 +65,6 @@ bad_nil : (steps : List HeapStep) (k : ℕ) → bad_from steps k [] ≡ 0
 unfolding bad_from
 bad_nil steps k = refl
 
--- behind the last step there is none
+-- after the last step there is none
 pub bad_none : (steps : List HeapStep) (k : ℕ) → length steps ≤ k → bad_from steps k (drop k steps) ≡ 0
 bad_none steps k h = ap (bad_from steps k) (drop_all k steps h) ∙ bad_nil steps k

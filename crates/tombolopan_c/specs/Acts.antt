@@ -1,4 +1,4 @@
--- What is done to a tenant's machine between its slices, and what it answers. An act that faults or
+-- Acts on a tenant's machine between its slices, and their answers. An act that faults or
 -- is none changes nothing.
 use Rattle.std.specs.Prelude.{ℕ, ◌==◌, nat_le, true, false, Option, Some, None, if◌then◌else◌}
 use Rattle.std.specs.Int.{w64, from_le_bytes, to_le_bytes}
@@ -39,7 +39,7 @@ register_read r a =
     then with_value a (register_or_sp r a.number)
     else with_bad_argument a)
 
--- What a write of a register leaves.
+-- The registers after a write of one.
 pub record SetRegister : Type 0 where
   pub regs : Regs
   pub act : MachineAct
@@ -55,7 +55,7 @@ after_set r a =
 
 -- ---- memory
 
--- What an access leaves.
+-- The result of an access.
 pub record AccessedMemory : Type 0 where
   pub memory : Memory
   pub act : MachineAct

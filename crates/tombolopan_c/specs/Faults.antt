@@ -17,7 +17,7 @@ kind_code kind.Alignment = ALIGNMENT
 kind_code kind.SpAlignment = SP_ALIGNMENT
 kind_code kind.PcAlignment = PC_ALIGNMENT
 
--- What is reported where there is no fault.
+-- The report where there is no fault.
 abbrev pub no_fault : FaultReport
 no_fault = record { addr = 0; kind = 0; write = 0; ptr_tag = 0; mem_tag = 0 }
 

@@ -79,7 +79,7 @@ with_heap_answer c (answer.Fault f) = record c { code = FAULT; answer = 0; fault
 abbrev pub with_bad_argument : LentHeapCall → LentHeapCall
 with_bad_argument c = record c { code = BAD_ARGUMENT; answer = 0; fault = no_fault }
 
--- What a call leaves: the world, and the call with its answer.
+-- The result of a call: the world, and the call with its answer.
 pub record MadeCall : Type 0 where
   pub world : World
   pub call : LentHeapCall
@@ -93,13 +93,13 @@ heap_call_cases w c (Some o) =
           (after_operation w o).answer;
     }
 
--- What a call of C makes of a world.
+-- The effect of a call of C on a world.
 abbrev pub after_heap_call : World → LentHeapCall → MadeCall
 after_heap_call w c = heap_call_cases w c (op_of c)
 
 -- ---- calls in order
 
--- What the first k calls leave.
+-- The world after the first k calls.
 unfoldable pub world_before : World → List LentHeapCall → ℕ → LentHeapCall → World
 world_before w calls zero d = w
 world_before w calls (suc k) d =

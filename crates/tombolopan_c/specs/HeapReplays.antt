@@ -14,7 +14,7 @@ use Rattle.tombolopan_c.specs.declared.lent_step.HeapStep.{HeapStep}
 
 -- ---- references
 
--- What a call that was made adds to an argument: its answer, where it has one.
+-- The number that a call that was made adds to an argument: its answer, where it has one.
 abbrev pub answer_added : ℕ → Option HeapStep → Option ℕ
 answer_added own None = None
 answer_added own (Some s) =
@@ -66,7 +66,7 @@ first_bad steps = bad_from steps 0 steps
 
 -- ---- steps in order
 
--- What a step leaves: the world, and the step with its answer.
+-- The result of a step: the world, and the step with its answer.
 pub record MadeStep : Type 0 where
   pub world : World
   pub step : HeapStep
@@ -83,7 +83,7 @@ step_cases w s (Some c) = record {
   step = with_call s (after_heap_call w c).call;
 }
 
--- What a step makes of a world, after the steps of a list.
+-- The effect of a step on a world, after the steps of a list.
 abbrev pub step_made : World → List HeapStep → HeapStep → MadeStep
 step_made w steps s = step_cases w s (resolved_call steps s)
 
@@ -99,7 +99,7 @@ replay_cases p k (Some s) = record {
   steps = slice_set p.steps k (step_made p.world p.steps s).step;
 }
 
--- What the first k steps leave.
+-- The world after the first k steps.
 unfoldable pub replayed : World → List HeapStep → ℕ → Replay
 replayed w steps zero = record { world = w; steps = steps }
 replayed w steps (suc k) =

@@ -6,6 +6,6 @@ use Rattle.tombolopan_c.specs.declared.lent_bytes.LentBytes.{LentBytes}
 abbrev pub lent_contents : List LentBytes → List (List ℕ)
 lent_contents files = map (λ f. f.bytes.now) files
 
--- A buffer after as many items as it holds were copied to its start; what is behind them stays.
+-- A buffer after as many items as it holds were copied to its start; what is after them stays.
 abbrev pub filled : {A : Type 0} → List A → List A → List A
 filled items old = take (length old) items ++ drop (length items) old

@@ -32,11 +32,11 @@ saved_of s = machine_of s.saved s.memory.saved
 
 -- ---- the setup
 
--- The machine behind the setup of a tenant that is admitted.
+-- The machine after the setup of a tenant that is admitted.
 abbrev pub set_up : LentTerms → Machine
 set_up t = after_slices (start_of 0 (lent_start t)) t.slices.now
 
--- What a setup leaves in the handle, and what is told of it. Want of memory never comes in place of
+-- The handle after a setup, and the report of it. Memory that runs out never comes instead of
 -- a refusal of the reservation.
 abbrev pub HasSaved : LentTerms → Option SnapshotTenant → AloneEnd → Type 0
 HasSaved t (Some s) e =
@@ -48,11 +48,11 @@ HasSaved t None e =
 
 -- ---- a run
 
--- The machine behind a run: that of the setup with another input, after the run's slices.
+-- The machine after a run: that of the setup with another input, after the run's slices.
 abbrev pub after_run : LentFuzzInput → Machine → Machine
 after_run r saved = after_slices (with_input saved r.input.now) r.slices.now
 
--- What a run makes of the machine, and what is told of it; the test says whether the map has a
+-- The machine after a run, and the report of it; the test says whether the map has a
 -- length that it may have.
 abbrev pub HasAnswered :
     LentFuzzInput → Bool → SnapshotTenant → SnapshotTenant → AloneEnd → Type 0
@@ -62,7 +62,7 @@ HasAnswered r true old new e =
 HasAnswered r false old new e =
     (now_of new ≡ now_of old) × (e ≡ without_tenant code.BAD_ARGUMENT code.NO_REFUSAL)
 
--- What a run makes of the handle. The snapshot stays.
+-- The handle after a run. The snapshot stays.
 abbrev pub HasRun :
     LentFuzzInput → ℕ → Option SnapshotTenant → Option SnapshotTenant → AloneEnd → Type 0
 HasRun r counts None new e =
@@ -108,6 +108,6 @@ finding_told (Some f) complete = record {
   unused = 0;
 }
 
--- What is told where no run was done.
+-- The report where no run was done.
 abbrev pub answer_without : ℕ → FuzzAnswer
 answer_without c = record { end = without_tenant c code.NO_REFUSAL; finding = no_finding }

@@ -1,4 +1,4 @@
--- A tenant's machine, of terms that the caller lends, to which acts are done, and what is told of
+-- A tenant's machine, of terms that the caller lends, to which acts are done, and the report of
 -- it.
 use Rattle.std.specs.Prelude.{◌≡◌, ℕ, ◌<◌, List, length, slice_index_or, Some, None}
 use Rattle.std.specs.Prelude.{Result, Ok, Err, false}
@@ -25,7 +25,7 @@ abbrev pub lent_machine : LentTerms → Machine
 lent_machine t = start_of 0 (lent_start t)
 
 -- A tenant is admitted and its machine is what the acts leave, or it is refused. Want of memory
--- never comes in place of a refusal of its reservation.
+-- never comes instead of a refusal of its reservation.
 abbrev pub IsMachine : LentTerms → List MachineAct → Result Machine (Obstacle AdmitError) → Type 0
 IsMachine t acts (Ok m) =
     (refusal_alone 0 (lent_start t) ≡ None)
@@ -51,7 +51,7 @@ abbrev pub machine_regs : Result Machine (Obstacle AdmitError) → Regs → Regs
 machine_regs (Ok m) old = m.parts.regs
 machine_regs (Err o) old = old
 
--- What the buffers hold in the end.
+-- The contents of the buffers in the end.
 abbrev pub machine_buffers : Result Machine (Obstacle AdmitError) → Buffers → Buffers
 machine_buffers (Ok m) old = buffers_after m.parts.history old
 machine_buffers (Err o) old = old
@@ -61,8 +61,8 @@ abbrev pub machine_end : Result Machine (Obstacle AdmitError) → Buffers → Al
 machine_end (Ok m) old = record_end m.parts.history (length old.output) (length old.calls)
 machine_end (Err o) old = end_without o
 
--- What became of a tenant's machine is in the acts, the registers, the buffers and in what is told
--- of its end.
+-- The outcome of a tenant's machine is in the acts, the registers, the buffers and in what is
+-- reported of its end.
 pub record HasActed (t : LentTerms) (acts done : List MachineAct) (r left : Regs)
     (old new : Buffers) (e : AloneEnd) : Type 0 where
   pub answer : Result Machine (Obstacle AdmitError)

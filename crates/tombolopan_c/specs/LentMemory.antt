@@ -1,4 +1,4 @@
--- What a call's memory holds, and what its calls leave of all else.
+-- The contents of a call's memory, and the state that its calls keep.
 use Rattle.std.specs.Prelude.{◌≡◌, List, refl}
 use Rattle.std.proofs.Common.{◌∙◌}
 use Rattle.std.specs.Borrow.{MutBor}

@@ -1,4 +1,4 @@
--- A session over bytes that the caller lends: what is left of its report, and what is told of its
+-- A session over bytes that the caller lends: what is left of its report, and the report of its
 -- end.
 use Rattle.std.specs.Prelude.{◌≡◌, ℕ, ◌==◌, ◌&&◌, Bool, not, nat_le, List, length, Ok, Err}
 use Rattle.std.specs.Prelude.{Result, if◌then◌else◌}
@@ -20,7 +20,7 @@ use Rattle.tombolopan_c.specs.declared.session_end.SessionEnd.{SessionEnd}
 abbrev pub is_frames : ℕ → Bool
 is_frames frames = not (frames == 0) && nat_le frames MAX_FRAMES
 
--- What a session is given: frames, the files and the script.
+-- The inputs of a session: frames, the files and the script.
 abbrev pub lent_input : ℕ → List ℕ → List LentBytes → Input
 lent_input frames script files =
     record { frames = frames; files = lent_contents files; script = script }
@@ -32,7 +32,7 @@ abbrev pub Comes : Input → Result (List ℕ) SessionError → Type 0
 Comes input (Ok text) = IsReport input text
 Comes input (Err e) = FailsBy input e
 
--- ---- what is told of it
+-- ---- its report
 
 -- The number of a fault of a script.
 abbrev pub script_code : ScriptFault → ℕ
@@ -61,12 +61,12 @@ end_told (Err (Script line e)) room = with_fault line e
 end_told (Err OutOfMemory) room = without_report OUT_OF_MEMORY
 end_told (Err Write) room = without_report OUT_OF_MEMORY
 
--- What the buffer holds after a session.
+-- The contents of the buffer after a session.
 abbrev pub report_left : Result (List ℕ) SessionError → List ℕ → List ℕ
 report_left (Ok text) old = filled text old
 report_left (Err e) old = old
 
--- What a session comes to is in the buffer and in what is told of its end.
+-- The outcome of a session is in the buffer and in the report of its end.
 pub record HasEnded (input : Input) (old new : List ℕ) (e : SessionEnd) : Type 0 where
   pub answer : Result (List ℕ) SessionError
   pub comes : Comes input answer

@@ -1,4 +1,4 @@
--- A traced run over lent memory, and what is told of its end.
+-- A traced run over lent memory, and the report of its end.
 use Rattle.std.specs.Prelude.{◌≡◌, ℕ, ◌&&◌, ◌≤◌, Bool, nat_le, nat_lt, length, true, false, None}
 use Rattle.std.specs.Prelude.{if◌then◌else◌}
 use Rattle.mte_tags.specs.Memory.{Memory}
@@ -41,8 +41,8 @@ end_report e = record {
   fault = stop_fault e.outcome;
 }
 
--- What a traced run of C has left of the registers and in its arrays is what its first steps leave,
--- and its end is told.
+-- A traced run of C leaves in the registers and in its arrays what its first steps leave,
+-- and its end is reported.
 pub record HasTraced (q : TraceRequest) (r0 : Regs) (m0 : Memory) (old : Arrays) (t : TraceReport)
     (r : Regs) (now : Arrays) : Type 0 where
   pub end : TraceEnd

@@ -1,4 +1,4 @@
--- The chunks that are live behind the calls of a list, by what these answered.
+-- The chunks that are live after the calls of a list, by what these answered.
 use Rattle.std.specs.Prelude.{ℕ, zero, suc, ◌+◌, ◌*◌, ◌/◌, ◌%◌, ◌^◌, ◌==◌, ◌&&◌, ◌||◌, Bool, not}
 use Rattle.std.specs.Prelude.{List, [], length, Option, Some, None, slice_get, if◌then◌else◌}
 use Rattle.std.specs.Ordering.{nat_cmp}
@@ -35,7 +35,7 @@ size_asked c =
     if c.op == MALLOC then c.first
     else if c.op == CALLOC then (c.first * c.second) % 2 ^ 64 else c.second
 
--- A chunk as it is told, by its call; of no bytes it has one.
+-- A chunk as it is reported, by its call; of no bytes it has one.
 abbrev pub chunk_told : ℕ → LentHeapCall → LiveChunk
 chunk_told number c = record {
   address = plain c.answer;

@@ -1,4 +1,4 @@
--- A tenant alone, of terms that the caller lends: its slices, and what is told of it.
+-- A tenant alone, of terms that the caller lends: its slices, and the report of it.
 use Rattle.std.specs.Prelude.{◌≡◌, ℕ, ◌==◌, ◌&&◌, not, nat_le, List, map, length}
 use Rattle.std.specs.Prelude.{Some, None, Result, Ok, Err, false, if◌then◌else◌}
 use Rattle.common.specs.Obstacles.{IfRefused}
@@ -29,7 +29,7 @@ use Rattle.tombolopan_c.specs.declared.status_report.StatusReport.{StatusReport}
 
 -- ---- the tenant
 
--- What a tenant of C starts with.
+-- The start of a tenant of C.
 abbrev pub lent_start : LentTerms → Start
 lent_start t = record {
   image = t.image.now;
@@ -42,7 +42,7 @@ lent_start t = record {
   };
 }
 
--- ---- what is told of its status
+-- ---- its reports status
 
 -- A status with a number and PC, and no fault.
 abbrev pub plain_status : ℕ → ℕ → ℕ → StatusReport
@@ -62,7 +62,7 @@ status_told (status.Faulted f pc) =
 status_told (status.Aborted a pointer pc) =
     record (plain_status code.STATUS_ABORT (abort_code a) pc) { pointer = pointer }
 
--- ---- what is told of its heap calls
+-- ---- its reports heap calls
 
 -- An answered heap call in numbers.
 abbrev pub call_told : AnsweredCall → KeptCall
@@ -73,7 +73,7 @@ call_told c = record {
   answer = c.answer;
 }
 
--- ---- what is told of its end
+-- ---- its reports end
 
 -- The number of a refusal of an image.
 abbrev pub image_code : ElfError → ℕ
@@ -133,12 +133,12 @@ record_end r room places = told_end
     else code.NO_ROOM)
     r
 
--- What the buffers have.
+-- The contents of the buffers.
 pub record Buffers : Type 0 where
   pub output : List ℕ
   pub calls : List KeptCall
 
--- What the buffers hold after a tenant.
+-- The contents of the buffers after a tenant.
 abbrev pub buffers_after : Record → Buffers → Buffers
 buffers_after r old = record {
   output = filled r.output.bytes old.output;
@@ -148,7 +148,7 @@ buffers_after r old = record {
 -- ---- all of it
 
 -- A tenant is admitted and has its record at the end of its slices, or is refused. Want of memory
--- never comes in place of a refusal of its reservation.
+-- never comes instead of a refusal of its reservation.
 abbrev pub IsAnswer : LentTerms → Result Record (Obstacle AdmitError) → Type 0
 IsAnswer t (Ok r) =
     (refusal_alone 0 (lent_start t) ≡ None) × (r ≡ record_after 0 (lent_start t) t.slices.now)
@@ -161,12 +161,12 @@ abbrev pub alone_end : Result Record (Obstacle AdmitError) → Buffers → Alone
 alone_end (Ok r) old = record_end r (length old.output) (length old.calls)
 alone_end (Err o) old = end_without o
 
--- What the buffers hold in the end.
+-- The contents of the buffers in the end.
 abbrev pub buffers_left : Result Record (Obstacle AdmitError) → Buffers → Buffers
 buffers_left (Ok r) old = buffers_after r old
 buffers_left (Err o) old = old
 
--- What became of a tenant alone is in the buffers and in what is told of its end.
+-- The outcome of a tenant alone is in the buffers and in the report of its end.
 pub record HasLived (t : LentTerms) (old new : Buffers) (e : AloneEnd) : Type 0 where
   pub answer : Result Record (Obstacle AdmitError)
   pub is : IsAnswer t answer

@@ -9,7 +9,7 @@ use Rattle.tombolopan_c.specs.declared.act.MachineAct.{MachineAct}
 use Rattle.tombolopan_c.specs.declared.act_kinds.TheConstants.{ACT_SLICE, ACT_GET, ACT_SET}
 use Rattle.tombolopan_c.specs.declared.act_kinds.TheConstants.{ACT_LOAD, ACT_STORE, ACT_LOAD_TAG}
 
--- What an act leaves: the machine, and the act with its answer.
+-- The result of an act: the machine, and the act with its answer.
 pub record Acted : Type 0 where
   pub machine : Machine
   pub act : MachineAct
@@ -33,7 +33,7 @@ with_set m s = record { machine = machine_of (with_regs m.parts s.regs) m.memory
 abbrev pub with_access : Machine → AccessedMemory → Acted
 with_access m x = record { machine = machine_of m.parts x.memory; act = x.act }
 
--- What an act makes of a machine.
+-- The effect of an act on a machine.
 unfoldable pub after_act : Machine → MachineAct → Acted
 after_act m a =
     if a.act == ACT_SLICE then after_slice_act m a else (
@@ -46,7 +46,7 @@ after_act m a =
 
 -- ---- acts in order
 
--- What the first k acts leave.
+-- The machine after the first k acts.
 unfoldable pub machine_before : Machine → List MachineAct → ℕ → MachineAct → Machine
 machine_before m acts zero d = m
 machine_before m acts (suc k) d =

@@ -16,7 +16,7 @@ use Rattle.tombolopan_c.specs.declared.stops.StopReport.{StopReport}
 abbrev pub is_among : List ℕ → ℕ → Bool
 is_among stops pc = list_any (λ a. a == pc) stops
 
--- What such a run leaves; `reached` says that PC came to one of the addresses.
+-- The result of such a run; `reached` says that PC came to one of the addresses.
 pub record RanUntil : Type 0 where
   pub regs : Regs
   pub memory : Memory

@@ -28,7 +28,7 @@ abbrev pub stop_fault : Option Outcome → FaultReport
 stop_fault (Some (outcome.Fault f)) = report_of f
 stop_fault other = no_fault
 
--- What stopped a run, in numbers.
+-- The stop of a run, in numbers.
 abbrev pub stop_report : Stop → StopReport
 stop_report s =
     record {

@@ -18,9 +18,10 @@ pub struct MachineAct {
     pub number: u32,
     /// The address of ACT_LOAD, ACT_STORE and ACT_LOAD_TAG.
     pub addr: u64,
-    /// What ACT_SET and ACT_STORE write.
+    /// The value that ACT_SET and ACT_STORE write.
     pub value: u64,
-    /// What was read: the register, the eight bytes or the tag; of ACT_SLICE the steps so far.
+    /// The value that was read: the register, the eight bytes or the tag; of ACT_SLICE the steps so
+    /// far.
     pub answer: u64,
     /// OK or FAULT; BAD_ARGUMENT where `act` is none or there is no such register.
     pub code: u32,

@@ -1,4 +1,4 @@
-//! What is done to a machine, by its number.
+//! The acts on a machine, by their numbers.
 
 ghost use Rattle.std.specs.Prelude.{◌≡◌};
 

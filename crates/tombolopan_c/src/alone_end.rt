@@ -1,4 +1,4 @@
-//! What a call reports of a tenant alone.
+//! The report of a tenant alone.
 
 ghost use Rattle.std.specs.Prelude.{◌≡◌};
 ghost use Rattle.tombolopan_c.specs.LoneTenants.{image_code, refusal_code, end_without, told_end};

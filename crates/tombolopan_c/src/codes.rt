@@ -1,4 +1,4 @@
-//! What calls answer.
+//! The codes that calls answer.
 
 ghost use Rattle.std.specs.Prelude.{◌≡◌};
 
@@ -175,7 +175,7 @@ pub fn answers_in_digits()
     ensures no_machine { NO_MACHINE ≡ 14 }
 {}
 
-/// What is wrong with a script in digits, as `tombolopan.h` has it.
+/// The faults of a script in digits, as `tombolopan.h` has them.
 pub fn script_faults_in_digits()
     ensures syntax { SYNTAX ≡ 1 }
     ensures bad_number { BAD_NUMBER ≡ 2 }
@@ -248,7 +248,7 @@ pub fn aborts_in_digits()
     ensures already_free { ALREADY_FREE ≡ 6 }
 {}
 
-/// What an access does that a chunk's bounds forbid in digits, as `tombolopan.h` has it.
+/// The accesses that a chunk's bounds forbid in digits, as `tombolopan.h` has them.
 pub fn trespasses_in_digits()
     ensures past_size { PAST_SIZE ≡ 1 }
     ensures freed { FREED ≡ 2 }

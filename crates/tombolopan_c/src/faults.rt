@@ -1,4 +1,4 @@
-//! What a call reports of a fault.
+//! The report of a fault.
 
 ghost use Rattle.std.specs.Prelude.{◌≡◌, Option};
 ghost use Rattle.mte_tags.specs.Accesses.{result_of};

@@ -1,4 +1,4 @@
-//! What a call reports of a run of a machine that is kept.
+//! The report of a run of a machine that is kept.
 
 ghost use Rattle.std.specs.Prelude.{◌≡◌, if◌then◌else◌};
 ghost use Rattle.tombolopan_c.specs.LentFuzz.{answer_without, finding_told, trespass_code};
@@ -8,8 +8,8 @@ use crate::codes::{FREED, NO_CHUNK, NO_REFUSAL, PAST_SIZE};
 use heap_bounds::Trespass;
 use tenant_snapshot::ExactFinding;
 
-/// What an exact run found: the first access to bytes of the heap that no live chunk has, or that
-/// the chunk there has not; zero but for `missed` where it found none.
+/// The finding of an exact run: the first access to bytes of the heap that no live chunk has, or
+/// that the chunk there has not; zero but for `missed` where it found none.
 #[repr(C)]
 #[derive(Clone, Copy)]
 pub struct FuzzFinding {
@@ -27,7 +27,7 @@ pub struct FuzzFinding {
     pub kind: u32,
     /// 1 where the bytes were written, else 0.
     pub write: u32,
-    /// 1 where a chunk could not be entered for want of memory, and nothing was judged from there
+    /// 1 where a chunk could not be entered since memory ran out, and nothing was judged from there
     /// on; else 0.
     pub missed: u32,
     /// Not used: 0.

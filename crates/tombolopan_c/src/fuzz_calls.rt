@@ -39,7 +39,7 @@ pub extern "C" fn tb_fuzz_new(
     end.code
 }
 
-/// Runs the setup of a machine, keeps it as it is then, and tells how the tenant stands. The setup
+/// Runs the setup of a machine, keeps it as it is then, and reports where the tenant is. The setup
 /// is watched, so that a run may be exact.
 fn set_up(
     alloc: Global,
@@ -92,7 +92,7 @@ fn run_slices(machine: &mut SnapshotTenant, watch: &mut RunWatch<'_>, slices: &[
     }
 }
 
-/// Makes the machine what it was behind its setup, with an input, and runs it for slices; counts
+/// Makes the machine what it was after its setup, with an input, and runs it for slices; counts
 /// each branch that is taken in `map`. OK; NO_MACHINE where the handle holds none, BAD_ARGUMENT
 /// where the length of the map is no power of two from 256 to 65536 and OUT_OF_MEMORY change
 /// nothing but `end`.
@@ -113,8 +113,8 @@ pub extern "C" fn tb_fuzz_run(
     end.code
 }
 
-/// Does what `tb_fuzz_run` does, and tells the first access of the run to bytes of the heap that no
-/// live chunk has, or that the chunk there has not, whatever the tags. The run goes on behind it.
+/// Does what `tb_fuzz_run` does, and reports the first access of the run to bytes of the heap that
+/// no live chunk has, or that the chunk there has not, whatever the tags. The run goes on after it.
 /// Where no run was done, `finding` has none.
 #[unsafe(no_mangle)]
 pub extern "C" fn tb_fuzz_run_exact(
@@ -136,7 +136,7 @@ pub extern "C" fn tb_fuzz_run_exact(
     end.code
 }
 
-/// Runs the machine that a handle holds, if it holds one, and tells how the tenant ended.
+/// Runs the machine that a handle holds, if it holds one, and reports how the tenant ended.
 fn run_kept(
     alloc: Global,
     fuzz: &mut FuzzHandle,
@@ -158,7 +158,7 @@ fn run_kept(
     }
 }
 
-/// Runs a machine with an input, and tells how the tenant ended, and what was found if the run is
+/// Runs a machine with an input, and reports how the tenant ended, and what was found if the run is
 /// to be exact.
 fn answer(
     alloc: Global,

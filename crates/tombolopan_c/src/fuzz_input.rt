@@ -1,4 +1,4 @@
-//! What a run of a machine that is kept begins with, which the caller lends.
+//! The start of a run of a machine that is kept, which the caller lends.
 
 /// The input of a run, its slices, and how its edges are counted.
 #[repr(C)]
@@ -8,7 +8,7 @@ pub struct LentFuzzInput<'a> {
     pub input: &'a [u8],
     /// How many instructions each of the run's slices attempts at most.
     pub slices: &'a [u32],
-    /// Any number but 0 keeps a count at 255; else 0 comes behind it.
+    /// Any number but 0 keeps a count at 255; else 0 comes after it.
     pub saturating: u32,
     /// Not used.
     pub unused: u32,

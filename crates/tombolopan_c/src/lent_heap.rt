@@ -15,11 +15,11 @@ use mte_tags::{Rgsr, TagMode};
 use scudo_heap::{HeapAbort, HeapCall};
 use tombolopan::{HeapAnswer, HeapOp};
 
-/// What a heap and its memory begin with.
+/// The start of a heap and its memory.
 #[repr(C)]
 #[derive(Clone, Copy)]
 pub struct HeapSetup {
-    /// What the checksums of the headers start from.
+    /// The number from which the checksums of the headers start.
     pub cookie: u32,
     /// The most pages that are mapped at once, 1 to 4096.
     pub pages: u32,

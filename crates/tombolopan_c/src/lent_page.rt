@@ -23,7 +23,7 @@ pub struct LentPage {
 }
 
 impl LentPage {
-    /// What may be done with it.
+    /// The attributes of the page.
     #[inline(always)]
     pub(crate) fn attrs(&self) -> Attrs
         ensures { result.0 ≡ (page_of self.now).attrs }

@@ -1,4 +1,4 @@
-//! What a tenant alone is admitted with and run for, which the caller lends.
+//! The terms of a tenant alone, which the caller lends.
 
 ghost use Rattle.std.specs.Prelude.{◌≡◌};
 ghost use Rattle.mte_tenant.specs.Admissions.{start_in};
@@ -7,7 +7,7 @@ ghost use Rattle.tombolopan_c.specs.LoneTenants.{lent_start};
 use mte_tags::TagMode;
 use mte_tenant::{Admission, Terms};
 
-/// What a tenant alone is admitted with, and its slices.
+/// The admission of a tenant alone, and its slices.
 #[repr(C)]
 #[derive(Clone, Copy)]
 pub struct LentTerms<'a> {

@@ -1,4 +1,4 @@
-//! The export that tells which chunks are live behind heap calls.
+//! The export that reports which chunks are live after heap calls.
 
 ghost use Rattle.std.specs.Prelude.{◌≡◌, ◌≤◌, ◌<◌, ◌+◌, ◌⊎◌, ℕ, length, IfOk, OnOk};
 ghost use Rattle.std.specs.BTreeMap.{values};
@@ -89,7 +89,7 @@ fn note(
     Ok(())
 }
 
-/// The live chunks behind the calls of a list.
+/// The live chunks after the calls of a list.
 fn live_behind(alloc: Global, steps: &[HeapStep]) -> Result<BTreeMap<u64, LiveChunk>, AllocError>
     ensures { IfOk result (λ live. live.entries ≡ live_after steps.now (length steps.now)) }
 {
@@ -113,7 +113,7 @@ fn told(alloc: Global, live: &BTreeMap<u64, LiveChunk>) -> Result<Vec<LiveChunk>
     Ok(chunks)
 }
 
-/// All live chunks behind the calls of a list, by ascending addresses.
+/// All live chunks after the calls of a list, by ascending addresses.
 fn all_live(alloc: Global, steps: &[HeapStep]) -> Result<Vec<LiveChunk>, AllocError>
     ensures { IfOk result (λ chunks. chunks.items ≡ live_chunks steps.now) }
 {
@@ -121,7 +121,7 @@ fn all_live(alloc: Global, steps: &[HeapStep]) -> Result<Vec<LiveChunk>, AllocEr
     told(alloc, &live)
 }
 
-/// Copies as many of the chunks that are live behind the calls of a list as the array holds, by
+/// Copies as many of the chunks that are live after the calls of a list as the array holds, by
 /// ascending addresses, by the answers that `tb_heap_replay` has entered. OK where it holds all;
 /// NO_ROOM where it does not: `live` says how many there are. OUT_OF_MEMORY, with `live` 0, leaves
 /// the array as it was.

@@ -27,7 +27,7 @@ use std::alloc::Global;
 #[repr(C)]
 #[derive(Clone, Copy)]
 pub struct MachineEnd {
-    /// What is told of a tenant alone.
+    /// The report of a tenant alone.
     pub alone: AloneEnd,
     /// Its registers.
     pub regs: LentRegs,
@@ -37,7 +37,7 @@ pub struct MachineEnd {
 /// writes of registers and memory. Enters the answer of each, and then copies its registers, and of
 /// its output and its last 64 heap calls as much as the buffers hold, as `tb_alone` does. The
 /// slices of `terms` are not looked at. It is a function of `terms` and of the acts, so the same
-/// acts with more behind them go on where these came to. OK where the buffers hold all; NO_ROOM
+/// acts with more after them go on where these came to. OK where the buffers hold all; NO_ROOM
 /// where they do not. REFUSED and OUT_OF_MEMORY change nothing but `end.alone`.
 #[unsafe(no_mangle)]
 pub extern "C" fn tb_machine_acts(

@@ -1,4 +1,4 @@
-//! What a call reports of the end of a session.
+//! The report of the end of a session.
 
 ghost use Rattle.std.specs.Prelude.{◌≡◌};
 ghost use Rattle.tombolopan_c.specs.LentSessions.{script_code, without_report, with_report};
@@ -17,7 +17,7 @@ pub struct SessionEnd {
     pub line: u64,
     /// OK, NO_ROOM, SCRIPT, OUT_OF_MEMORY or BAD_ARGUMENT.
     pub code: u32,
-    /// What is wrong with the line, from SYNTAX on, for SCRIPT; else 0.
+    /// The fault of the line, from SYNTAX on, for SCRIPT; else 0.
     pub fault: u32,
 }
 

@@ -1,4 +1,4 @@
-//! What a call reports of a tenant's status.
+//! The report of a tenant's status.
 
 ghost use Rattle.std.specs.Prelude.{◌≡◌};
 ghost use Rattle.tombolopan_c.specs.LoneTenants.{plain_status, status_told};

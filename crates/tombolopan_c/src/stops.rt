@@ -1,4 +1,4 @@
-//! What a call reports of the end of a step or a run.
+//! The report of the end of a step or a run.
 
 ghost use Rattle.std.specs.Prelude.{◌≡◌};
 ghost use Rattle.tombolopan_c.specs.RunsUntil.{until_report};

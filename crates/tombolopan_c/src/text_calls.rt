@@ -8,7 +8,7 @@ ghost use Rattle.tombolopan_c.specs.declared.codes.TheConstants.{OK, NO_ROOM, IL
 use crate::codes::{ILLEGAL, NO_ROOM, OK};
 use a64_text::{TextError, write_text};
 
-/// Writes the text of an instruction word at an address, and a zero byte behind it. ILLEGAL where
+/// Writes the text of an instruction word at an address, and a zero byte after it. ILLEGAL where
 /// the word is no instruction, and NO_ROOM where the buffer is too short, leave it as it was.
 #[unsafe(no_mangle)]
 pub extern "C" fn tb_disassemble(word: u32, pc: u64, text: &mut [u8]) -> u32

@@ -26,7 +26,7 @@ pub struct TraceReport {
     pub instructions: u64,
     /// The accesses that are entered.
     pub accesses: u64,
-    /// What the call answered.
+    /// The answer of the call.
     pub code: u32,
     /// The number of BREAKPOINT, or the word of ILLEGAL; else 0.
     pub number: u32,

@@ -3,7 +3,7 @@
 
 use gdb_packets::{Command, FileCall, parse_command};
 
-/// What a command writes or names: its kind, its numbers and its two texts.
+/// The parts of a command: its kind, its numbers and its two texts.
 type Fields<'a> = (u8, [u64; 3], &'a [u8], &'a [u8]);
 
 fn fields_of(command: Command<'_>) -> Fields<'_> {

@@ -1,4 +1,4 @@
-//! What docs/RUST.md shows in Rattle, once each, by `tombolopan` alone: a step, a heap, a
+//! The examples of docs/RUST.md in Rattle, once each, by `tombolopan` alone: a step, a heap, a
 //! tenant alone, a host of two tenants, and the report of a session.
 
 use crate::images::{HI, image};
@@ -93,7 +93,7 @@ fn a_tenant_alone(rt: HostRuntime) -> Result<(), Fail> {
     Ok(())
 }
 
-/// A host of 22 frames has room for two tenants, each charged 11.
+/// A host of 22 frames has capacity for two tenants, each charged 11.
 #[test]
 fn a_host(rt: HostRuntime) -> Result<(), Fail> {
     let file = image(rt.alloc(), &HI)?;
@@ -111,7 +111,7 @@ fn a_host(rt: HostRuntime) -> Result<(), Fail> {
 const SCRIPT: &[u8] =
     b"admit 1 image 1 input 0 seed 0000000000000001 frames 5 out 16\nslice 1 100\n";
 
-/// A session that always answered want of memory would meet every contract. This one runs a tenant
+/// A session that always answered out of memory would meet every contract. This one runs a tenant
 /// to its end, and has its report.
 #[test]
 fn the_report_of_a_session(rt: HostRuntime) -> Result<(), Fail> {

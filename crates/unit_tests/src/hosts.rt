@@ -65,7 +65,7 @@ fn write_page(rt: &impl Abort, alloc: Global, host: &mut Host) -> Result<(), Fai
     Ok(())
 }
 
-/// What is written to a page of code is what the tenant then runs.
+/// The word that is written to a page of code is what the tenant then runs.
 #[test]
 fn a_page_is_written_by_the_host(rt: HostRuntime) -> Result<(), Fail> {
     let mut host = host_of_one(rt.alloc(), 1, &ILLEGAL)?;

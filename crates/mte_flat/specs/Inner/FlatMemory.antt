@@ -1,5 +1,5 @@
 -- For the code's own clauses, views and invariants.
--- What the plain memory holds.
+-- The contents of the plain memory.
 use Rattle.mte_tags.specs.Memory.{Memory}
 use Rattle.mte_flat.specs.Inner.Places.{memory_of}
 use Rattle.mte_flat.specs.declared.flat.Flat.TheInside.{Inside}

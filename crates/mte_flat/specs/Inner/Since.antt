@@ -1,5 +1,5 @@
 -- For the code's own clauses, views and invariants.
--- What a call leaves of pages: the slots that are not marked as written.
+-- The pages that a call does not change: the slots that are not marked as written.
 use Rattle.std.specs.Prelude.{◌≡◌}
 use Rattle.std.proofs.Common.{◌∙◌, refl}
 use Rattle.mte_flat.specs.Inner.Written.{KeepsUnwritten, unwritten_same, unwritten_on}

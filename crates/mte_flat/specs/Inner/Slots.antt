@@ -14,7 +14,7 @@ page_of s = record { attrs = s.attrs.0; bytes = s.bytes; tags = s.tags }
 abbrev pub entry_of : Slot → ℕ × Page
 entry_of s = (s.page, page_of s)
 
--- m with the pages that the slots hold, in place of its own
+-- m with the pages that the slots hold, instead of its own
 unfoldable pub slots_memory : Memory → List Slot → Memory
 slots_memory m slots = record m { pages = finite.from_entries (map entry_of slots) }
 

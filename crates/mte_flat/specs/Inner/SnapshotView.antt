@@ -1,5 +1,5 @@
 -- For the code's own clauses, views and invariants.
--- What a memory with a snapshot holds.
+-- The contents of a memory with a snapshot.
 use Rattle.mte_flat.specs.Inner.Places.{memory_of}
 use Rattle.mte_flat.specs.Inner.Since.{IsSince}
 use Rattle.mte_flat.specs.Snapshots.{SnapshotState}

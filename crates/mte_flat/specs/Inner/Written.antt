@@ -10,7 +10,7 @@ KeepsUnwritten before after =
     (i : ℕ) (d : Slot) → i < length after → (slice_index_or after i d).written ≡ false
     → (i < length before) × (slice_index_or after i d ≡ slice_index_or before i d)
 
--- There is room for slots.
+-- There is space for slots.
 abbrev pub FitIn : ℕ → List Slot → Type 0
 FitIn room slots = length slots ≤ room
 

@@ -1,4 +1,4 @@
--- A heap as the code keeps it, beside the heap of the definitions.
+-- A heap as the code keeps it, next to the heap of the definitions.
 use Rattle.scudo_heap.specs.declared.parts.HeapParts.{HeapParts}
 use Rattle.scudo_heap.specs.Heaps.{HeapState, heap_of}
 
