@@ -9,7 +9,7 @@ use Rattle.a64_step.proofs.Effects.{step_orderly}
 use Rattle.tombolopan.specs.InstructionAccesses.{accesses_of_step, completed, entered_access, next_access}
 use Rattle.tombolopan.specs.Traces.{arrays, listed, fetched, is_stop, stopping, trace_of, after_step, Trace, Holds, IsTraced}
 use Rattle.tombolopan.proofs.Entering.{trace_next}
-use Rattle.tombolopan.proofs.run.advance.Goals as goal
+use Rattle.tombolopan.proofs.traced_run.advance.Goals as goal
 
 pub returns-clause-traced : goal.returns-clause-traced
 returns-clause-traced g c = λ r0 m0 old h.

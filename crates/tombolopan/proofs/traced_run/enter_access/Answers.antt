@@ -1,7 +1,7 @@
 use Rattle.std.proofs.Common.{◌<◌, ◌+◌, ◌++◌, length, set, sym, ap, subst, arith}
 use Rattle.tombolopan.specs.Traces.{listed, Holds}
 use Rattle.tombolopan.proofs.Entering.{holds_more}
-use Rattle.tombolopan.proofs.run.enter_access.Goals as goal
+use Rattle.tombolopan.proofs.traced_run.enter_access.Goals as goal
 
 pub returns : goal.returns
 returns c = λ xs old h.

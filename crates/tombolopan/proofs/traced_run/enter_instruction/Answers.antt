@@ -2,7 +2,7 @@ use Rattle.std.proofs.Common.{rules, ◌≡◌, ◌<◌, ◌+◌, ◌++◌, [], 
 use Rattle.tombolopan.specs.Traces.{fetched, is_code, Holds}
 use Rattle.tombolopan.specs.declared.trace_arrays.TracedInstruction.{TracedInstruction}
 use Rattle.tombolopan.proofs.Entering.{holds_more}
-use Rattle.tombolopan.proofs.run.enter_instruction.Goals as goal
+use Rattle.tombolopan.proofs.traced_run.enter_instruction.Goals as goal
 
 pub returns : goal.returns
 returns c = λ xs old h.

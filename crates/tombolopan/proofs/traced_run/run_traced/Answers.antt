@@ -1,7 +1,7 @@
 use Rattle.std.proofs.Common.{rules, refl, sym, ap, subst, ◌+◌, ◌∙◌}
 use Rattle.tombolopan.specs.Traces.{Trace, IsTraced, arrays}
 use Rattle.tombolopan.proofs.Entering.{trace_none, holds_start, holds_no_access}
-use Rattle.tombolopan.proofs.run.run_traced.Goals as goal
+use Rattle.tombolopan.proofs.traced_run.run_traced.Goals as goal
 
 pub loop-init : goal.loop-init
 loop-init g c =

@@ -1,6 +1,6 @@
 use Rattle.std.proofs.Common.{◌≡◌, ◌<◌, None, false}
 use Rattle.tombolopan.specs.Traces.{IsTraced, arrays}
-use Rattle.tombolopan.proofs.run.run_traced.Given as goal
+use Rattle.tombolopan.proofs.traced_run.run_traced.Given as goal
 
 -- what is left and entered is what the steps so far leave, and the run has not ended
 abbrev pub invariant-loop : goal.invariant-loop
