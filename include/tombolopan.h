@@ -211,6 +211,14 @@ typedef struct tb_stop {
     tb_fault fault;  /* the fault of TB_FAULT; else zero */
 } tb_stop;
 
+/* A store of tags. */
+typedef struct tb_tag_store {
+    uint64_t addr;     /* the address of the first granule, a multiple of 16 */
+    uint64_t granules; /* how many granules get the tag */
+    uint32_t tag;      /* 0 to 15 */
+    uint32_t zero;     /* any number but 0: their bytes become zero */
+} tb_tag_store;
+
 /* What a heap and its memory begin with. */
 typedef struct tb_heap_setup {
     uint32_t cookie;       /* its low 16 bits start the checksums of the headers */
@@ -404,6 +412,14 @@ typedef struct tb_traced_access {
     uint32_t kind;     /* a sum of tb_access_kind */
 } tb_traced_access;
 
+/* The arrays in which tb_run_traced enters instructions and accesses. */
+typedef struct tb_trace_arrays {
+    tb_traced_instruction *instructions;
+    size_t instruction_room;
+    tb_traced_access *accesses;
+    size_t access_room;
+} tb_trace_arrays;
+
 /* How a traced run ended. */
 typedef struct tb_trace_report {
     uint64_t steps;        /* how many instructions were attempted */
@@ -438,12 +454,14 @@ TB_ASSERT(sizeof(tb_tag_state) == 8);
 TB_ASSERT(sizeof(tb_regs) == 272 && offsetof(tb_regs, sp) == 248 && offsetof(tb_regs, nzcv) == 264);
 TB_ASSERT(sizeof(tb_fault) == 24 && offsetof(tb_fault, mem_tag) == 20);
 TB_ASSERT(sizeof(tb_stop) == 40 && offsetof(tb_stop, fault) == 16);
+TB_ASSERT(sizeof(tb_tag_store) == 24 && offsetof(tb_tag_store, zero) == 20);
 TB_ASSERT(sizeof(tb_heap_setup) == 16 && offsetof(tb_heap_setup, rgsr_tag) == 14);
 TB_ASSERT(sizeof(tb_heap_call) == 56 && offsetof(tb_heap_call, fault) == 32);
 TB_ASSERT(sizeof(tb_heap_step) == 64 && offsetof(tb_heap_step, second_of) == 60);
 TB_ASSERT(sizeof(tb_trace_request) == 64 && offsetof(tb_trace_request, kinds) == 56);
 TB_ASSERT(sizeof(tb_traced_instruction) == 24 && offsetof(tb_traced_instruction, word) == 16);
 TB_ASSERT(sizeof(tb_traced_access) == 48 && offsetof(tb_traced_access, size) == 40);
+TB_ASSERT(sizeof(tb_trace_arrays) == 32 && offsetof(tb_trace_arrays, access_room) == 24);
 TB_ASSERT(sizeof(tb_trace_report) == 56 && offsetof(tb_trace_report, fault) == 32);
 TB_ASSERT(sizeof(tb_bytes) == 16 && offsetof(tb_bytes, length) == 8);
 TB_ASSERT(sizeof(tb_session_end) == 24 && offsetof(tb_session_end, fault) == 20);
@@ -598,12 +616,12 @@ uint32_t tb_load_tag(tb_page *pages, size_t count, tb_tag_state *state, uint64_t
                      tb_fault *fault);
 
 /*
- * Replaces the tags of `granules` granules of pages with TB_WRITE, all of them or none, and makes
- * their bytes zero where `zero` is set. It compares no tag. `addr` is a multiple of 16, or the
- * fault is TB_ALIGNMENT. TB_BAD_ARGUMENT where `tag` is above 15.
+ * Replaces the tags of store->granules granules of pages with TB_WRITE, all of them or none, and
+ * makes their bytes zero where store->zero is set. It compares no tag. store->addr is a multiple of
+ * 16, or the fault is TB_ALIGNMENT. TB_BAD_ARGUMENT where store->tag is above 15.
  */
-uint32_t tb_store_tags(tb_page *pages, size_t count, tb_tag_state *state, uint64_t addr,
-                       uint64_t granules, uint8_t tag, bool zero, tb_fault *fault);
+uint32_t tb_store_tags(tb_page *pages, size_t count, tb_tag_state *state, const tb_tag_store *store,
+                       tb_fault *fault);
 
 /*
  * Attempts the instruction at regs->pc, and answers stop->code. TB_OK is the only answer after
@@ -678,8 +696,7 @@ uint32_t tb_heap_live(const tb_heap_step *steps, size_t count, tb_live_chunk *ch
  * It answers end->code.
  */
 uint32_t tb_run_traced(tb_page *pages, size_t count, tb_tag_state *state, tb_regs *regs,
-                       const tb_trace_request *request, tb_traced_instruction *instructions,
-                       size_t instruction_room, tb_traced_access *accesses, size_t access_room,
+                       const tb_trace_request *request, tb_trace_arrays *entered,
                        tb_trace_report *end);
 
 /*
@@ -970,33 +987,34 @@ static inline uint32_t tb_checked_machine_pages(const tb_terms *terms, tb_machin
  */
 static inline uint32_t tb_checked_run_traced(tb_page *pages, size_t count, tb_tag_state *state,
                                              tb_regs *regs, const tb_trace_request *request,
-                                             tb_traced_instruction *instructions,
-                                             size_t instruction_room, tb_traced_access *accesses,
-                                             size_t access_room, tb_trace_report *end) {
-    const void *its[8];
-    size_t sizes[8];
+                                             tb_trace_arrays *entered, tb_trace_report *end) {
+    const void *its[9];
+    size_t sizes[9];
     if (!tb_is_array(request, 1, sizeof *request, 8) ||
         !tb_is_array(request->stops, request->stop_count, 8, 8) ||
         !tb_is_array(pages, count, sizeof *pages, 8) || !tb_is_array(state, 1, sizeof *state, 4) ||
         !tb_is_array(regs, 1, sizeof *regs, 8) || !tb_is_array(end, 1, sizeof *end, 8) ||
-        !tb_is_array(instructions, instruction_room, sizeof *instructions, 8) ||
-        !tb_is_array(accesses, access_room, sizeof *accesses, 8))
+        !tb_is_array(entered, 1, sizeof *entered, 8) ||
+        !tb_is_array(entered->instructions, entered->instruction_room,
+                     sizeof *entered->instructions, 8) ||
+        !tb_is_array(entered->accesses, entered->access_room, sizeof *entered->accesses, 8))
         return TB_BAD_ARGUMENT;
-    /* The first six are written, the last two are read. */
+    /* The first six are written, the last three are read. */
     its[0] = pages, sizes[0] = count * sizeof *pages;
     its[1] = state, sizes[1] = sizeof *state;
     its[2] = regs, sizes[2] = sizeof *regs;
-    its[3] = instructions, sizes[3] = instruction_room * sizeof *instructions;
-    its[4] = accesses, sizes[4] = access_room * sizeof *accesses;
+    its[3] = entered->instructions;
+    sizes[3] = entered->instruction_room * sizeof *entered->instructions;
+    its[4] = entered->accesses, sizes[4] = entered->access_room * sizeof *entered->accesses;
     its[5] = end, sizes[5] = sizeof *end;
     its[6] = request, sizes[6] = sizeof *request;
     its[7] = request->stops, sizes[7] = request->stop_count * 8;
+    its[8] = entered, sizes[8] = sizeof *entered;
     for (int i = 0; i < 6; i++)
-        for (int k = i + 1; k < 8; k++)
+        for (int k = i + 1; k < 9; k++)
             if (!tb_are_apart(its[i], sizes[i], its[k], sizes[k]))
                 return TB_BAD_ARGUMENT;
-    return tb_run_traced(pages, count, state, regs, request, instructions, instruction_room,
-                         accesses, access_room, end);
+    return tb_run_traced(pages, count, state, regs, request, entered, end);
 }
 
 // Written by tools/border.py: the texts

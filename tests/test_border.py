@@ -19,6 +19,7 @@ STRUCTS = {
     "LentRegs": ("tb_regs", "Regs", "_Regs"),
     "FaultReport": ("tb_fault", "Fault", "_Fault"),
     "StopReport": ("tb_stop", "Stop", "_Stop"),
+    "TagStore": ("tb_tag_store", "TagStore", "_TagStore"),
     "HeapSetup": ("tb_heap_setup", "HeapSetup", "_HeapSetup"),
     "LentHeapCall": ("tb_heap_call", "HeapCall", "_HeapCall"),
     "HeapStep": ("tb_heap_step", "HeapStep", "_HeapStep"),
@@ -29,6 +30,7 @@ STRUCTS = {
     "TraceRequest": ("tb_trace_request", "RawTraceRequest", "_TraceRequest"),
     "TracedInstruction": ("tb_traced_instruction", "TracedInstruction", "_TracedInstruction"),
     "TracedAccess": ("tb_traced_access", "TracedAccess", "_TracedAccess"),
+    "TraceArrays": ("tb_trace_arrays", "RawTraceArrays", "_TraceArrays"),
     "TraceReport": ("tb_trace_report", "TraceReport", "_TraceReport"),
     "LentBytes": ("tb_bytes", "Bytes", "_Bytes"),
     "SessionEnd": ("tb_session_end", "SessionEnd", "_SessionEnd"),
@@ -100,7 +102,7 @@ def test_fields_of_another_width(name: str) -> None:
     """A number of a struct with another width, in the crate, in C, in Rust and in Python."""
     for language in range(4):
         path, begin, end = body_of(language, name)
-        if name not in ("LentBytes", "MachineEnd", "FuzzHandle"):
+        if name not in ("LentBytes", "MachineEnd", "FuzzHandle", "TraceArrays"):
             assert not unnoticed(border.each_replaced(
                 path, r"\bu(\d+)\b|\buint(\d+)_t\b|\bc_uint(\d+)\b", widened, begin, end
             ))
@@ -119,7 +121,7 @@ def test_arguments_of_another_width(name: str) -> None:
     places = [(border.file_with(f"fn {name}("), f"fn {name}("), (RUST, f"    fn {name}("),
               (HEADER, f"\nuint32_t {name}(")]
     if name not in ("tb_version", "tb_build_info", "tb_memory_init", "tb_alone", "tb_step",
-                    "tb_heap_calls", "tb_heap_replay", "tb_run_traced", "tb_machine_acts",
+                    "tb_store_tags", "tb_heap_calls", "tb_heap_replay", "tb_run_traced", "tb_machine_acts",
                     "tb_machine_pages", "tb_heap_pages", "tb_heap_live", "tb_fuzz_new",
                     "tb_fuzz_run", "tb_fuzz_run_exact", "tb_fuzz_free"):
         for path, begin in places:

@@ -227,7 +227,8 @@ int main(int argc, char **argv) {
     printf(", fault %" PRIu32 "\n", fault.kind);
 
     /* Two granules of 16 bytes get the tag 5; the third keeps 0. */
-    printf("tags: %" PRIu32, tb_store_tags(pages, PLACES, &state, DATA, 2, 5, false, &fault));
+    static const tb_tag_store tags = {DATA, 2, 5, 0};
+    printf("tags: %" PRIu32, tb_store_tags(pages, PLACES, &state, &tags, &fault));
     printf(" %" PRIu32, tb_load_tag(pages, PLACES, &state, DATA + 31, &tag, &fault));
     printf(" tag %u\n", (unsigned)tag);
 

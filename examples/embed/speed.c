@@ -113,9 +113,10 @@ static double of_trace(void) {
     tb_trace_report end;
     uint64_t found = 0;
     tb_trace_request request = {&none, 0, STEPS, 0, UINT64_MAX, 0, UINT64_MAX, 15, 0};
+    tb_trace_arrays entered = {&unused, 0, accesses, ROOM};
     const double begin = now();
     while (request.steps > 0) {
-        tb_run_traced(pages, PAGES, &state, &regs, &request, &unused, 0, accesses, ROOM, &end);
+        tb_run_traced(pages, PAGES, &state, &regs, &request, &entered, &end);
         request.steps -= end.steps;
         found += end.accesses;
     }
@@ -135,7 +136,8 @@ static double of_accesses(void) {
     tb_memory_init(pages, PAGES, &state, false);
     for (int i = 0; i < 2; i++)
         tb_map(pages, PAGES, DATA / 4096 + i, TB_READ | TB_WRITE | TB_TAGGED);
-    tb_store_tags(pages, PAGES, &state, DATA, 512, 5, false, &fault);
+    static const tb_tag_store tags = {DATA, 512, 5, 0};
+    tb_store_tags(pages, PAGES, &state, &tags, &fault);
     const double begin = now();
     for (int i = 0; i < 2100; i++) {
         const uint64_t addr = (5ull << 56) + place + i % 7;

@@ -259,6 +259,16 @@ pub struct Stop {
     pub fault: Fault,
 }
 
+/// A store of tags.
+#[repr(C)]
+#[derive(Clone, Copy, Debug, Default, PartialEq, Eq)]
+pub struct TagStore {
+    pub addr: u64,
+    pub granules: u64,
+    pub tag: u32,
+    pub zero: u32,
+}
+
 /// What a heap and its memory begin with.
 #[repr(C)]
 #[derive(Clone, Copy, Debug, Default, PartialEq, Eq)]
@@ -475,6 +485,15 @@ pub struct TracedAccess {
     pub kind: u32,
 }
 
+/// The arrays in which tb_run_traced enters instructions and accesses.
+#[repr(C)]
+struct RawTraceArrays {
+    instructions: *mut TracedInstruction,
+    instruction_room: usize,
+    accesses: *mut TracedAccess,
+    access_room: usize,
+}
+
 /// How a traced run ended.
 #[repr(C)]
 #[derive(Clone, Copy, Debug, Default, PartialEq, Eq)]
@@ -492,6 +511,7 @@ const _: () = assert!(size_of::<TagState>() == 8);
 const _: () = assert!(size_of::<Regs>() == 272);
 const _: () = assert!(size_of::<Fault>() == 24);
 const _: () = assert!(size_of::<Stop>() == 40);
+const _: () = assert!(size_of::<TagStore>() == 24);
 const _: () = assert!(size_of::<HeapSetup>() == 16);
 const _: () = assert!(size_of::<HeapCall>() == 56);
 const _: () = assert!(size_of::<Bytes>() == 16);
@@ -511,6 +531,7 @@ const _: () = assert!(size_of::<PageEntry>() == 16);
 const _: () = assert!(size_of::<RawTraceRequest>() == 64);
 const _: () = assert!(size_of::<TracedInstruction>() == 24);
 const _: () = assert!(size_of::<TracedAccess>() == 48);
+const _: () = assert!(size_of::<RawTraceArrays>() == 32);
 const _: () = assert!(size_of::<TraceReport>() == 56);
 
 // End of what tools/border.py writes.
@@ -616,10 +637,7 @@ unsafe extern "C" {
         pages: *mut Page,
         count: usize,
         state: *mut TagState,
-        addr: u64,
-        granules: u64,
-        tag: u8,
-        zero: bool,
+        store: *const TagStore,
         fault: *mut Fault,
     ) -> u32;
     fn tb_step(
@@ -676,10 +694,7 @@ unsafe extern "C" {
         state: *mut TagState,
         regs: *mut Regs,
         request: *const RawTraceRequest,
-        instructions: *mut TracedInstruction,
-        instruction_room: usize,
-        accesses: *mut TracedAccess,
-        access_room: usize,
+        entered: *mut RawTraceArrays,
         end: *mut TraceReport,
     ) -> u32;
     fn tb_disassemble(word: u32, pc: u64, text: *mut u8, room: usize) -> u32;
@@ -987,7 +1002,8 @@ impl Memory {
 
     pub fn store_tags(&mut self, addr: u64, granules: u64, tag: u8, fault: &mut Fault) -> u32 {
         let (pages, count) = self.places();
-        unsafe { tb_store_tags(pages, count, &mut self.state, addr, granules, tag, false, fault) }
+        let store = TagStore { addr, granules, tag: u32::from(tag), zero: 0 };
+        unsafe { tb_store_tags(pages, count, &mut self.state, &store, fault) }
     }
 
     pub fn step(&mut self, regs: &mut Regs) -> Stop {
@@ -1125,13 +1141,15 @@ impl Memory {
             unused: 0,
         };
         let mut end = TraceReport::default();
-        let (pages, count) = self.places();
-        let (first, most) = (instructions.as_mut_ptr(), instructions.len());
-        let (entries, room) = (accesses.as_mut_ptr(), accesses.len());
-        let state = &mut self.state;
-        unsafe {
-            tb_run_traced(pages, count, state, regs, &raw, first, most, entries, room, &mut end)
+        let mut entered = RawTraceArrays {
+            instructions: instructions.as_mut_ptr(),
+            instruction_room: instructions.len(),
+            accesses: accesses.as_mut_ptr(),
+            access_room: accesses.len(),
         };
+        let (pages, count) = self.places();
+        let state = &mut self.state;
+        unsafe { tb_run_traced(pages, count, state, regs, &raw, &mut entered, &mut end) };
         end
     }
 }

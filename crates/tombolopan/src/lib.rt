@@ -61,7 +61,7 @@ pub use session_report::report;
 pub use tenant_snapshot::{
     CountedEdges, EdgeMap, Edges, ExactFinding, ExactWatch, NoEdges, RunWatch, SnapshotTenant,
 };
-pub use trace_arrays::{TracedAccess, TracedInstruction};
+pub use trace_arrays::{TraceArrays, TracedAccess, TracedInstruction};
 pub use trace_laws::{steps_without_access_keep_memory, traces_are_runs};
 pub use trace_request::TraceRequest;
 pub use traced_run::{TraceEnd, run_traced};

@@ -32,3 +32,13 @@ pub struct TracedAccess {
     /// A sum of ACCESS_READ to ACCESS_WRITE_TAG.
     pub kind: u32,
 }
+
+/// The arrays of the caller in which a traced run enters instructions and accesses.
+#[repr(C)]
+#[derive(Drop)]
+pub struct TraceArrays<'a> {
+    /// Where instructions are entered.
+    pub instructions: &'a mut [TracedInstruction],
+    /// Where accesses are entered.
+    pub accesses: &'a mut [TracedAccess],
+}

@@ -67,7 +67,7 @@ pub use lent_step::HeapStep;
 pub use lent_terms::LentTerms;
 pub use live_chunks::{LiveChunk, tb_heap_live};
 pub use machine_calls::{MachineEnd, tb_machine_acts, tb_machine_pages};
-pub use memory_calls::{tb_load, tb_load_tag, tb_read, tb_store_tags, tb_write};
+pub use memory_calls::{TagStore, tb_load, tb_load_tag, tb_read, tb_store_tags, tb_write};
 pub use page_calls::{tb_map, tb_memory_init, tb_unmap, tb_version};
 pub use pages::PageEntry;
 pub use replay_calls::{tb_heap_pages, tb_heap_replay};

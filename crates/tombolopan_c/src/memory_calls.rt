@@ -1,6 +1,6 @@
 //! The exports that access a memory's bytes and tags.
 
-ghost use Rattle.std.specs.Prelude.{◌≡◌, ◌<◌, ◌==◌, length, if◌then◌else◌, is_none};
+ghost use Rattle.std.specs.Prelude.{◌≡◌, ◌<◌, ◌==◌, length, if◌then◌else◌, is_none, nat_lt};
 ghost use Rattle.a64_bits.specs.Addresses.{plain};
 ghost use Rattle.mte_tags.specs.Memory.{tag_at, with_granules};
 ghost use Rattle.mte_tags.specs.Accesses.{read_fault, read_bytes, after_read, write_fault};
@@ -134,36 +134,47 @@ pub extern "C" fn tb_load_tag(
     }
 }
 
+/// A store of tags.
+#[repr(C)]
+#[derive(Clone, Copy)]
+pub struct TagStore {
+    /// The address of the first granule, a multiple of 16.
+    pub addr: u64,
+    /// How many granules get the tag.
+    pub granules: u64,
+    /// The tag, 0 to 15.
+    pub tag: u32,
+    /// Any number but 0: their bytes become zero.
+    pub zero: u32,
+}
+
 /// Replaces the tags of consecutive granules of pages with WRITE, all of them or none, and makes
-/// their bytes zero where `zero` is set. It compares no tag. BAD_ARGUMENT where `tag` is above 15;
-/// that and FAULT leave the memory as it was.
+/// their bytes zero where `store.zero` is not 0. It compares no tag. BAD_ARGUMENT where `store.tag`
+/// is above 15; that and FAULT leave the memory as it was.
 #[unsafe(no_mangle)]
 pub extern "C" fn tb_store_tags(
     pages: &mut [LentPage],
     state: &mut LentTagState,
-    addr: u64,
-    granules: u64,
-    tag: u8,
-    zero: bool,
+    store: &TagStore,
     fault: &mut FaultReport,
 ) -> u32
     ensures code { result
-        ≡ tags_code tag
-        (tags_fault (lent_memory (state_of state.old) pages.old) addr granules) }
+        ≡ tags_code store.now.tag
+        (tags_fault (lent_memory (state_of state.old) pages.old) store.now.addr store.now.granules) }
     ensures fault { fault.new
-        ≡ tags_report tag
-        (tags_fault (lent_memory (state_of state.old) pages.old) addr granules) }
+        ≡ tags_report store.now.tag
+        (tags_fault (lent_memory (state_of state.old) pages.old) store.now.addr store.now.granules) }
     ensures memory { lent_memory (state_of state.new) pages.new
         ≡ (if result == OK
-        then with_granules (lent_memory (state_of state.old) pages.old) (plain addr) granules
-        tag zero
+        then with_granules (lent_memory (state_of state.old) pages.old) (plain store.now.addr)
+        store.now.granules store.now.tag (nat_lt 0 store.now.zero)
         else lent_memory (state_of state.old) pages.old) }
 {
-    if tag > 15 {
+    if store.tag > 15 {
         *fault = FaultReport::none();
         return BAD_ARGUMENT;
     }
     let mut memory = Lent::new(pages, state);
-    let answer = memory.store_tags(addr, granules, tag, zero);
+    let answer = memory.store_tags(store.addr, store.granules, store.tag as u8, 0 < store.zero);
     report(answer, fault)
 }

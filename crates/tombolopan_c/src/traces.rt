@@ -14,7 +14,7 @@ use crate::lent_page::LentPage;
 use crate::lent_regs::LentRegs;
 use crate::stops::StopReport;
 use a64_step::Stop;
-use tombolopan::{TraceEnd, TraceRequest, TracedAccess, TracedInstruction, run_traced};
+use tombolopan::{TraceArrays, TraceEnd, TraceRequest, run_traced};
 
 /// How a traced run ended.
 #[repr(C)]
@@ -94,8 +94,7 @@ pub extern "C" fn tb_run_traced(
     state: &mut LentTagState,
     regs: &mut LentRegs,
     request: &TraceRequest<'_>,
-    instructions: &mut [TracedInstruction],
-    accesses: &mut [TracedAccess],
+    entered: &mut TraceArrays<'_>,
     end: &mut TraceReport,
 ) -> u32
     ensures code { result ≡ end.new.code }
@@ -103,16 +102,18 @@ pub extern "C" fn tb_run_traced(
     ensures kept_regs { is_request request.now ≡ false → regs.new ≡ regs.old }
     ensures kept_memory { is_request request.now ≡ false
         → lent_memory (state_of state.new) pages.new ≡ lent_memory (state_of state.old) pages.old }
-    ensures kept_lists { is_request request.now ≡ false → instructions.new ≡ instructions.old }
-    ensures kept_accesses { is_request request.now ≡ false → accesses.new ≡ accesses.old }
+    ensures kept_lists { is_request request.now ≡ false
+        → entered.new.instructions.now ≡ entered.old.instructions.now }
+    ensures kept_accesses { is_request request.now ≡ false
+        → entered.new.accesses.now ≡ entered.old.accesses.now }
     ensures memory { is_request request.now ≡ true
         → lent_memory (state_of state.new) pages.new
         ≡ (trace_of end.new.steps request.now (regs_of regs.old)
         (lent_memory (state_of state.old) pages.old)).memory }
     ensures traced { is_request request.now ≡ true
         → HasTraced request.now (regs_of regs.old) (lent_memory (state_of state.old) pages.old)
-        (arrays instructions.old accesses.old) end.new
-        (regs_of regs.new) (arrays instructions.new accesses.new) }
+        (arrays entered.old.instructions.now entered.old.accesses.now) end.new
+        (regs_of regs.new) (arrays entered.new.instructions.now entered.new.accesses.now) }
 {
     if !is_in_range(request) {
         *end = TraceReport::refused();
@@ -120,7 +121,13 @@ pub extern "C" fn tb_run_traced(
     }
     let mut memory = Lent::new(pages, state);
     let mut own = regs.regs();
-    let ended = run_traced(&mut own, &mut memory, request, instructions, accesses);
+    let ended = run_traced(
+        &mut own,
+        &mut memory,
+        request,
+        &mut *entered.instructions,
+        &mut *entered.accesses,
+    );
     regs.set(&own);
     *end = TraceReport::of(&ended);
     end.code

@@ -220,6 +220,10 @@ class _Stop(ctypes.Structure):
     _fields_ = [("left", c_uint64), ("code", c_uint32), ("number", c_uint32), ("fault", _Fault)]
 
 
+class _TagStore(ctypes.Structure):
+    _fields_ = [("addr", c_uint64), ("granules", c_uint64), ("tag", c_uint32), ("zero", c_uint32)]
+
+
 class _HeapSetup(ctypes.Structure):
     _fields_ = [
         ("cookie", c_uint32), ("pages", c_uint32), ("asynchronous", c_uint32),
@@ -286,6 +290,13 @@ class _TracedAccess(ctypes.Structure):
     ]
 
 
+class _TraceArrays(ctypes.Structure):
+    _fields_ = [
+        ("instructions", POINTER(_TracedInstruction)), ("instruction_room", c_size_t),
+        ("accesses", POINTER(_TracedAccess)), ("access_room", c_size_t),
+    ]
+
+
 class _TraceReport(ctypes.Structure):
     _fields_ = [
         ("steps", c_uint64), ("instructions", c_uint64), ("accesses", c_uint64),
@@ -330,7 +341,7 @@ _CALLS = {
     "tb_write": [*_MEMORY, c_uint64, c_void_p, c_size_t, c_bool, POINTER(_Fault)],
     "tb_load": [*_MEMORY, c_uint64, c_void_p, c_size_t],
     "tb_load_tag": [*_MEMORY, c_uint64, POINTER(c_uint8), POINTER(_Fault)],
-    "tb_store_tags": [*_MEMORY, c_uint64, c_uint64, c_uint8, c_bool, POINTER(_Fault)],
+    "tb_store_tags": [*_MEMORY, POINTER(_TagStore), POINTER(_Fault)],
     "tb_step": [*_MEMORY, POINTER(_Regs), POINTER(_Stop)],
     "tb_run": [*_MEMORY, POINTER(_Regs), c_uint64, POINTER(_Stop)],
     "tb_run_until": [
@@ -346,8 +357,8 @@ _CALLS = {
         POINTER(_HeapStep), c_size_t, POINTER(_LiveChunk), c_size_t, POINTER(c_uint64),
     ],
     "tb_run_traced": [
-        *_MEMORY, POINTER(_Regs), POINTER(_TraceRequest), POINTER(_TracedInstruction), c_size_t,
-        POINTER(_TracedAccess), c_size_t, POINTER(_TraceReport),
+        *_MEMORY, POINTER(_Regs), POINTER(_TraceRequest), POINTER(_TraceArrays),
+        POINTER(_TraceReport),
     ],
     "tb_disassemble": [c_uint32, c_uint64, c_void_p, c_size_t],
 }

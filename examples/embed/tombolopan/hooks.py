@@ -9,7 +9,8 @@ from ctypes import byref, c_uint64
 from typing import Generic, NamedTuple, TypeVar
 
 from .abi import FAULT, NO_ROOM
-from .abi import _library, _TracedAccess, _TracedInstruction, _TraceReport, _TraceRequest
+from .abi import _library, _TraceArrays, _TracedAccess, _TracedInstruction, _TraceReport
+from .abi import _TraceRequest
 from .enums import AccessKind, Code
 from .faults import Fault
 from .memory import _FRONT, Memory
@@ -111,9 +112,10 @@ class _TracedRun:
         self.request = _TraceRequest(
             stops=self._stops, stop_count=len(stops), code_high=_ALL, high=_ALL, kinds=_KINDS
         )
-        self._rooms, self.report = rooms, _TraceReport()
+        self.report = _TraceReport()
         self._instructions = (_TracedInstruction * max(rooms[0], 1))()
         self._accesses = (_TracedAccess * max(rooms[1], 1))()
+        self._arrays = _TraceArrays(self._instructions, rooms[0], self._accesses, rooms[1])
         self.stop: Stop | None = None
 
     def go_on(self) -> None:
@@ -125,7 +127,7 @@ class _TracedRun:
         self.request.steps = part
         code = _library.tb_run_traced(
             *self.memory._lent(), byref(self.regs._held), byref(self.request),
-            self._instructions, self._rooms[0], self._accesses, self._rooms[1], byref(self.report)
+            byref(self._arrays), byref(self.report)
         )
         self.left -= self.report.steps
         if code != NO_ROOM and (code or self.left == 0):

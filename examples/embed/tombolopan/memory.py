@@ -8,7 +8,7 @@ from ctypes import byref, c_uint8
 from typing import Any, NamedTuple
 
 from .abi import ALREADY_MAPPED, NO_ROOM, NOT_MAPPED, OK
-from .abi import _Fault, _lend, _library, _Page, _TagState
+from .abi import _Fault, _lend, _library, _Page, _TagState, _TagStore
 from .enums import Attrs, Code, FaultKind
 from .faults import Fault, MappingError
 from .ranges import as_bytes, in_bits, in_range
@@ -256,10 +256,11 @@ class Memory:
         """Replaces the tags of granules, and makes their bytes zero where `zero` is set. A tag is 0
         to 15."""
         fault = _Fault()
-        code = _library.tb_store_tags(
-            *self._lent(), in_bits("address", address, 64), in_bits("granules", granules, 64),
-            in_range("tag", tag, 0, 15), zero, byref(fault)
+        store = _TagStore(
+            in_bits("address", address, 64), in_bits("granules", granules, 64),
+            in_range("tag", tag, 0, 15), zero,
         )
+        code = _library.tb_store_tags(*self._lent(), byref(store), byref(fault))
         if code != OK:
             raise Fault.of(fault)
 

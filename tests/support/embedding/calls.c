@@ -135,10 +135,11 @@ static void load_tag(void) {
 
 static void store_tags(void) {
     tb_fault fault = filled_fault();
-    const uint64_t addr = number(), granules = number();
-    const uint8_t tag = (uint8_t)number();
-    const bool zero = number() != 0;
-    tell(1, (uint64_t)tb_store_tags(pages, place_count, &state, addr, granules, tag, zero, &fault));
+    tb_tag_store store = {number(), 0, 0, 0};
+    store.granules = number();
+    store.tag = (uint32_t)number();
+    store.zero = (uint32_t)number();
+    tell(1, (uint64_t)tb_store_tags(pages, place_count, &state, &store, &fault));
     tell_fault(&fault);
 }
 
@@ -347,10 +348,9 @@ static void run_traced(void) {
     tb_traced_instruction *code =
         (tb_traced_instruction *)take(most, sizeof(tb_traced_instruction));
     tb_traced_access *data = (tb_traced_access *)take(room, sizeof(tb_traced_access));
+    tb_trace_arrays entered = {code, most, data, room};
     memset(&end, 0xee, sizeof end);
-    tell_report(tb_run_traced(pages, place_count, &state, &regs, &request, code, most, data,
-                                      room, &end),
-                &end);
+    tell_report(tb_run_traced(pages, place_count, &state, &regs, &request, &entered, &end), &end);
     for (size_t i = 0; i < end.instructions && i < most; i++) {
         printf(" |");
         tell(4, code[i].step, code[i].pc, (uint64_t)code[i].word, (uint64_t)code[i].unused);
@@ -422,7 +422,10 @@ static void be_hostile(void) {
          (uint64_t)tb_checked_heap_live(step, 1, live, 2, &live[1].call));
     printf(" |");
 #define TRACED(p, s, r, q, i, n, a, m, e)                                                         \
-    tell(1, (uint64_t)tb_checked_run_traced(p, place_count, s, r, q, i, n, a, m, e))
+    do {                                                                                          \
+        tb_trace_arrays entered = {i, n, a, m};                                                   \
+        tell(1, (uint64_t)tb_checked_run_traced(p, place_count, s, r, q, &entered, e));           \
+    } while (false)
     TRACED(NULL, &state, &regs, &request, code, 2, data, 2, &end);
     TRACED(pages, NULL, &regs, &request, code, 2, data, 2, &end);
     TRACED(pages, &state, NULL, &request, code, 2, data, 2, &end);

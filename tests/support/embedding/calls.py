@@ -97,7 +97,7 @@ class Calls:
     def store_tags(self, words: Words) -> str:
         """Replaces tags."""
         fault, rest = abi._Fault(), [number(words) for _ in range(4)]
-        code = LIBRARY.tb_store_tags(*self.lent(), *rest[:3], rest[3] != 0, byref(fault))
+        code = LIBRARY.tb_store_tags(*self.lent(), byref(abi._TagStore(*rest)), byref(fault))
         return told(code) + fault_of(fault)
 
     def set(self, words: Words) -> str:
@@ -225,8 +225,9 @@ class Calls:
         code = (abi._TracedInstruction * max(most, 1))()
         data = (abi._TracedAccess * max(room, 1))()
         end = abi._TraceReport()
+        entered = abi._TraceArrays(code, most, data, room)
         answer = LIBRARY.tb_run_traced(
-            *self.lent(), byref(self.regs._held), byref(request), code, most, data, room, byref(end)
+            *self.lent(), byref(self.regs._held), byref(request), byref(entered), byref(end)
         )
         text = told(answer, end.steps, end.instructions, end.accesses, end.code, end.number)
         text += fault_of(end.fault)
