@@ -79,7 +79,7 @@ impl<'a> Report<'a> {
     /// The number of the call that made the chunk that the cause names.
     fn cause_number(&self) -> Option<u64> {
         let cause = self.cause()?;
-        let chunk = cause.chunk()?;
+        let chunk = cause.chunk.as_ref()?;
         Some(chunk.made.number)
     }
 }

@@ -3,7 +3,7 @@
 use crate::context::Context;
 use circular_buffer::HeapCircularBuffer;
 use mte_backtrace::FrameNames;
-use run_cause::{Cause, LastStore, TargetLoad, branch_in};
+use run_cause::{Cause, CauseKind, LastStore, TargetLoad, branch_in};
 use run_records::{BookEntry, EntryText, Instruction, Moment};
 use std::io;
 use std::io::Write;
@@ -14,12 +14,12 @@ const MOST: u64 = 1_048_576;
 impl<'a> Context<'a> {
     /// Writes what led to a null pointer or to a jump to no code, as far as it is known.
     pub(crate) fn tell_hint<W: Write>(&self, out: &mut W, cause: &Cause) -> io::Result<()> {
-        match cause {
-            Cause::NullPointer => match self.report.book.newest_refused() {
+        match cause.kind {
+            CauseKind::NullPointer => match self.report.book.newest_refused() {
                 Some(entry) => tell_refused(out, &entry),
                 None => Ok(()),
             },
-            Cause::WildJump => {
+            CauseKind::WildJump => {
                 if let Some(last) = self.report.last {
                     tell_jump(out, last, self.names)?;
                 }

@@ -116,10 +116,10 @@ impl<'a> Context<'a> {
 
     /// Writes the chunks that a cause names.
     fn tell_chunks<W: Write>(&self, out: &mut W, cause: &Cause) -> io::Result<()> {
-        if let Some(chunk) = cause.chunk() {
+        if let Some(chunk) = &cause.chunk {
             self.tell_chunk(out, chunk)?;
         }
-        match cause.young() {
+        match &cause.young {
             Some(young) => {
                 writeln!(out, "  its block was given again, as the {young}:")?;
                 self.tell_chunk(out, young)
@@ -141,7 +141,7 @@ impl<'a> Context<'a> {
 
     /// Writes which function the variable is of that a cause names, and where it is declared.
     fn tell_place<W: Write>(&self, out: &mut W, cause: &Cause) -> io::Result<()> {
-        let Some(place) = cause.place() else {
+        let Some(place) = &cause.place else {
             return Ok(());
         };
         let names = self.report.names;

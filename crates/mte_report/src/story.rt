@@ -25,7 +25,7 @@ impl<'a> Report<'a> {
     /// What happened where, as an explanation has it. It borrows that, so that none of its ends has
     /// to drop it.
     fn story_of(&self, alloc: Global, told: &Explanation<'_>) -> Result<String, AllocError> {
-        let chunk = told.cause.as_ref().and_then(|cause| cause.chunk());
+        let chunk = told.cause.as_ref().and_then(|cause| cause.chunk.as_ref());
         let made = chunk.map(|chunk| &chunk.made);
         let freed = chunk.and_then(|chunk| chunk.freed.as_ref());
         let story = Story {

@@ -154,10 +154,10 @@ fn write_tag<W: Write>(out: &mut W, tag: Option<u8>) -> io::Result<()> {
 
 /// Writes the chunks that a cause names.
 fn write_chunks<W: Write>(out: &mut W, context: &Context<'_>, cause: &Cause) -> io::Result<()> {
-    if let Some(chunk) = cause.chunk() {
+    if let Some(chunk) = &cause.chunk {
         write_chunk(out, context, chunk)?;
     }
-    if let Some(young) = cause.young() {
+    if let Some(young) = &cause.young {
         write!(out, ",")?;
         write_chunk(out, context, young)?;
     }

@@ -6,7 +6,7 @@ use mte_backtrace::{CallStack, FrameNames, Quoted};
 use mte_flat::Flat;
 use mte_report::{Context, Explanation, Report};
 use mte_svc::Status;
-use run_cause::Cause;
+use run_cause::{Cause, end_words};
 use run_records::{BookEntry, EntryText};
 use std::alloc::Global;
 use std::io;
@@ -56,23 +56,24 @@ fn write_explained<W: Write>(
     report: &Report<'_>,
     explanation: &Explanation<'_>,
 ) -> io::Result<()> {
-    let cause = explanation.cause.as_ref();
-    write_rule(out, rule_of(report, cause))?;
-    match cause {
+    match &explanation.cause {
         Some(cause) => {
             let context = Context {
                 alloc,
                 report,
                 names: &explanation.names,
             };
+            write_rule(out, cause.rule())?;
             write_judged(out, &context, &explanation.stack, cause)
         }
         None => {
+            let words = end_words(&report.parts.history.status);
             let end = Site {
-                text: end_text(report),
+                text: words.text,
                 names: &explanation.names,
                 stack: &explanation.stack,
             };
+            write_rule(out, words.rule)?;
             end.write_end(out)?;
             begin_flow(out)?;
             end.write_last(out)
@@ -147,27 +148,6 @@ fn write_flow<W: Write>(out: &mut W, context: &Context<'_>, cause: &Cause) -> io
         }
     }
     Ok(())
-}
-
-/// The name of the kind of an end.
-fn rule_of(report: &Report<'_>, cause: Option<&Cause>) -> &'static str {
-    match (cause, &report.parts.history.status) {
-        (Some(cause), _) => cause.rule(),
-        (None, Status::AsyncTag(_)) => "tag-mismatch",
-        (None, Status::Illegal(_, _)) => "illegal-word",
-        (None, Status::Breakpoint(_, _)) => "breakpoint",
-        (None, _) => "not-ended",
-    }
-}
-
-/// What happened, where nothing is judged.
-fn end_text(report: &Report<'_>) -> &'static str {
-    match &report.parts.history.status {
-        Status::AsyncTag(_) => "an access had another tag than its memory",
-        Status::Illegal(_, _) => "a word that is no instruction of the table",
-        Status::Breakpoint(_, _) => "a breakpoint",
-        _ => "the tenant did not end within its steps",
-    }
 }
 
 /// Writes what is in front of the rules.

@@ -3,6 +3,7 @@
 #![tactic(auto)]
 
 mod cause;
+mod cause_words;
 mod checker;
 mod evidence;
 mod exact;
@@ -10,9 +11,9 @@ mod families;
 mod jump;
 mod terms;
 mod violation;
-mod words;
 
 pub use cause::{Cause, FoundCause};
+pub use cause_words::{CauseKind, EndWords, abort_words, end_words, fault_words};
 pub use checker::Checker;
 pub use evidence::Evidence;
 pub use exact::{Exact, Finding, ForbiddenAccess};
@@ -20,4 +21,3 @@ pub use families::{breakpoint_words, family_of, is_undefined};
 pub use jump::{LastStore, StoreWatch, TargetLoad, branch_in};
 pub use terms::{CheckTerms, is_hidden};
 pub use violation::Violation;
-pub use words::{abort_words, fault_words};

@@ -3,6 +3,7 @@
 
 mod failure;
 mod form;
+mod kind_words;
 mod kinds;
 mod options;
 mod suppressions;
@@ -10,6 +11,6 @@ mod word;
 mod wrong;
 
 pub use failure::{Failure, FileFault, report};
-pub use kinds::{CheckKind, CheckKinds};
+pub use kind_words::{CheckKind, CheckKinds};
 pub use options::{Exactness, Options, OutputOptions, Replay, RunLength, RunOptions, Traced};
 pub use suppressions::Suppressions;

@@ -2,7 +2,7 @@
 
 ghost use Rattle.std.specs.Prelude.{◌<◌, ◌≤◌};
 
-use crate::kinds::CheckKinds;
+use crate::kind_words::CheckKinds;
 use tenant_terms::Terms;
 
 /// A tenant of a session.

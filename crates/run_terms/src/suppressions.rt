@@ -1,6 +1,6 @@
 //! What is found and not told: lines of a kind, a function and a source file.
 
-use crate::kinds::CheckKind;
+use crate::kind_words::{CheckKind, NAMES};
 use common::Obstacle;
 use std::alloc::{AllocError, Global};
 use std::fmt;
@@ -30,13 +30,10 @@ impl fmt::Display for SuppressionFault {
     fn fmt<W: fmt::Write>(&self, f: &mut fmt::Formatter<W>) -> fmt::Result {
         let line = self.line;
         write!(f, "line {line}: ")?;
-        f.write_str(match self.fault {
-            LineFault::Short => "there should be a kind, a function and a file",
-            LineFault::Kind => {
-                "the first word should be provenance, frees, leaks, undefined, places, \
-                 arithmetic or *"
-            }
-        })
+        match self.fault {
+            LineFault::Short => f.write_str("there should be a kind, a function and a file"),
+            LineFault::Kind => write!(f, "the first word should be {NAMES} or *"),
+        }
     }
 }
 
