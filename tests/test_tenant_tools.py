@@ -8,12 +8,13 @@ import shlex
 import shutil
 import subprocess
 import sys
+import tomllib
 
 import pytest
 
 from tests.support.cache import cache_folder, tenant_library
 from tests.support.checkout import make_stub
-from tests.support.places import EXAMPLES, TESTS
+from tests.support.places import EXAMPLES, ROOT, TESTS
 from tests.support.programs import TENANT_CC, native, run_as_tenant, tenant_cc
 from tests.support.running import HANG, run, succeed
 from tests.support.tenant_tools import TENANT_RUN, built, tenant_args, tenant_run
@@ -153,6 +154,21 @@ def test_files_do_what_they_do_natively(
     ran = run_as_tenant(alone, image)
     assert (ran.status, b"none has 3: ./ ../ x\n" in ran.out) == (0, True), ran.errors
     assert ran.out.replace(b"none has 3: ./ ../ x", b"none has 2: ./ ../") == wanted.out
+
+
+READER = """
+#include <stdio.h>
+int main(int count, char **words)
+{
+    for (int i = 1; i < count; i++) {
+        char text[16] = "none";
+        FILE *file = fopen(words[i], "r");
+        if (file)
+            fgets(text, sizeof text, file);
+        printf("%s: %s\\n", words[i], text);
+    }
+}
+"""
 
 
 WRITER = """
@@ -420,6 +436,38 @@ def test_a_tenant_ends_as_a_program_of_a_shell(
     assert place and place[1] == str(ends.with_suffix(".c")), lines
     if status != 132:
         assert f"case '{word[0]}'" in ENDS.splitlines()[int(place[2]) - 1], lines
+
+
+def test_each_end_has_a_status() -> None:
+    """tenant-run knows each kind of end that mte_run's JSON names, and what finds."""
+    documents = (ROOT / "crates/report_documents/src/json.rt").read_text(encoding="utf-8")
+    kinds = set(re.findall(r'\\"kind\\":\\"(\w+)\\"', documents))
+    causes = tomllib.loads((ROOT / "tools/causes.toml").read_text(encoding="utf-8"))
+    kinds |= {each["finder"] for each in causes["violation"]}
+    known = re.search(r"STATUSES = ({.*?})", TENANT_RUN.read_text(encoding="utf-8"), re.DOTALL)
+    assert known and set(re.findall(r'"(\w+)":', known[1])) | {"exit"} == kinds
+
+
+def test_a_finding_ends_as_a_fault_does(alone: pathlib.Path, ends: pathlib.Path) -> None:
+    """A second free that --check finds before the heap does."""
+    ran = tenant_run(alone, "--option=--check", str(ends), "double")
+    assert ran.status == 139 and "Double Free of a 32-byte allocation at " in ran.errors
+
+
+def test_links_out_of_a_folder_are_left_out(
+    alone: pathlib.Path, library: pathlib.Path, tmp_path: pathlib.Path
+) -> None:
+    """A link within the folder of --files is a file, one that leads out of it is none."""
+    image = built(library, tmp_path, READER, name="reader")
+    here = tmp_path / "here"
+    here.mkdir()
+    (tmp_path / "secret").write_text("secret")
+    (here / "a").write_text("a")
+    (here / "within").symlink_to("a")
+    (here / "out").symlink_to("../secret")
+    ran = tenant_run(alone, "--files", ".", str(image), "within", "out", cwd=here)
+    assert (ran.out, ran.status) == (b"within: a\nout: none\n", 0)
+    assert ran.errors == f"tenant-run: {here}/out is left out: it is a link out of its folder\n"
 
 
 @pytest.fixture(scope="session")
