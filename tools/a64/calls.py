@@ -27,6 +27,10 @@ SIZES = ("Byte", "Halfword", "Word", "Doubleword")
 SIZE_BOUND = "A: AccessSize"
 SIZES_MODULE = "a64_step::memory_access"
 
+# The parameter of a function that is generic in an addressing mode: its type, and the bound.
+MODE = "T"
+MODE_BOUND = "T: Addressing"
+
 
 @dataclass
 class Function:
@@ -36,6 +40,7 @@ class Function:
     parameters: list[tuple[str, str]]  # of (name, type)
     result: str  # its type, or "" where it returns nothing
     is_sized: bool = False  # whether it is generic in the size of an access
+    has_mode: bool = False  # whether it is generic in an addressing mode
 
 
 @dataclass
@@ -80,8 +85,9 @@ def read_sources(written: set[str], crates: tuple[str, ...] = CRATES) -> Sources
         for head in re.finditer(r"^pub fn (\w+)(<[^>]*>)?\(([^)]*)\)(?: -> (.*\S))?", text, re.M):
             parameters = re.findall(r"(\w+): ([^,\n]+)", head[3])
             functions[head[1]] = Function(head[1], crate, path.stem, parameters,
-                                          head[4] or "", SIZE_BOUND in (head[2] or ""))
-        for head in re.finditer(r"^pub struct (\w+) {\n(.*?)^}", text, re.M | re.S):
+                                          head[4] or "", SIZE_BOUND in (head[2] or ""),
+                                          MODE_BOUND in (head[2] or ""))
+        for head in re.finditer(r"^pub struct (\w+)(?:<[^>]*>)? {\n(.*?)^}", text, re.M | re.S):
             fields = re.findall(r"^    pub (\w+): ", head[2], re.M)
             structs[head[1]] = Struct(crate, path.stem, fields)
     return Sources(functions, structs, crates)
@@ -93,11 +99,17 @@ def made(type_name: str, fields: Mapping[str, str]) -> str:
                               for field, value in fields.items()])
 
 
-def call_of(name: str, values: Mapping[str, object], sources: Sources, place: str) -> Call:
-    """The call of a function, where each field has the value that `values` gives it."""
+def call_of(name: str, values: Mapping[str, object], sources: Sources, place: str,
+            mode: str = "") -> Call:
+    """The call of a function, where each field has the value that `values` gives it, for the
+    addressing mode `mode`."""
     if name not in sources.functions:
         raise TableError(f"{place}: no function {name} in {' or '.join(sources.crates)}")
     function = sources.functions[name]
+    struct = mode.partition("<")[0]
+    if function.has_mode != bool(mode) or mode and struct not in sources.structs:
+        raise TableError(f"{place}: {name} takes {'an' if function.has_mode else 'no'} addressing "
+                         f"mode, and has `{mode}`")
     call = Call("", function, set(), set())
 
     def value(field: str) -> str:
@@ -109,6 +121,8 @@ def call_of(name: str, values: Mapping[str, object], sources: Sources, place: st
     def argument(parameter: str, type_name: str) -> str:
         if parameter in STATE:
             return parameter
+        if function.has_mode and type_name == MODE:
+            type_name = struct
         if type_name not in sources.structs:
             return value(parameter)
         call.structs.add(type_name)
@@ -119,7 +133,8 @@ def call_of(name: str, values: Mapping[str, object], sources: Sources, place: st
     call.text = f"{name}({arguments})"
     if function.is_sized:
         call.size = size_type(name, values, place)
-        call.text = f"{name}::<M, {call.size}>({arguments})"
+        types = ", ".join(["M", call.size, *([mode] if mode else [])])
+        call.text = f"{name}::<{types}>({arguments})"
     return call
 
 

@@ -466,6 +466,7 @@ class Form:
     gprs: list[str]  # the registers that must be below 31
     limits: dict[str, int]  # other limits that the row doesn't give, name to bound
     function: str  # what executes it
+    mode: str  # the addressing mode that it is called for, or "" where it takes none
     passed: dict[str, int]  # the constants that it takes and the row does not give, name to value
     text: str
     family: str  # the match that has its arm, or its table; empty for the first match
@@ -521,10 +522,11 @@ def parse_form(line: str, rows: Rows, place: str) -> Form:
         raise TableError(f"{of}: the line has {len(parts)} parts, and a form has 5")
     _, limits, call, text, family = parts
     gprs, others = parse_limits(limits, of)
-    function, *constants = call.split() or [""]
+    called, *constants = call.split() or [""]
+    function, _, mode = called.partition(":")
     if not function or not text or not re.fullmatch(r"[A-Z][A-Za-z0-9]*", name):
         raise TableError(f"{of}: the name, the function or the text is missing")
-    form = Form(name, None, {}, [], None, gprs, others, function,
+    form = Form(name, None, {}, [], None, gprs, others, function, mode,
                 dict(parse_number(c, "=", of) for c in constants), text, family, place)
     if rest.startswith("{"):
         fields, _, own = rest[1:].partition("}")

@@ -1,7 +1,7 @@
 //! Load/store addressing modes: the target of an access, and its write-back.
 
-ghost use Rattle.std.specs.Prelude.{◌≡◌, ◌<◌, ◌≤◌, ◌+◌, ◌*◌, ◌%◌, ◌^◌};
-ghost use Rattle.a64_instr.specs.Fields.{IsRegisterOffset};
+ghost use Rattle.std.specs.Prelude.{◌≡◌, ◌<◌, ◌≤◌, ◌+◌, ◌*◌, ◌%◌, ◌^◌, [], ◌∷◌};
+ghost use Rattle.a64_instr.specs.Fields.{AreRegisters, IsRegisterOffset};
 ghost use Rattle.a64_registers.specs.Operands.{bytes_of};
 
 use a64_bits::plain;
@@ -29,7 +29,7 @@ impl Target {
     #[inline(always)]
     #[tactic(auto, unfolding(crate::specs::Addressing::scaled_target))]
     pub fn scaled(regs: &Regs, size: u8, imm12: u16, rn: u8) -> Target
-        requires { rn < 32 }
+        requires { AreRegisters (rn ∷ []) }
         ensures { result ≡ scaled_target regs.now size imm12 rn }
     {
         Target {
@@ -45,7 +45,7 @@ impl Target {
     #[inline(always)]
     #[tactic(auto, unfolding(crate::specs::Addressing::offset_target))]
     pub fn offset(regs: &Regs, unit: u64, offset: i64, rn: u8) -> Target
-        requires { rn < 32 }
+        requires { AreRegisters (rn ∷ []) }
         ensures { result ≡ offset_target regs.now unit offset rn }
     {
         Target {
@@ -59,7 +59,7 @@ impl Target {
     #[inline(always)]
     #[tactic(auto, unfolding(crate::specs::Addressing::post_target))]
     pub fn post(regs: &Regs, unit: u64, offset: i64, rn: u8) -> Target
-        requires { rn < 32 }
+        requires { AreRegisters (rn ∷ []) }
         ensures { result ≡ post_target regs.now unit offset rn }
     {
         let base = regs.get_or_sp(rn);
@@ -74,7 +74,7 @@ impl Target {
     #[inline(always)]
     #[tactic(auto, unfolding(crate::specs::Addressing::pre_target))]
     pub fn pre(regs: &Regs, unit: u64, offset: i64, rn: u8) -> Target
-        requires { rn < 32 }
+        requires { AreRegisters (rn ∷ []) }
         ensures { result ≡ pre_target regs.now unit offset rn }
     {
         let address = moved_by(regs.get_or_sp(rn), unit, offset);
@@ -90,7 +90,7 @@ impl Target {
     #[tactic(auto, unfolding(crate::specs::Addressing::register_target))]
     pub fn register(regs: &Regs, size: u8, offset: RegisterOffset, rn: u8) -> Target
         requires offset { IsRegisterOffset offset }
-        requires rn { rn < 32 }
+        requires rn { AreRegisters (rn ∷ []) }
         ensures { result ≡ register_target regs.now size offset.rm offset.option offset.s rn }
     {
         let unit = if offset.s == 1 { byte_count(size) } else { 1 };
@@ -117,7 +117,7 @@ pub fn moved_by(address: u64, unit: u64, offset: i64) -> u64
 /// Writes the base register back where the target has a new base.
 #[inline(always)]
 pub fn write_back(regs: &mut Regs, rn: u8, new_base: Option<u64>)
-    requires { rn < 32 }
+    requires { AreRegisters (rn ∷ []) }
     ensures { regs.new ≡ with_new_base regs.old rn new_base }
 {
     if let Some(base) = new_base {

@@ -1,7 +1,7 @@
 //! Branches. Each leaves the program counter at the instruction that comes next.
 
-ghost use Rattle.std.specs.Prelude.{◌≡◌, ◌<◌, ◌+◌, ◌*◌, ◌/◌, ◌%◌, ◌^◌, ◌==◌};
-ghost use Rattle.a64_instr.specs.Fields.{IsTestedBit};
+ghost use Rattle.std.specs.Prelude.{◌≡◌, ◌<◌, ◌+◌, ◌*◌, ◌/◌, ◌%◌, ◌^◌, ◌==◌, [], ◌∷◌};
+ghost use Rattle.a64_instr.specs.Fields.{AreRegisters, IsTestedBit};
 ghost use Rattle.a64_step.specs.Branches.{branch_cond_of, branch_of, branch_reg_of, cmp_branch_of};
 ghost use Rattle.a64_step.specs.Branches.{branch_cases, with_link, test_branch_of};
 
@@ -62,7 +62,7 @@ pub fn branch_cond(regs: &mut Regs, imm19: i32, cond: u8)
 #[inline(always)]
 #[tactic(auto, unfolding(crate::specs::Branches::cmp_branch_of))]
 pub fn cmp_branch(regs: &mut Regs, sf: u8, op: u8, imm19: i32, rt: u8)
-    requires { rt < 32 }
+    requires { AreRegisters (rt ∷ []) }
     ensures { regs.new ≡ cmp_branch_of regs.old sf op imm19 rt }
 {
     let zero = truncate(sf, regs.get(rt)) == 0;
@@ -86,7 +86,7 @@ pub fn test_branch(regs: &mut Regs, bit: TestedBit, imm14: i16)
 #[inline(always)]
 #[tactic(auto, unfolding(crate::specs::Branches::branch_reg_of))]
 pub fn branch_reg(regs: &mut Regs, opc: u8, rn: u8)
-    requires { rn < 32 }
+    requires { AreRegisters (rn ∷ []) }
     ensures { regs.new ≡ branch_reg_of regs.old opc rn }
 {
     let target = regs.get(rn);

@@ -138,7 +138,7 @@ pub fn st_g<M: Tagged>(
 /// The target of a store of tags.
 #[tactic(auto, unfolding(crate::specs::MemoryTagging::tag_target))]
 fn target_of_tags(regs: &Regs, offset: i64, mode: u8, rn: u8) -> Target
-    requires { rn < 32 }
+    requires { AreRegisters (rn ∷ []) }
     ensures { result ≡ tag_target regs.now offset mode rn }
 {
     match mode {

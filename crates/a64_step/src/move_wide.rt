@@ -1,8 +1,8 @@
 //! Move wide (immediate).
 
-ghost use Rattle.std.specs.Prelude.{◌≡◌, ◌<◌, ◌*◌, ◌^◌};
+ghost use Rattle.std.specs.Prelude.{◌≡◌, ◌<◌, ◌*◌, ◌^◌, [], ◌∷◌};
 ghost use Rattle.a64_bits.specs.Fields.{with_field};
-ghost use Rattle.a64_instr.specs.Fields.{IsHalfword};
+ghost use Rattle.a64_instr.specs.Fields.{AreRegisters, IsHalfword};
 ghost use Rattle.a64_step.specs.MoveWide.{move_wide_of};
 ghost use Rattle.a64_registers.specs.Registers.{with_next_pc};
 
@@ -46,7 +46,7 @@ pub fn with_half(old: u64, imm16: u16, hw: u8) -> u64
 #[tactic(auto, unfolding(crate::specs::MoveWide::move_wide_of, crate::specs::MoveWide::wide_value))]
 pub fn move_wide(regs: &mut Regs, sf: u8, opc: u8, hw: u8, imm16: u16, rd: u8)
     requires half { IsHalfword sf hw }
-    requires rd { rd < 32 }
+    requires rd { AreRegisters (rd ∷ []) }
     ensures { regs.new ≡ with_next_pc (move_wide_of regs.old sf opc hw imm16 rd) }
 {
     let old = truncate(sf, regs.get(rd));

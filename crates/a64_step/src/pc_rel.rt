@@ -1,6 +1,7 @@
 //! PC-relative addressing.
 
-ghost use Rattle.std.specs.Prelude.{◌≡◌, ◌<◌};
+ghost use Rattle.std.specs.Prelude.{◌≡◌, ◌<◌, [], ◌∷◌};
+ghost use Rattle.a64_instr.specs.Fields.{AreRegisters};
 ghost use Rattle.a64_step.specs.PcRel.{adr_of};
 ghost use Rattle.a64_registers.specs.Registers.{with_next_pc};
 
@@ -11,7 +12,7 @@ use a64_registers::Regs;
 #[inline(never)]
 #[tactic(auto, unfolding(crate::specs::PcRel::adr_of))]
 pub fn adr(regs: &mut Regs, op: u8, immlo: u8, immhi: i32, rd: u8)
-    requires rd { rd < 32 }
+    requires rd { AreRegisters (rd ∷ []) }
     ensures { regs.new ≡ with_next_pc (adr_of regs.old op immlo immhi rd) }
 {
     let low = u64::from(immlo);
