@@ -285,7 +285,7 @@ def check_names(data: Data) -> str:
 
 def rules(data: Data) -> str:
     """The names of the kinds of ends, for other programs, each once."""
-    named = [it["rule"] for it in (*data["cause"], *data["end"]) if not it.get("unlisted")]
+    named = (it["rule"] for it in (*data["cause"], *data["end"]))
     return ", ".join(in_code(dict.fromkeys(named)))
 
 
