@@ -17,7 +17,7 @@ pub struct Target {
     pub address: u64,
     /// Whether the address tag is compared with the allocation tags.
     pub checked: bool,
-    /// What is written back to the base register.
+    /// The value that is written back to the base register.
     pub new_base: Option<u64>,
 }
 

@@ -1,16 +1,16 @@
-//! What the parts of a report are written from.
+//! The values from which the parts of a report are written.
 
 use crate::report::Report;
 use mte_backtrace::FrameNames;
 use std::alloc::Global;
 
-/// What the parts of a report, or of a document of it, are written from.
+/// The values from which the parts of a report, or of a document of it, are written.
 #[derive(Clone, Copy)]
 pub struct Context<'a> {
-    /// What texts and stacks take memory from.
+    /// The allocator of texts and stacks.
     pub alloc: Global,
-    /// What is told.
+    /// The report.
     pub report: &'a Report<'a>,
-    /// What the addresses of the image are called.
+    /// The names of the image's addresses.
     pub names: &'a FrameNames<'a>,
 }

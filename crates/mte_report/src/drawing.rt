@@ -47,7 +47,7 @@ impl<'a> Report<'a> {
         }
     }
 
-    /// What the instructions are called that made chunks.
+    /// The names of the instructions that made chunks.
     fn extent_names(
         &self,
         alloc: Global,
@@ -126,9 +126,9 @@ fn mark_of(status: &Status) -> Option<Mark> {
 /// The title of a picture.
 #[derive(Clone, Copy)]
 struct PictureTitle<'n, 'r> {
-    /// What was run.
+    /// The name of the run.
     name: &'n str,
-    /// What ended it.
+    /// The event that ended it.
     ending: EndingNote<'r>,
     /// How it can be run again.
     run: PictureRun,
@@ -159,7 +159,7 @@ impl<'n, 'r> fmt::Display for PictureTitle<'n, 'r> {
     }
 }
 
-/// What ended a tenant, in a few words.
+/// The event that ended a tenant, in a few words.
 #[derive(Clone, Copy)]
 struct EndingNote<'a>(&'a Report<'a>);
 
@@ -176,7 +176,7 @@ impl<'a> fmt::Display for EndingNote<'a> {
     }
 }
 
-/// What a status is called, where no cause says more.
+/// The name of a status, where no cause says more.
 fn ending_words(status: &Status) -> &'static str {
     match status {
         Status::Exited(_) => "exit",

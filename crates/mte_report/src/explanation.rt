@@ -1,4 +1,4 @@
-//! What is known of a tenant's end, and found out once for all that is written of it.
+//! The explanation of a tenant's end, which is found once for all that is written of it.
 
 use crate::report::Report;
 use mte_backtrace::{CallStack, FrameAddresses, FrameNames};
@@ -7,20 +7,20 @@ use run_cause::{Cause, Finding, LastStore, branch_in};
 use run_records::{BookEntry, Moment, push_turns};
 use std::alloc::{AllocError, Global};
 
-/// What is known of a tenant's end.
+/// The explanation of a tenant's end.
 #[derive(Drop)]
 pub struct Explanation<'a> {
-    /// What most likely went wrong, where a fault or a refused pointer ended it.
+    /// The most likely cause, where a fault or a refused pointer ended it.
     pub cause: Option<Cause>,
     /// The calls that led to the end.
     pub stack: CallStack,
-    /// What the addresses are called that are told: those of the calls that led to the end and to
+    /// The names of the addresses that are written: those of the calls that led to the end and to
     /// the heap calls of the cause, of the last calls and returns, and of the jump that is hinted.
     pub names: FrameNames<'a>,
 }
 
 impl<'a> Report<'a> {
-    /// What is known of the end.
+    /// The explanation of the end.
     pub fn explain(&self, alloc: Global, memory: &mut Flat) -> Result<Explanation<'a>, AllocError> {
         let cause = self.cause();
         let stack = self.end_stack(alloc, memory)?;
@@ -47,7 +47,7 @@ impl<'a> Report<'a> {
         }
     }
 
-    /// What the addresses are called that are written.
+    /// The names of the addresses that are written.
     fn frame_names(
         &self,
         alloc: Global,
@@ -77,7 +77,7 @@ impl<'a> Report<'a> {
         self.push_jump(alloc, frames)
     }
 
-    /// Adds the addresses of the jump that is hinted, and of the store behind it.
+    /// Adds the addresses of the jump that is hinted, and of the store after it.
     fn push_jump(&self, alloc: Global, frames: &mut FrameAddresses) -> Result<(), AllocError> {
         if let Some(moment) = self.branch() {
             frames.push_instruction(moment.regs.pc)?;

@@ -1,4 +1,4 @@
-//! What led to a cause that no chunk explains.
+//! Hints for a cause that no chunk explains.
 
 use crate::context::Context;
 use circular_buffer::HeapCircularBuffer;

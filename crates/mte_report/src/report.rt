@@ -1,4 +1,4 @@
-//! What happened to a tenant that did not exit, in words.
+//! The report of a tenant that did not exit, in words.
 
 use crate::explanation::Explanation;
 use a64_access::AccessForm;
@@ -37,11 +37,11 @@ pub struct Report<'a> {
     pub last: Option<&'a HeapCircularBuffer<Moment>>,
     /// How many of them are written.
     pub last_count: usize,
-    /// Its last calls and returns, the oldest first, where they are wanted.
+    /// Its last calls and returns, the oldest first, where they are requested.
     pub turns: Option<&'a HeapCircularBuffer<Turn>>,
     /// The steps that it could have.
     pub limit: u64,
-    /// What the addresses of its image are called.
+    /// The names of its image's addresses.
     pub names: &'a Names<'a>,
     /// The name of its image's file.
     pub image: &'a str,
@@ -49,16 +49,16 @@ pub struct Report<'a> {
     pub seed: Option<u64>,
     /// The access that ended it beyond what its tags forbid, if one did.
     pub finding: Option<&'a Finding>,
-    /// What wrote the target last of the jump to no code that ended it, if it is known.
+    /// The store that wrote the target last of the jump to no code that ended it, if it is known.
     pub store: Option<&'a LastStore>,
-    /// The numbers of the run, where they are wanted.
+    /// The numbers of the run, where they are requested.
     pub statistics: Option<StatisticsTable<'a>>,
     /// Whether it wrote more than there was room for.
     pub is_cut: bool,
 }
 
 impl<'a> Report<'a> {
-    /// Writes the numbers of the run, where they are wanted.
+    /// Writes the numbers of the run, where they are requested.
     pub fn write_statistics<W: Write>(&self, out: &mut W) -> io::Result<()> {
         if let Some(table) = &self.statistics {
             write!(out, "mte_run: {table}")?;
@@ -74,7 +74,7 @@ impl<'a> Report<'a> {
         self.write_explained(alloc, out, &explanation, memory)
     }
 
-    /// Writes what happened behind the line of the status, by what is known of the end.
+    /// Writes what happened after the line of the status, by what is known of the end.
     fn write_explained<W: Write>(
         &self,
         alloc: Global,
@@ -89,7 +89,7 @@ impl<'a> Report<'a> {
         out.flush()
     }
 
-    /// What most likely went wrong, where a fault or a refused pointer ended it.
+    /// The most likely cause, where a fault or a refused pointer ended it.
     pub(crate) fn cause(&self) -> Option<Cause> {
         if let Some(finding) = self.finding {
             return Some(Cause::of_wrong(self.book, &finding.wrong));
@@ -102,7 +102,7 @@ impl<'a> Report<'a> {
         }
     }
 
-    /// What its cause is found by.
+    /// The evidence for its cause.
     fn evidence(&self) -> Evidence<'a> {
         Evidence {
             book: self.book,
@@ -185,7 +185,7 @@ struct At<'a> {
     place: SymbolOffset<'a>,
 }
 
-/// What ended it.
+/// The event that ended it.
 fn tell_status<W: Write>(out: &mut W, report: &Report<'_>, memory: &mut Flat) -> io::Result<()> {
     if let Some(finding) = report.finding {
         return tell_wrong(out, &finding.wrong, report.here());
@@ -253,7 +253,7 @@ fn size_of_access(memory: &mut Flat, regs: &Regs, addr: u64) -> AccessSize {
     )
 }
 
-/// What an access is called, and its size.
+/// The name of an access, and its size.
 #[derive(Clone, Copy)]
 struct Accessing(bool, AccessSize);
 

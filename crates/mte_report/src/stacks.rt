@@ -35,7 +35,7 @@ impl<'a> Report<'a> {
         }
     }
 
-    /// A cause, behind what found it.
+    /// A cause, after what found it.
     pub fn found<'b>(&self, cause: &'b Cause) -> FoundCause<'b>
     where
         'a: 'b,

@@ -1,4 +1,4 @@
-//! What happened where, in a line.
+//! The event of an end and its place, in a line.
 
 use crate::explanation::Explanation;
 use crate::report::Report;
@@ -10,8 +10,8 @@ use std::alloc::{AllocError, Global};
 use std::fmt;
 
 impl<'a> Report<'a> {
-    /// What happened where: the function and the line of the end, and those that had the chunk that
-    /// its cause names allocated and freed. Empty for a tenant that exited.
+    /// The event and its place: the function and the line of the end, and those that had the chunk
+    /// that its cause names allocated and freed. Empty for a tenant that exited.
     pub(crate) fn story(&self, alloc: Global, memory: &mut Flat) -> Result<String, AllocError> {
         let is_clean = self.finding.is_none()
             && matches!(self.parts.history.status, Status::Exited(_));
@@ -22,8 +22,8 @@ impl<'a> Report<'a> {
         self.story_of(alloc, &explanation)
     }
 
-    /// What happened where, as an explanation has it. It borrows that, so that none of its ends has
-    /// to drop it.
+    /// The event and its place, as an explanation has them. It borrows that, so that none of its
+    /// ends has to drop it.
     fn story_of(&self, alloc: Global, told: &Explanation<'_>) -> Result<String, AllocError> {
         let chunk = told.cause.as_ref().and_then(|cause| cause.chunk.as_ref());
         let made = chunk.map(|chunk| &chunk.made);

@@ -1,14 +1,14 @@
-//! What happened to a tenant, as it is written for other programs.
+//! The report of a tenant for other programs.
 
 use mte_report::Report;
 use std::alloc::Global;
 
-/// What happened to a tenant.
+/// The report of a tenant.
 #[derive(Clone, Copy)]
 pub struct Document<'a> {
-    /// What texts and stacks take memory from.
+    /// The allocator of texts and stacks.
     pub alloc: Global,
-    /// What happened.
+    /// The report.
     pub report: &'a Report<'a>,
     /// The program's exit status.
     pub exit_status: u8,

@@ -1,4 +1,4 @@
-//! What happened to a tenant, as JSON (RFC 8259). Numbers of 64 bits are texts in hexadecimal.
+//! The report of a tenant as JSON (RFC 8259). Numbers of 64 bits are texts in hexadecimal.
 
 use crate::document::Document;
 use a64_registers::Regs;

@@ -1,4 +1,4 @@
-//! What happened to a tenant, for other programs: as JSON, as a log in SARIF, and as a page of HTML
+//! The report of a tenant for other programs: as JSON, as a log in SARIF, and as a page of HTML
 //! that shows the heap step by step.
 #![tactic(auto)]
 

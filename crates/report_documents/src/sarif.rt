@@ -1,4 +1,4 @@
-//! What happened to a tenant, as a log in the Static Analysis Results Interchange Format (SARIF
+//! The report of a tenant as a log in the Static Analysis Results Interchange Format (SARIF
 //! 2.1.0), which editors and forges show beside the source.
 
 use crate::document::Document;
@@ -127,7 +127,7 @@ impl CallSite {
     }
 }
 
-/// Writes the calls that led to each heap call of a cause, each stack behind a comma.
+/// Writes the calls that led to each heap call of a cause, each stack after a comma.
 fn write_calls<W: Write>(out: &mut W, context: &Context<'_>, cause: &Cause) -> io::Result<()> {
     for entry in cause.calls().iter() {
         if let Some(entry) = entry {
@@ -138,7 +138,7 @@ fn write_calls<W: Write>(out: &mut W, context: &Context<'_>, cause: &Cause) -> i
     Ok(())
 }
 
-/// Writes the locations of the heap calls of a cause, a comma behind each.
+/// Writes the locations of the heap calls of a cause, a comma after each.
 fn write_flow<W: Write>(out: &mut W, context: &Context<'_>, cause: &Cause) -> io::Result<()> {
     begin_flow(out)?;
     for entry in cause.calls().iter() {
@@ -200,7 +200,7 @@ impl<'a> Site<'a> {
         end.write_stack(out, "[")
     }
 
-    /// Writes the stack behind what is in front of it.
+    /// Writes the stack after what is in front of it.
     fn write_stack<W: Write>(&self, out: &mut W, front: &str) -> io::Result<()> {
         let text = Quoted(self.text);
         write!(out, "{front}{{\"message\":{{\"text\":{text}}},\"frames\":")?;
@@ -208,7 +208,7 @@ impl<'a> Site<'a> {
         write!(out, "}}")
     }
 
-    /// Writes a location of the flow, and what is behind it.
+    /// Writes a location of the flow, and what is after it.
     fn write_step<W: Write>(&self, out: &mut W, behind: &str) -> io::Result<()> {
         write!(out, "{{\"location\":")?;
         self.stack.write_sarif_location(out, self.names, self.text)?;

@@ -1,4 +1,4 @@
-//! What most likely went wrong, in the manner of the reports of Android's memory tagging.
+//! The most likely cause of an end, in the manner of the reports of Android's memory tagging.
 
 use crate::cause_words::CauseKind;
 use crate::evidence::{Evidence, NEAR};
@@ -21,10 +21,10 @@ use undefined_values::{UndefinedOrigin, UndefinedPlace};
 /// Up to which step a program for Linux has looked for its arguments.
 const FIRST: u64 = 100;
 
-/// What most likely went wrong.
+/// The most likely cause.
 #[derive(Clone, Copy)]
 pub struct Cause {
-    /// What it is.
+    /// Its kind.
     pub kind: CauseKind,
     /// How many bytes are between what was named and what it belongs to, where that is written.
     distance: Option<u64>,
@@ -37,7 +37,7 @@ pub struct Cause {
     detail: CauseDetail,
 }
 
-/// What else is known of a cause.
+/// The details of a cause.
 #[derive(Clone, Copy)]
 enum CauseDetail {
     Nothing,
@@ -420,7 +420,7 @@ impl fmt::Display for Cause {
     }
 }
 
-/// A cause, behind what found it: a tag, a chunk's bounds, a pointer's own chunk or neither.
+/// A cause, after what found it: a tag, a chunk's bounds, a pointer's own chunk or neither.
 #[derive(Clone, Copy)]
 pub struct FoundCause<'a> {
     /// The cause.

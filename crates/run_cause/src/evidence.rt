@@ -1,4 +1,4 @@
-//! What was remembered of a tenant, by which the cause of its end is found.
+//! The records of a tenant, by which the cause of its end is found.
 
 use a64_bits::plain;
 use a64_registers::Regs;
@@ -17,7 +17,7 @@ const ADJACENT: u64 = 32;
 /// How many instructions before an access computed its address, as a rule.
 const WINDOW: usize = 4;
 
-/// What was remembered of a tenant.
+/// The records of a tenant.
 #[derive(Clone, Copy)]
 pub struct Evidence<'a> {
     /// Its heap calls.

@@ -16,7 +16,7 @@ use std::alloc::Global;
 /// An access to bytes of the heap that no live chunk has, or that its pointer's own chunk has not.
 #[derive(Clone, Copy)]
 pub struct ForbiddenAccess {
-    /// What it does there.
+    /// The violation there.
     pub violation: Violation,
     /// The plain address of the first such byte.
     pub addr: u64,
@@ -165,7 +165,7 @@ impl Exact {
         }
     }
 
-    /// What an instruction that completed accessed and may not.
+    /// The access that an instruction completed and may not make.
     fn check(&self, moment: &Moment, parts: &TenantParts) -> Option<ForbiddenAccess> {
         if !self.is_complete || self.finding.is_some() || !parts.is_running() {
             return None;

@@ -1,4 +1,4 @@
-//! What is known of words that are no instruction of the table, and of breakpoints.
+//! Facts about words that are no instruction of the table, and about breakpoints.
 
 /// Whether a word is UDF, as zeros and other data often are.
 pub fn is_undefined(word: u32) -> bool {
@@ -73,7 +73,7 @@ fn register_family(word: u32) -> Option<&'static str> {
     }
 }
 
-/// What PACIA, AUTIA, RETAA, LDRAA and their kin are.
+/// The name of PACIA, AUTIA, RETAA, LDRAA and similar words.
 const AUTHENTICATION: &str = "pointer authentication that is no hint";
 
 /// Whether a word is a PRFM.
@@ -88,7 +88,7 @@ fn is_vector(word: u32) -> bool {
     group == 7 || group == 15 || group == 6 || group == 14
 }
 
-/// What a breakpoint with a number is of: a check of undefined behavior as clang numbers them
+/// The source of a breakpoint with a number: a check of undefined behavior as clang numbers them
 /// (`-fsanitize-trap`), or `__builtin_trap`.
 pub fn breakpoint_words(number: u16) -> Option<&'static str> {
     match number {
@@ -100,7 +100,7 @@ pub fn breakpoint_words(number: u16) -> Option<&'static str> {
     }
 }
 
-/// What the check of UBSan with a number found (clang, SanitizerHandler.h).
+/// The finding of UBSan's check with a number (clang, SanitizerHandler.h).
 fn sanitizer_words(number: u16) -> &'static str {
     match number {
         0x5500 => "an addition overflows (UBSan)",

@@ -1,5 +1,5 @@
 //! The likeliest cause of a tenant's end, the accesses that go beyond the bytes of its chunks, and
-//! the store behind a jump to no code.
+//! the store after a jump to no code.
 #![tactic(auto)]
 
 mod cause;

@@ -1,4 +1,4 @@
-//! What of a tenant is checked, and what of it is not told.
+//! The kinds that are checked of a tenant, and the findings that are suppressed.
 
 use mte_backtrace::{
     CallStack, Callers, FrameAddresses, FrameName, FrameNames, FramesAt, Names, StackFrame,
@@ -6,18 +6,18 @@ use mte_backtrace::{
 use run_terms::{CheckKind, CheckKinds, Suppressions};
 use std::alloc::{AllocError, Global};
 
-/// What of a tenant of an image is checked, and what of it is not told.
+/// The kinds that are checked of a tenant of an image, and the findings that are suppressed.
 #[derive(Clone, Copy)]
 pub struct CheckTerms<'a> {
     /// The image's bytes; none where it is not known before the run.
     pub image: &'a [u8],
-    /// What is checked.
+    /// The kinds that are checked.
     pub kinds: CheckKinds,
-    /// What is not told.
+    /// The findings that are suppressed.
     pub suppressions: &'a Suppressions,
 }
 
-/// What is not told, and the names by which that is known.
+/// The findings that are suppressed, and the names by which they are known.
 #[derive(Drop)]
 pub(crate) struct Silence<'a> {
     suppressions: &'a Suppressions,

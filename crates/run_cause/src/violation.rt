@@ -1,4 +1,4 @@
-//! What is wrong with an access, by what found it.
+//! A violation, by what found it.
 
 use crate::cause_words::{FindingWords, MISUSES, OPERATIONS, PLACE_MISUSES, TRESPASSES, USES};
 use heap_bounds::Trespass;
@@ -8,7 +8,7 @@ use run_terms::CheckKind;
 use std::fmt;
 use undefined_bits::{ArithmeticFault, UndefinedUse};
 
-/// What is wrong with an access, by what found it.
+/// A violation, by what found it.
 #[derive(Clone, Copy)]
 pub enum Violation {
     /// The bounds of the chunks at its address.
@@ -24,7 +24,7 @@ pub enum Violation {
 }
 
 impl Violation {
-    /// What it is called.
+    /// Its row of words.
     fn named(&self) -> &'static FindingWords {
         match self {
             Violation::Bounds(trespass) => &TRESPASSES[*trespass as usize],
@@ -45,7 +45,7 @@ impl Violation {
         self.named().kind
     }
 
-    /// What the access does that is wrong.
+    /// The violation.
     pub fn words(&self) -> &'static str {
         match self {
             Violation::Provenance(misuse) if misuse.is_by_address => self.named().by_address,

@@ -19,14 +19,14 @@ pub enum FileFault {
     Folder,
     /// It has more bytes than are read.
     TooLong,
-    /// Its disk has no room.
+    /// Its disk has no space.
     Full,
     /// Anything else.
     Other,
 }
 
 impl FileFault {
-    /// What an error of the system means.
+    /// The meaning of an error of the system.
     fn of(error: &io::Error) -> FileFault {
         match error.kind() {
             io::ErrorKind::NotFound | io::ErrorKind::NotADirectory => FileFault::Missing,
@@ -39,7 +39,7 @@ impl FileFault {
         }
     }
 
-    /// What follows the name of the file.
+    /// The text after the name of the file.
     fn reason(self) -> &'static str {
         match self {
             FileFault::Missing => ": no such file or folder",
@@ -65,7 +65,7 @@ pub enum Failure<'a> {
     WriteFile(&'a str, FileFault),
     /// A script's first faulty line, counted from 1, what is wrong with it, and which word.
     Script(u64, ScriptFault, WrongWord),
-    /// What watches the tenant's pointers could note no more, and why.
+    /// The watch of the tenant's pointers could note no more, and why.
     Check(&'static str),
     /// A file of what is not told, by its name, has a line that is none.
     Suppressions(&'a str, SuppressionFault),

@@ -4,7 +4,7 @@ use crate::word::{decimal, is_seed};
 use mte_script::ScriptFault;
 use std::fmt;
 
-/// What a word of a line should be.
+/// The form of a word of a line.
 #[derive(Clone, Copy)]
 pub enum ExpectedWord {
     /// The name of an event.
@@ -67,7 +67,7 @@ impl LineForm {
         }
     }
 
-    /// What the word with a number from 0 should be; `None` where the line should have ended.
+    /// The form of the word with a number from 0; `None` where the line should have ended.
     pub fn wanted(self, number: usize) -> Option<ExpectedWord> {
         match (self, number) {
             (LineForm::Admit, 12) => Some(ExpectedWord::Mode),
@@ -105,7 +105,7 @@ impl ExpectedWord {
         }
     }
 
-    /// Whether a word has the form of what is wanted.
+    /// Whether a word has the form of what is requested.
     fn has_form(self, word: &[u8]) -> bool {
         match self {
             ExpectedWord::Event => matches!(word, b"admit" | b"slice" | b"stop"),

@@ -1,4 +1,4 @@
-//! What of a tenant is checked.
+//! The kinds that are checked of a tenant.
 
 use crate::kind_words::{CheckKind, CheckKinds};
 

@@ -1,4 +1,4 @@
-//! What `mte_run` is asked for, and what it writes where it has no tenant to speak of.
+//! The request for `mte_run`, and the texts that it writes where there is no tenant.
 #![tactic(auto)]
 
 mod failure;

@@ -1,4 +1,4 @@
-//! What the program is run on.
+//! The options of the program.
 
 ghost use Rattle.std.specs.Prelude.{◌<◌, ◌≤◌};
 
@@ -16,7 +16,7 @@ pub struct Replay {
     pub frames: u32,
 }
 
-/// What a tenant that is alone is admitted with, besides its image.
+/// The terms of a tenant that is alone, besides its image.
 #[derive(Drop)]
 pub struct RunOptions {
     /// The input's file name.
@@ -49,7 +49,7 @@ pub struct Traced {
     pub services: bool,
 }
 
-/// What is written of a run.
+/// The outputs of a run.
 #[derive(Drop)]
 pub struct OutputOptions {
     /// How many of the last instructions are remembered.
@@ -60,7 +60,7 @@ pub struct OutputOptions {
     pub turns: usize,
     /// The lines that are written while it runs.
     pub traced: Option<Traced>,
-    /// The name of the file that they are written into, in place of standard error.
+    /// The name of the file that they are written into, instead of standard error.
     pub trace_file: Option<String>,
     /// Whether the live chunks are written.
     pub leaks: bool,
@@ -76,19 +76,19 @@ pub struct OutputOptions {
     pub page: Option<String>,
     /// Whether accesses are to keep to the bytes of chunks.
     pub exact: Exactness,
-    /// What is checked beside the tags.
+    /// The checks besides the tags.
     pub check: CheckKinds,
     /// The name of the file with what of that is not told.
     pub suppressions: Option<String>,
-    /// The exit status where something was found, in place of 137.
+    /// The exit status where something was found, instead of 137.
     pub found_status: Option<u8>,
-    /// The exit status of a tenant that exited and lost chunks, in place of its own.
+    /// The exit status of a tenant that exited and lost chunks, instead of its own.
     pub lost_status: Option<u8>,
     /// The name of the file that the tenant's core is written into.
     pub core: Option<String>,
-    /// Whether output for which there is no room is a failure.
+    /// Whether output for which there is no space is a failure.
     pub is_whole: bool,
-    /// Whether the output of a session's tenant is written as it is, in place of its lines of the
+    /// Whether the output of a session's tenant is written as it is, instead of its lines of the
     /// report.
     pub is_raw: bool,
 }
@@ -104,18 +104,18 @@ pub enum Exactness {
     All,
 }
 
-/// What the program is run on.
+/// The options of the program.
 #[derive(Drop)]
 pub struct Options {
     /// The names of the files: the image, or the files of a script.
     pub files: Vec<String>,
     /// The tenant of a session that is replayed, if one is.
     pub replay: Option<Replay>,
-    /// What a tenant that is alone is admitted with.
+    /// The terms of a tenant that is alone.
     pub run: RunOptions,
     /// How long it runs.
     pub length: RunLength,
-    /// What is written of it.
+    /// The outputs of it.
     pub output: OutputOptions,
     /// Whether GDB debugs it.
     pub is_debugged: bool,

@@ -1,4 +1,4 @@
-//! What is found and not told: lines of a kind, a function and a source file.
+//! Suppressions of findings: lines of a kind, a function and a source file.
 
 use crate::kind_words::{CheckKind, NAMES};
 use common::Obstacle;
@@ -8,7 +8,7 @@ use std::fmt;
 /// The word for any kind, function or file.
 const ANY: &str = "*";
 
-/// What of a line is wrong.
+/// The faults of a line.
 #[derive(Clone, Copy, PartialEq, Eq)]
 pub enum LineFault {
     /// There are fewer than three words.
@@ -22,7 +22,7 @@ pub enum LineFault {
 pub struct SuppressionFault {
     /// The line's number, from 1.
     pub line: u64,
-    /// What is wrong with it.
+    /// Its fault.
     pub fault: LineFault,
 }
 
@@ -37,7 +37,7 @@ impl fmt::Display for SuppressionFault {
     }
 }
 
-/// What is not told: where a kind of finding has a function and a source file in one of its calls.
+/// A suppression: where a kind of finding has a function and a source file in one of its calls.
 #[derive(Drop)]
 struct Suppression {
     /// The kind; any where it is not named.

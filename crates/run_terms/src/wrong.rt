@@ -5,7 +5,7 @@ use crate::word::Shown;
 use mte_script::ScriptFault;
 use std::fmt;
 
-/// What is wrong with a line of a script.
+/// The fault of a line of a script.
 #[derive(Clone, Copy)]
 pub struct WrongWord {
     fault: ScriptFault,
@@ -17,7 +17,7 @@ pub struct WrongWord {
 }
 
 impl WrongWord {
-    /// What a fault means of the line with a number from 1, with `files` files named.
+    /// The meaning of a fault of the line with a number from 1, with `files` files named.
     pub fn of(script: &[u8], line: u64, fault: ScriptFault, files: usize) -> WrongWord {
         let line = line_of(script, line);
         let form = form_of(line);
@@ -97,7 +97,7 @@ impl WrongWord {
         }
     }
 
-    /// What a byte of the word says of the whole line.
+    /// The meaning of a byte of the word for the whole line.
     fn remark(&self) -> &'static str {
         let Some(word) = &self.word else {
             return "";

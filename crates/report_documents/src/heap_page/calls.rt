@@ -130,7 +130,7 @@ fn drawn_by(report: &Report<'_>, step: u64) -> Option<u8> {
     Some(regs.rgsr.tag)
 }
 
-/// The registers behind a step, if they are remembered.
+/// The registers after a step, if they are remembered.
 fn regs_behind<'a>(report: &Report<'a>, step: u64) -> Option<&'a Regs> {
     if step == report.parts.history.steps {
         return Some(&report.parts.regs);
@@ -141,7 +141,7 @@ fn regs_behind<'a>(report: &Report<'a>, step: u64) -> Option<&'a Regs> {
     Some(&moment.regs)
 }
 
-/// The index of the instruction behind a step, of those that are remembered.
+/// The index of the instruction after a step, of those that are remembered.
 fn index_behind(moments: &HeapCircularBuffer<Moment>, step: u64) -> Option<usize> {
     let first = moments.front()?.step;
     usize::try_from(step.checked_add(1)?.checked_sub(first)?).ok()

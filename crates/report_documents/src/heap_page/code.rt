@@ -120,7 +120,7 @@ impl Code {
     }
 }
 
-/// Writes a step with the registers behind it, if there is one, and a comma in front of all but the
+/// Writes a step with the registers after it, if there is one, and a comma in front of all but the
 /// first.
 fn write_step<W: Write>(
     out: &mut W,
@@ -203,7 +203,7 @@ fn first_step(report: &Report<'_>) -> u64 {
     }
 }
 
-/// The registers behind the last instruction that is remembered.
+/// The registers after the last instruction that is remembered.
 fn regs_at_end<'a>(report: &Report<'a>) -> &'a Regs {
     match report.finding {
         Some(finding) => &finding.after,

@@ -1,4 +1,4 @@
-//! What is around the style, the data and the script of a page.
+//! The text around the style, the data and the script of a page.
 
 /// From the start to the style. A browser loads nothing for the page, and runs no script but the
 /// one with this sum, whatever the data are.
@@ -63,7 +63,7 @@ pub(crate) const BEFORE_SCRIPT: &str = "
 </script>
 <script>";
 
-/// What is behind the script.
+/// The text after the script.
 pub(crate) const END: &str = "</script>
 </body>
 </html>

@@ -58,7 +58,7 @@ impl ShownRows {
     }
 
     /// Adds the rows of the chunk that a heap call made, with the granule of its header and the one
-    /// behind it, and of a chunk that it freed the first.
+    /// after it, and of a chunk that it freed the first.
     fn add_entry(&mut self, entry: &BookEntry) -> Result<(), AllocError> {
         if let Some(start) = entry.ended() {
             self.add(start)?;

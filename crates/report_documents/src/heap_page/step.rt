@@ -1,4 +1,4 @@
-//! What an instruction did, in few letters.
+//! The effect of an instruction, in few letters.
 
 use a64_access::{AccessForm, StoredTags};
 use a64_decode::decode;
