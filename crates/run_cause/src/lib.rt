@@ -8,6 +8,7 @@ mod evidence;
 mod exact;
 mod families;
 mod jump;
+mod quick_check;
 mod terms;
 mod violation;
 mod words;
