@@ -16,12 +16,13 @@ ghost use Rattle.mte_sched.specs.Memories.{memory_at, IsTenantMemory, IsPlanned,
 ghost use Rattle.mte_svc.specs.Ready.{IsReady};
 
 use crate::tenant::{Caches, Live};
+use a64_run::NoEdges;
 use common::MAX_PAGES;
 use mte_elf::Plan;
 use mte_frames::{FramePool, Quota};
 use mte_space::{RememberedPages, Space, Tenancy, join_lookups, pages_of_a_space, unmap_all};
 use mte_tags::{TagMode, TagState};
-use mte_tenant::{Admission, charge, fill, slice};
+use mte_tenant::{Admission, charge, fill, slice_with_edges};
 use mte_translate::{Table, Tlb};
 
 /// A live tenant's table, its quota, its tag state, and where its last accesses found their pages.
@@ -203,7 +204,13 @@ impl Live {
                 pages: pages as usize,
             },
         );
-        slice(&mut caches.ops, &mut *self.parts, &mut space, steps);
+        slice_with_edges(
+            &mut caches.ops,
+            &mut *self.parts,
+            &mut space,
+            &mut NoEdges,
+            steps,
+        );
     }
 }
 

@@ -18,7 +18,7 @@ pub use alone::{Watch, admit_alone, attempt, slice_watched};
 pub use lone::{Lone, run_alone};
 pub use machine::{fill, halt, settle, slice, slice_with_edges, start_parts};
 pub use mte_svc::{Output, Record, Status, TenantParts};
-pub use noted::{AccessUse, MOST_UNSEEN, NotedAccess, Notes};
+pub use noted::{AccessUse, MOST_UNSEEN, NotedAccess, Notes, NotesAccesses};
 pub use noted_slice::slice_noted;
 pub use refusal::{Refusal, Refused};
 pub use tenant_terms::Terms;

@@ -1,8 +1,10 @@
-//! A memory whose accesses are noted: those that instructions complete.
+//! A memory whose accesses are noted, those that instructions complete, and the watch that is
+//! passed them.
 
 ghost use Rattle.std.specs.Prelude.{◌≡◌};
 
 use crate::alone::Watch;
+use a64_run::Edges;
 use common::GRANULE_SIZE;
 use mte_svc::TenantParts;
 use mte_tags::{Attrs, MemFault, Paged, Tagged};
@@ -35,14 +37,34 @@ pub struct NotedAccess {
     pub is_compared: bool,
 }
 
-/// A watch to which the accesses are passed that instructions complete. It changes nothing of the
-/// machine.
-pub trait Notes: Watch {
+/// Is passed the accesses that instructions complete.
+pub trait NotesAccesses {
     /// Whether it is to be passed whether tags were compared.
     fn counts_tags(&self) -> bool;
 
     /// An instruction completed an access. Accesses come in the order in which they are made.
     fn note(&mut self, access: NotedAccess);
+}
+
+/// Nothing is passed accesses.
+#[derive(Clone, Copy)]
+pub(crate) struct NoAccesses;
+
+impl NotesAccesses for NoAccesses {
+    #[inline(always)]
+    fn counts_tags(&self) -> bool {
+        false
+    }
+
+    #[inline(always)]
+    fn note(&mut self, _access: NotedAccess) {}
+}
+
+/// A watch to which either the accesses are passed that instructions complete, or each instruction.
+/// It changes nothing of the machine.
+pub trait Notes: Watch + NotesAccesses + Edges {
+    /// Whether it is passed each instruction by `attempting` and `completed`, and no access.
+    fn follows(&self) -> bool;
 
     /// So far the machine came since the attempt that was shown last, or since this was called
     /// last, by at most [`MOST_UNSEEN`] attempts.
@@ -51,8 +73,9 @@ pub trait Notes: Watch {
         ensures kept { M.Tagged.kept memory.old memory.new };
 }
 
-/// A memory, and the watch that is passed what instructions access in it. It holds what that memory
-/// holds, and each call is that memory's.
+/// A memory, and who is passed what instructions access in it. It holds what that memory holds, and
+/// each call is that memory's. A run over it is compiled apart from runs over that memory, whose
+/// accesses stay in line.
 #[derive(Drop)]
 pub(crate) struct NotedMemory<'a, M, N> {
     memory: &'a mut M,
@@ -60,7 +83,7 @@ pub(crate) struct NotedMemory<'a, M, N> {
 }
 
 /// A memory with a watch of its accesses.
-pub(crate) fn note_accesses<'a, M: Tagged, N: Notes>(
+pub(crate) fn note_accesses<'a, M: Tagged, N: NotesAccesses>(
     memory: &'a mut M,
     notes: &'a mut N,
 ) -> NotedMemory<'a, M, N>
@@ -70,7 +93,7 @@ pub(crate) fn note_accesses<'a, M: Tagged, N: Notes>(
     NotedMemory { memory, notes }
 }
 
-impl<M: Tagged, N: Notes> NotedMemory<'_, M, N> {
+impl<M: Tagged, N: NotesAccesses> NotedMemory<'_, M, N> {
     /// Notes an access that was completed, where its answer says so.
     #[inline(always)]
     fn note(&mut self, address: u64, bytes: u64, usage: AccessUse, check: bool)
@@ -91,7 +114,7 @@ impl<M: Tagged, N: Notes> NotedMemory<'_, M, N> {
     }
 }
 
-impl<M: Tagged, N: Notes> Tagged for NotedMemory<'_, M, N> {
+impl<M: Tagged, N: NotesAccesses> Tagged for NotedMemory<'_, M, N> {
     ghost use Rattle.std.specs.Prelude.{◌≡◌, refl};
     ghost use Rattle.mte_tenant.specs.Noted.{same_on};
 

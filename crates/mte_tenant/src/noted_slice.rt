@@ -12,18 +12,18 @@ ghost use Rattle.mte_tenant.specs.Machines.{machine_of, after_slice, after_attem
 
 use crate::alone::{Watch, attempt_all};
 use crate::machine::{handle, settle};
-use crate::noted::{MOST_UNSEEN, Notes, note_accesses};
+use crate::noted::{MOST_UNSEEN, NoAccesses, Notes, note_accesses};
 use a64_run::{NoEdges, OpCache, known_words_stay, run_with_edges};
 use a64_step::{Outcome, Regs, steps_keep_pages};
 use mte_svc::TenantParts;
 use mte_tags::{Paged, Tagged};
 use scudo_heap::condition_of_calls;
 
-/// A slice by a table, of which a watch is passed each access that an instruction completes. It is
-/// shown an attempt only where that leads to no next instruction, or where at most `last` steps of
-/// the slice are left before it; of the latter no access is passed, nor are those of services. It
-/// is what `slice` makes of the machine, whatever watches it; what a watch is shown is in no
-/// clause.
+/// A slice by a table, of which a watch is passed each access that an instruction completes, or
+/// each instruction. It is shown an attempt only where that leads to no next instruction, or where
+/// at most `last` steps of the slice are left before it; of the latter no access or instruction is
+/// passed, nor are those of services. It is what `slice` makes of the machine, whatever watches it;
+/// what a watch is shown is in no clause.
 #[inline(never)]
 pub fn slice_noted<M: Paged, W: Notes>(
     ops: &mut OpCache,
@@ -96,7 +96,8 @@ fn run_noted<M: Paged, W: Notes>(
     if goes_on { rest } else { 0 }
 }
 
-/// Runs instructions by the table, as `run_with_edges` does, and passes their accesses on.
+/// Runs instructions by the table, as `run_with_edges` does, and passes on what the watch is to be
+/// passed of them.
 #[inline(always)]
 fn run_by_table<M: Tagged, W: Notes>(
     ops: &mut OpCache,
@@ -116,6 +117,58 @@ fn run_by_table<M: Tagged, W: Notes>(
     ensures kept { M.kept memory.old memory.new }
     ensures tag { regs.old.rgsr.tag < 16 → regs.new.rgsr.tag < 16 }
 {
+    if watch.follows() {
+        run_followed(ops, regs, memory, watch, outcome, steps)
+    } else {
+        run_with_notes(ops, regs, memory, watch, outcome, steps)
+    }
+}
+
+/// The same, and passes their accesses on.
+#[inline(never)]
+fn run_with_notes<M: Tagged, W: Notes>(
+    ops: &mut OpCache,
+    regs: &mut Regs,
+    memory: &mut M,
+    watch: &mut W,
+    outcome: &mut Outcome,
+    steps: u64,
+) -> u64
+    requires known { Knows (M.memory memory.old) ops.old }
+    requires next { outcome.old ≡ Outcome.Next }
+    ensures known { Knows (M.memory memory.new) ops.new }
+    ensures stop { stop_of outcome.new result
+        ≡ (run_of steps regs.old (M.memory memory.old)).stop }
+    ensures regs { regs.new ≡ (run_of steps regs.old (M.memory memory.old)).regs }
+    ensures memory { M.memory memory.new ≡ (run_of steps regs.old (M.memory memory.old)).memory }
+    ensures kept { M.kept memory.old memory.new }
+    ensures tag { regs.old.rgsr.tag < 16 → regs.new.rgsr.tag < 16 }
+{
     let mut noted = note_accesses(memory, watch);
     run_with_edges(ops, regs, &mut noted, &mut NoEdges, outcome, steps)
+}
+
+/// The same, and passes them on.
+#[inline(never)]
+fn run_followed<M: Tagged, W: Notes>(
+    ops: &mut OpCache,
+    regs: &mut Regs,
+    memory: &mut M,
+    watch: &mut W,
+    outcome: &mut Outcome,
+    steps: u64,
+) -> u64
+    requires known { Knows (M.memory memory.old) ops.old }
+    requires next { outcome.old ≡ Outcome.Next }
+    ensures known { Knows (M.memory memory.new) ops.new }
+    ensures stop { stop_of outcome.new result
+        ≡ (run_of steps regs.old (M.memory memory.old)).stop }
+    ensures regs { regs.new ≡ (run_of steps regs.old (M.memory memory.old)).regs }
+    ensures memory { M.memory memory.new ≡ (run_of steps regs.old (M.memory memory.old)).memory }
+    ensures kept { M.kept memory.old memory.new }
+    ensures tag { regs.old.rgsr.tag < 16 → regs.new.rgsr.tag < 16 }
+{
+    let mut none = NoAccesses;
+    let mut apart = note_accesses(memory, &mut none);
+    run_with_edges(ops, regs, &mut apart, watch, outcome, steps)
 }

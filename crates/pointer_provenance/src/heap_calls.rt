@@ -1,6 +1,7 @@
 //! What services do to chunks and pointers.
 
 use crate::chunk_table::TracedChunk;
+use crate::quick::NearChunks;
 use crate::shadow::Shadow;
 use a64_bits::plain;
 use a64_registers::Regs;
@@ -31,6 +32,7 @@ impl Shadow {
 
     /// Notes a heap call that was answered.
     pub fn note_call(&mut self, change: &ChunkChange, after: &Regs) -> Result<(), Full> {
+        self.near = NearChunks::new();
         let old = match change.freed {
             Some(start) => self.live_at(start),
             None => None,

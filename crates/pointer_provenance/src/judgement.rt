@@ -120,7 +120,11 @@ impl Shadow {
     }
 
     /// What is wrong with an access by a pointer.
-    fn judge_bytes(&self, origin: PointerOrigin, access: AccessedBytes) -> Option<Misuse> {
+    pub(crate) fn judge_bytes(
+        &self,
+        origin: PointerOrigin,
+        access: AccessedBytes,
+    ) -> Option<Misuse> {
         match origin.kind() {
             OriginKind::Stack | OriginKind::Place(_) => None,
             OriginKind::Chunk(index) => {

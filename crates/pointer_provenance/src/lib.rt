@@ -7,6 +7,7 @@ mod access_rules;
 mod chunk_table;
 mod heap_calls;
 mod judgement;
+mod quick;
 mod reach;
 mod register_rules;
 mod shadow;

@@ -48,7 +48,8 @@ impl Shadow {
         self.set(rd, value, step.after);
     }
 
-    /// Notes a sum or a difference of two registers.
+    /// Notes a sum or a difference of two registers. A comparison has no result, and SP is the
+    /// stack's.
     fn note_sum(&mut self, step: &Step<'_>) -> Result<(), AllocError> {
         let (sf, rd, one, other, op) = match *step.instr {
             Instr::AddSubShift {
@@ -79,6 +80,9 @@ impl Shadow {
             Instr::SubP { rm, rn, rd, .. } => (1, rd, self.base(rn), self.base(rm), 1),
             _ => return Ok(()),
         };
+        if rd == 31 {
+            return Ok(());
+        }
         let sign = if op == 1 { Sign::Minus } else { Sign::Plus };
         let origin = if sf == 1 {
             self.combined(one, other, sign)?

@@ -1,6 +1,7 @@
 //! What is known of a tenant's registers and memory beside their values.
 
 use crate::chunk_table::{ChunkTable, TracedChunk};
+use crate::quick::NearChunks;
 use a64_bits::plain;
 use a64_registers::Regs;
 use common::{PAGE_SIZE, REGIONS_START, SECONDARY_END};
@@ -35,6 +36,10 @@ impl Pointed {
 pub struct Shadow {
     alloc: Global,
     registers: [Provenance; REGISTERS],
+    /// The registers of which something is known, a bit each; of the others nothing is, whatever
+    /// `registers` has.
+    pub(crate) known: u32,
+    pub(crate) near: NearChunks,
     pub(crate) memory: MemoryShadow,
     pub(crate) chunks: ChunkTable,
     pub(crate) sums: PointerSums,
@@ -48,6 +53,8 @@ impl Shadow {
         Ok(Shadow {
             alloc,
             registers: [Provenance::NONE; REGISTERS],
+            known: 0,
+            near: NearChunks::new(),
             memory: MemoryShadow::new(alloc)?,
             chunks: ChunkTable::new(alloc),
             sums: PointerSums::new(alloc),
@@ -70,23 +77,47 @@ impl Shadow {
     }
 
     /// Of which pointer's bytes the value of a numbered register is made; of none that of 31.
+    #[inline(always)]
     pub fn register(&self, n: u8) -> Provenance {
         match self.registers.get(usize::from(n)) {
-            Some(value) => *value,
-            None => Provenance::NONE,
+            Some(value) if self.known_bit(n) => *value,
+            _ => Provenance::NONE,
         }
     }
 
+    /// Whether something is known of a numbered register; of 31 and above nothing is.
+    #[inline(always)]
+    pub(crate) fn known_bit(&self, n: u8) -> bool {
+        n < 31 && self.known.wrapping_shr(u32::from(n)) % 2 == 1
+    }
+
+    /// Enters whether something is known of a numbered register; nothing for 31 and above.
+    #[inline(always)]
+    pub(crate) fn know(&mut self, n: u8, is_known: bool) {
+        if n >= 31 {
+            return;
+        }
+        let bit = 1u32.wrapping_shl(u32::from(n));
+        self.known = if is_known {
+            self.known | bit
+        } else {
+            self.known & !bit
+        };
+    }
+
     /// Where the pointer in a numbered register points; 31 is the zero register.
+    #[inline(always)]
     pub(crate) fn pointer(&self, n: u8) -> PointerOrigin {
         self.register(n).pointer()
     }
 
     /// Where the pointer in a numbered register points; 31 is SP.
+    #[inline(always)]
     pub(crate) fn base(&self, n: u8) -> PointerOrigin {
-        match self.registers.get(usize::from(n)) {
-            Some(value) => value.pointer(),
-            None => PointerOrigin::STACK,
+        if n < 31 {
+            self.pointer(n)
+        } else {
+            PointerOrigin::STACK
         }
     }
 
@@ -94,6 +125,7 @@ impl Shadow {
     pub fn point(&mut self, n: u8, origin: PointerOrigin) {
         if let Some(place) = self.registers.get_mut(usize::from(n)) {
             *place = Provenance::whole(origin);
+            self.know(n, origin.is_known());
         }
     }
 
@@ -108,6 +140,8 @@ impl Shadow {
         let is_one = origin.chunk().is_some() || origin.place().is_some();
         let is_small = is_one && plain(number) < PAGE_SIZE;
         *place = if is_small { Provenance::NONE } else { value };
+        let is_known = !is_small && value.origin.is_known();
+        self.know(n, is_known);
     }
 
     /// Where a value points that is made of two.
@@ -139,7 +173,7 @@ impl Shadow {
     }
 
     /// Enters where SP is: in a chunk that has room for a stack, this is the stack from now on.
-    fn note_stack(&mut self, sp: u64) {
+    pub(crate) fn note_stack(&mut self, sp: u64) {
         let addr = plain(sp).saturating_sub(1);
         if !is_in_heap(addr) {
             return;
@@ -161,8 +195,8 @@ impl Shadow {
     /// Marks the indices of what registers, memory and sums point into, and of the newest chunk of
     /// each granule.
     pub fn mark(&self, pointed: Pointed, marks: &mut [bool]) {
-        for value in self.registers.iter() {
-            mark(marks, pointed, value.origin);
+        for n in 0..REGISTERS as u8 {
+            mark(marks, pointed, self.register(n).origin);
         }
         self.mark_sums(pointed, marks);
         self.mark_pages(pointed, marks);
@@ -206,6 +240,7 @@ fn mark(marks: &mut [bool], pointed: Pointed, origin: PointerOrigin) {
 }
 
 /// Whether a plain address is in the range of the heap.
+#[inline(always)]
 pub(crate) fn is_in_heap(addr: u64) -> bool {
     REGIONS_START <= addr && addr < SECONDARY_END
 }

@@ -4,6 +4,7 @@
 ghost use Rattle.std.specs.Prelude.{◌≡◌};
 
 use crate::exact::{Finding, ForbiddenAccess};
+use crate::quick_check::FollowedInstruction;
 use crate::terms::{CheckTerms, Silence};
 use crate::violation::Violation;
 use a64_access::AccessForm;
@@ -31,13 +32,15 @@ use undefined_bits::{ArithmeticFault, ServiceArguments, UndefinedBits, Undefined
 #[derive(Drop)]
 pub struct Checker<'a> {
     alloc: Global,
-    kinds: CheckKinds,
-    shadow: Shadow,
-    functions: HeapFunctionWatch,
+    terms: CheckTerms<'a>,
+    pub(crate) kinds: CheckKinds,
+    pub(crate) shadow: Shadow,
+    pub(crate) functions: HeapFunctionWatch,
     /// The variables, where their bounds are checked.
-    places: Option<NamedPlaces>,
+    pub(crate) places: Option<NamedPlaces>,
     /// What is undefined, where that is checked.
-    bits: Option<UndefinedBits>,
+    pub(crate) bits: Option<UndefinedBits>,
+    pub(crate) followed: FollowedInstruction,
     /// What is not told, where something is not.
     silence: Option<Silence<'a>>,
     finding: Option<Finding>,
@@ -46,7 +49,7 @@ pub struct Checker<'a> {
 
 /// An instruction that was attempted.
 #[derive(Clone, Copy)]
-struct Attempt<'s> {
+pub(crate) struct Attempt<'s> {
     step: Step<'s>,
     /// Whether the tenant went on after it.
     is_completed: bool,
@@ -64,6 +67,23 @@ struct RequestedService<'s> {
 }
 
 impl<'s> Attempt<'s> {
+    /// An instruction other than SVC that is attempted next and may complete, with the registers
+    /// before it.
+    pub(crate) fn next(instr: &'s Instr, before: &'s Regs) -> Attempt<'s> {
+        let form = AccessForm::of(instr);
+        Attempt {
+            step: Step {
+                instr,
+                form,
+                access: form.and_then(|form| RegisterAccess::of(&form, before)),
+                before,
+                after: before,
+            },
+            is_completed: true,
+            service: None,
+        }
+    }
+
     /// An instruction with the registers before it, and the tenant after it.
     fn of(
         instr: &'s Instr,
@@ -113,15 +133,23 @@ impl<'a> Checker<'a> {
         };
         Ok(Checker {
             alloc,
+            terms: *terms,
             kinds,
             places,
             silence: Silence::of(alloc, terms)?,
             shadow: Shadow::new(alloc)?,
             functions: HeapFunctionWatch::new(alloc, image)?,
             bits,
+            followed: FollowedInstruction::new(alloc)?,
             finding: None,
             full: None,
         })
+    }
+
+    /// Forgets all, as before the first instruction.
+    pub fn restart(&mut self) -> Result<(), AllocError> {
+        *self = Checker::new(self.alloc, &self.terms)?;
+        Ok(())
     }
 
     /// The kinds that are checked.
@@ -156,6 +184,7 @@ impl<'a> Checker<'a> {
         ensures memory { M.memory memory.new ≡ M.memory memory.old }
         ensures kept { M.kept memory.old memory.new }
     {
+        self.followed.forget();
         if self.finding.is_some() || self.full.is_some() {
             return;
         }
@@ -226,7 +255,7 @@ impl<'a> Checker<'a> {
     }
 
     /// What is wrong with an attempt, of which nothing is noted yet.
-    fn judge(&mut self, attempt: &Attempt<'_>) -> Result<Option<Violation>, Full> {
+    pub(crate) fn judge(&mut self, attempt: &Attempt<'_>) -> Result<Option<Violation>, Full> {
         if let Some(misuse) = self.misuse_by(attempt)? {
             return Ok(Some(Violation::Provenance(misuse)));
         }
@@ -293,7 +322,7 @@ impl<'a> Checker<'a> {
     }
 
     /// Notes an instruction other than SVC.
-    fn note_instruction(&mut self, step: &Step<'_>) -> Result<(), Full> {
+    pub(crate) fn note_instruction(&mut self, step: &Step<'_>) -> Result<(), Full> {
         if let Some(bits) = &mut self.bits {
             bits.note(step)?;
         }

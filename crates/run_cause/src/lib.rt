@@ -9,6 +9,7 @@ mod evidence;
 mod exact;
 mod families;
 mod jump;
+mod quick_check;
 mod terms;
 mod violation;
 

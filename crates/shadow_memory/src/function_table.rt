@@ -33,6 +33,8 @@ pub struct FunctionEntry {
 #[derive(Drop)]
 pub struct FunctionTable {
     entries: Vec<FunctionEntry>,
+    /// A bit for the group of each of their addresses, so that few others are looked for.
+    groups: u64,
 }
 
 impl FunctionTable {
@@ -40,13 +42,18 @@ impl FunctionTable {
     pub fn of(alloc: Global, file: &[u8]) -> Result<FunctionTable, AllocError> {
         let mut table = FunctionTable {
             entries: Vec::new(alloc),
+            groups: 0,
         };
         table.enter_symbols(file)?;
         Ok(table)
     }
 
     /// The function that begins at a plain address.
+    #[inline(always)]
     pub fn at(&self, addr: u64) -> Option<&FunctionEntry> {
+        if self.groups & group_of(addr) == 0 {
+            return None;
+        }
         self.entries.iter().find(|entry| entry.addr == addr)
     }
 
@@ -78,10 +85,17 @@ impl FunctionTable {
             return Ok(());
         }
         if self.entries.len() < MOST_ENTRIES {
+            self.groups |= group_of(entry.addr);
             self.entries.push(entry)?;
         }
         Ok(())
     }
+}
+
+/// The bit of the group of an address, of 64 groups.
+#[inline(always)]
+fn group_of(addr: u64) -> u64 {
+    1u64.wrapping_shl((addr / 4 % 64) as u32)
 }
 
 /// The first symbol table of a file, and its names.

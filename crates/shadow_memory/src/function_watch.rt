@@ -2,6 +2,7 @@
 
 use crate::function_table::FunctionTable;
 use crate::heap_function::HeapFunction;
+use crate::register_use::BranchKind;
 use crate::step::Step;
 use a64_bits::plain;
 use a64_instr::Instr;
@@ -68,6 +69,23 @@ impl HeapFunctionWatch {
             _ => {}
         }
         None
+    }
+
+    /// The same of a branch of a kind, by the registers after it.
+    #[inline(always)]
+    pub fn note_branch_of(&mut self, kind: BranchKind, after: &Regs) -> Option<ReturnedChunk> {
+        match kind {
+            BranchKind::Return if self.active.is_none() => None,
+            BranchKind::Return => self.note_return(after),
+            BranchKind::Call => {
+                self.note_branch(after, true);
+                None
+            }
+            BranchKind::Jump => {
+                self.note_branch(after, false);
+                None
+            }
+        }
     }
 
     /// Notes a branch, which may be a call or the last thing that a function does. A function that

@@ -11,6 +11,7 @@ mod memory_shadow;
 mod origin;
 mod page_numbers;
 mod pointer_sums;
+mod register_use;
 mod shadow_page;
 mod step;
 
@@ -21,4 +22,5 @@ pub use memory_shadow::MemoryShadow;
 pub use origin::{OriginKind, PointerOrigin, Provenance};
 pub use page_numbers::PageNumbers;
 pub use pointer_sums::{PointerSums, Sign};
+pub use register_use::{BranchKind, InstructionClass, PointerRule, RegisterUse, RegisterUses};
 pub use step::{Full, Step};

@@ -34,11 +34,13 @@ impl MemoryShadow {
     }
 
     /// The page of an address.
+    #[inline]
     fn page(&self, addr: u64) -> Option<&ShadowPage> {
         self.pages.get(self.numbers.of(addr)?)
     }
 
     /// The page of an address, to be changed.
+    #[inline]
     fn page_mut(&mut self, addr: u64) -> Option<&mut ShadowPage> {
         self.pages.get_mut(self.numbers.of(addr)?)
     }
@@ -61,6 +63,7 @@ impl MemoryShadow {
 
     /// Of which pointer's bytes those are that lie at a plain address, at most eight. None where
     /// they lie in two words.
+    #[inline]
     pub fn load(&self, addr: u64, bytes: u8) -> Provenance {
         match self.page(addr) {
             Some(page) if is_in_word(addr, bytes) => page.load(addr, bytes),
@@ -69,6 +72,7 @@ impl MemoryShadow {
     }
 
     /// Enters that a value is stored at a plain address, with at most eight bytes.
+    #[inline]
     pub fn store(&mut self, addr: u64, bytes: u8, value: Provenance) -> Result<(), AllocError> {
         if !is_in_word(addr, bytes) {
             self.clear(addr, u64::from(bytes));

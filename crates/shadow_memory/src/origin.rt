@@ -1,5 +1,7 @@
 //! Where a value points.
 
+ghost use Rattle.std.specs.Prelude.{◌<◌};
+
 /// Where a value points. It has four bytes, since each word of memory has one.
 #[derive(Clone, Copy, PartialEq, Eq, PartialOrd, Ord)]
 pub struct PointerOrigin {
@@ -82,8 +84,18 @@ impl PointerOrigin {
     }
 
     /// Whether it is known.
+    #[inline(always)]
     pub fn is_known(self) -> bool {
         self.number != 0
+    }
+
+    /// Its place in a table of `count` places.
+    #[inline(always)]
+    pub fn place_among(self, count: usize) -> usize
+        requires { 0 < count }
+        ensures { result < count }
+    {
+        self.number as usize % count
     }
 
     /// The index of the chunk that it is, if it is one.
@@ -145,6 +157,7 @@ impl Provenance {
     }
 
     /// Where it points, if it is a whole pointer.
+    #[inline(always)]
     pub fn pointer(self) -> PointerOrigin {
         if self.count == POINTER_SIZE {
             self.origin

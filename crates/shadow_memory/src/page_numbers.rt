@@ -28,6 +28,7 @@ impl PageNumbers {
     }
 
     /// The number of the page that an address is in, if it has one.
+    #[inline]
     pub fn of(&self, addr: u64) -> Option<usize> {
         let entry = usize::from(*self.table.get((addr / PAGE_SIZE) as usize)?);
         entry.checked_sub(1)

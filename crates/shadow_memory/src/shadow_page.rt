@@ -33,6 +33,7 @@ impl ShadowPage {
     }
 
     /// Of which pointer's bytes those are that lie at an address, at most eight within a word.
+    #[inline]
     pub fn load(&self, addr: u64, bytes: u8) -> Provenance {
         let word = word_of(addr);
         let origin = self
@@ -57,6 +58,7 @@ impl ShadowPage {
 
     /// Enters that bytes of a pointer are stored at an address, at most eight within a word. They
     /// are kept where they lie as they do in a pointer.
+    #[inline]
     pub fn store(&mut self, addr: u64, bytes: u8, value: Provenance) {
         let (word, first) = (word_of(addr), byte_in_word(addr));
         let mask = byte_mask(first, bytes);
@@ -106,6 +108,7 @@ impl ShadowPage {
 }
 
 /// The word of a page that an address is in.
+#[inline]
 fn word_of(addr: u64) -> usize {
     (addr % PAGE_SIZE / WORD_SIZE) as usize
 }
@@ -116,6 +119,7 @@ fn granule_of(addr: u64) -> usize {
 }
 
 /// Which byte of its word an address is, 0 to 7.
+#[inline]
 fn byte_in_word(addr: u64) -> u8 {
     (addr % WORD_SIZE) as u8
 }

@@ -4,12 +4,12 @@ ghost use Rattle.std.specs.Prelude.{◌≡◌, ◌<◌, [], Some, false, IfOk, I
 ghost use Rattle.common.specs.Obstacles.{IfRefused};
 ghost use Rattle.mte_svc.specs.Ready.{IsReady};
 
-use a64_run::OpCache;
+use a64_run::{NoEdges, OpCache};
 use common::Obstacle;
 use mte_flat::Flat;
 use mte_tenant::{
-    Admission, AdmitError, Notes, Status, TenantParts, admit_alone, is_bad_reservation, slice,
-    slice_noted, slice_watched,
+    Admission, AdmitError, Notes, Status, TenantParts, admit_alone, is_bad_reservation,
+    slice_noted, slice_watched, slice_with_edges,
 };
 use std::alloc::Global;
 
@@ -18,8 +18,8 @@ use std::alloc::Global;
 pub enum WatchLevel {
     /// Nothing: the slice runs by a table of instructions, as a host runs it.
     Nothing,
-    /// The accesses of instructions by that table, and attempts that lead to no next instruction;
-    /// of the last steps each attempt.
+    /// The accesses of instructions by that table, or these instructions, and attempts that lead to
+    /// no next instruction; of the last steps each attempt.
     Accesses,
     /// Each attempt.
     Attempts,
@@ -90,7 +90,9 @@ impl TenantBench {
     {
         let (parts, memory) = (&mut self.parts, &mut self.memory);
         match watch.shown() {
-            WatchLevel::Nothing => slice(&mut self.words, parts, memory, steps),
+            WatchLevel::Nothing => {
+                slice_with_edges(&mut self.words, parts, memory, &mut NoEdges, steps)
+            }
             WatchLevel::Accesses => {
                 let last = watch.begin(parts, steps);
                 slice_noted(&mut self.words, watch, parts, memory, steps, last);

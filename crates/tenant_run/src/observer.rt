@@ -4,10 +4,14 @@ ghost use Rattle.std.specs.Prelude.{None};
 
 use crate::bench::{WatchLevel, Watcher};
 use crate::tracer::Tracer;
+use a64_registers::Regs;
+use a64_run::Edges;
 use circular_buffer::HeapCircularBuffer;
 use mte_svc::WRITE;
 use mte_tags::Paged;
-use mte_tenant::{AccessUse, MOST_UNSEEN, NotedAccess, Notes, Status, TenantParts, Watch};
+use mte_tenant::{
+    AccessUse, MOST_UNSEEN, NotedAccess, Notes, NotesAccesses, Status, TenantParts, Watch,
+};
 use run_cause::{CheckTerms, Checker, Exact, Finding, LastStore, TargetLoad};
 use run_records::{Book, Moment, SVC, Statistics, StatisticsTable, Turn};
 use run_terms::Exactness;
@@ -82,12 +86,17 @@ impl<'a> Observer<'a> {
         self.statistics = Some(Statistics::new());
     }
 
-    /// What it has to be shown from the first step on: each attempt where it writes or checks what
-    /// it sees, and accesses where it counts or judges these.
+    /// How much it has to be shown from the first step on: each attempt where it writes what it
+    /// sees, or counts and checks, else the accesses that it counts or judges, or what it follows.
     pub fn needs(&self) -> WatchLevel {
-        if self.tracer.is_some() || self.checker.is_some() {
+        let is_by_table = match &self.checker {
+            Some(checker) => checker.can_follow() && self.statistics.is_none(),
+            None => true,
+        };
+        let judges_accesses = self.exact.is_some() || self.statistics.is_some();
+        if self.tracer.is_some() || !is_by_table {
             WatchLevel::Attempts
-        } else if self.exact.is_none() && self.statistics.is_none() {
+        } else if !judges_accesses && self.checker.is_none() {
             WatchLevel::Nothing
         } else if self.turns.is_some() {
             WatchLevel::Attempts
@@ -120,11 +129,24 @@ impl<'a> Observer<'a> {
         if let Some(exact) = &mut self.exact {
             exact.restart(alloc);
         }
+        if let Some(checker) = &mut self.checker {
+            checker.restart()?;
+        }
         if self.statistics.is_some() {
             self.count();
         }
         self.book = Book::new(alloc)?;
         Ok(())
+    }
+
+    /// Remembers that an instruction since the last attempt that was shown may be wrong, if it
+    /// is the first.
+    #[cold]
+    #[inline(never)]
+    fn suspect_this(&mut self) {
+        if !self.is_suspicious() && self.full().is_none() {
+            self.suspect = Some(self.passed);
+        }
     }
 
     /// The last instructions.
@@ -213,7 +235,7 @@ impl<'a> Watcher for Observer<'a> {
     }
 }
 
-impl<'a> Notes for Observer<'a> {
+impl<'a> NotesAccesses for Observer<'a> {
     #[inline(always)]
     fn counts_tags(&self) -> bool {
         self.statistics.is_some()
@@ -234,11 +256,49 @@ impl<'a> Notes for Observer<'a> {
             }
         }
     }
+}
+
+impl<'a> Notes for Observer<'a> {
+    fn follows(&self) -> bool {
+        self.checker.is_some()
+    }
 
     fn pass<M: Paged>(&mut self, parts: &TenantParts, memory: &mut M) {
         self.passed = parts.history.steps;
         if let Some(statistics) = &mut self.statistics {
             statistics.pass(parts, MOST_UNSEEN, memory);
+        }
+    }
+}
+
+impl<'a> Edges for Observer<'a> {
+    #[inline(always)]
+    fn taken(&mut self, _from: u64, _to: u64) {}
+
+    #[inline(always)]
+    fn attempting(&mut self, pc: u64, word: u32, regs: &Regs) {
+        if let Some(checker) = &mut self.checker {
+            if checker.attempting(pc, word, regs) {
+                self.suspect_this();
+            }
+        }
+    }
+
+    #[inline(always)]
+    fn completed(&mut self, pc: u64, word: u32, regs: &Regs) {
+        if let Some(checker) = &mut self.checker {
+            if let Some(exact) = &mut self.exact {
+                if let Some(span) = checker.accessed(word, regs) {
+                    if exact.is_suspicious(span.addr, span.bytes, span.is_write)
+                        && self.suspect.is_none()
+                    {
+                        self.suspect = Some(self.passed);
+                    }
+                }
+            }
+            if checker.completed(pc, word, regs) {
+                self.suspect_this();
+            }
         }
     }
 }

@@ -3,8 +3,9 @@
 ghost use Rattle.std.specs.Prelude.{None};
 
 use crate::bench::{WatchLevel, Watcher};
+use a64_run::Edges;
 use mte_tags::Paged;
-use mte_tenant::{NotedAccess, Notes, TenantParts, Watch};
+use mte_tenant::{NotedAccess, Notes, NotesAccesses, TenantParts, Watch};
 use run_cause::{LastStore, StoreWatch, TargetLoad};
 use run_records::Moment;
 
@@ -45,13 +46,23 @@ impl Watcher for StoreWatcher {
     }
 }
 
-/// It is shown each attempt, and so no access.
-impl Notes for StoreWatcher {
+/// It is shown each attempt, and so is passed nothing.
+impl NotesAccesses for StoreWatcher {
     fn counts_tags(&self) -> bool {
         false
     }
 
     fn note(&mut self, _access: NotedAccess) {}
+}
+
+impl Edges for StoreWatcher {
+    fn taken(&mut self, _from: u64, _to: u64) {}
+}
+
+impl Notes for StoreWatcher {
+    fn follows(&self) -> bool {
+        false
+    }
 
     fn pass<M: Paged>(&mut self, _parts: &TenantParts, _memory: &mut M) {}
 }

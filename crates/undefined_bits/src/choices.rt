@@ -29,7 +29,7 @@ impl UndefinedBits {
             return;
         };
         let (first, other) = (self.register(rn), self.register(rm));
-        let origin = self.flags.undefined_origin(cond % 16);
+        let origin = self.flags().undefined_origin(cond % 16);
         if origin.is_none() && first.bits | other.bits == 0 {
             self.set(rd, UndefinedValue::DEFINED);
             return;
@@ -76,7 +76,7 @@ impl UndefinedBits {
             y,
             origin: self.register(rn).origin_or(other),
         };
-        let state = match self.flags.undefined_origin(cond % 16) {
+        let state = match self.flags().undefined_origin(cond % 16) {
             Some(origin) => match operands.flags() {
                 FlagState::Defined => {
                     FlagState::Either(compared_flags(&operands), flags_of(nzcv), origin)
@@ -86,7 +86,7 @@ impl UndefinedBits {
             None if condition_holds(step.before.flags, cond % 16) => operands.flags(),
             None => FlagState::Defined,
         };
-        self.flags = state;
+        self.set_flags(state);
     }
 
     /// Notes a sum or a difference with a carry.
@@ -103,7 +103,7 @@ impl UndefinedBits {
             return;
         };
         let (x, y) = (self.operand(step, sf, rn), self.operand(step, sf, rm));
-        let carry = self.flags.undefined_origin(CARRY_SET);
+        let carry = self.flags().undefined_origin(CARRY_SET);
         let origin = self.register(rn).origin_or(self.register(rm));
         let origin = match carry {
             Some(carry) if x.undefined | y.undefined == 0 => carry,
@@ -116,11 +116,11 @@ impl UndefinedBits {
         };
         let value = UndefinedValue::of(truncate(sf, bits), origin);
         if s == 1 {
-            self.flags = if value.is_defined() {
+            self.set_flags(if value.is_defined() {
                 FlagState::Defined
             } else {
                 FlagState::Undefined(origin)
-            };
+            });
         }
         self.set(rd, value);
     }

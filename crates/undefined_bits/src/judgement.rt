@@ -53,7 +53,7 @@ impl UndefinedBits {
     pub fn judge(&self, step: &Step<'_>) -> Option<UndefinedUse> {
         match *step.instr {
             Instr::BranchCond { cond, .. } => {
-                let origin = self.flags.undefined_origin(cond % 16)?;
+                let origin = self.flags().undefined_origin(cond % 16)?;
                 Some(UndefinedUse::of(UseKind::Branch, origin))
             }
             Instr::CmpBranch { sf, rt, .. } => self.judge_zero(step, sf, rt),

@@ -9,6 +9,7 @@ mod arithmetic_fault;
 mod choices;
 mod judgement;
 mod memory_rules;
+mod quick;
 mod register_rules;
 mod services;
 mod state;

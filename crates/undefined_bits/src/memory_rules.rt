@@ -55,12 +55,7 @@ impl UndefinedBits {
         if found.is_defined() {
             return found;
         }
-        let bits = match extension {
-            LoadExtension::Zero => return found,
-            LoadExtension::Sign64 => extend_signed(found.bits, count),
-            LoadExtension::Sign32 => extend_signed(found.bits, count) & 0xffff_ffff,
-        };
-        UndefinedValue::of(bits, found.origin)
+        extended_load(found, extension, count)
     }
 
     /// Notes the zeros that are stored with tags.
@@ -72,6 +67,20 @@ impl UndefinedBits {
         let end = start.saturating_add(form.len());
         self.memory.fill(start, end, UndefinedValue::DEFINED)
     }
+}
+
+/// The undefined bits of a register that was loaded with some bytes.
+pub(crate) fn extended_load(
+    found: UndefinedValue,
+    extension: LoadExtension,
+    bytes: u8,
+) -> UndefinedValue {
+    let bits = match extension {
+        LoadExtension::Zero => return found,
+        LoadExtension::Sign64 => extend_signed(found.bits, bytes),
+        LoadExtension::Sign32 => extend_signed(found.bits, bytes) & 0xffff_ffff,
+    };
+    UndefinedValue::of(bits, found.origin)
 }
 
 /// A number of bytes that a register may have.

@@ -91,7 +91,7 @@ impl UndefinedBits {
             return;
         };
         if s == 1 {
-            self.flags = operands.flags();
+            self.set_flags(operands.flags());
         }
         self.set(rd, UndefinedValue::of(operands.bits(), operands.origin));
     }
@@ -212,11 +212,11 @@ impl UndefinedBits {
     /// Enters the result of an operation on bits, which may set the flags.
     fn enter_logic(&mut self, sf: u8, opc: u8, rd: u8, found: BitOperand, origin: UndefinedOrigin) {
         if opc == 3 {
-            self.flags = if found.undefined == 0 {
+            self.set_flags(if found.undefined == 0 {
                 FlagState::Defined
             } else {
                 FlagState::Tested(found, sign_of(sf), origin)
-            };
+            });
         }
         self.set(rd, UndefinedValue::of(found.undefined, origin));
     }
@@ -379,11 +379,11 @@ impl UndefinedBits {
                 let value = UndefinedValue::of(all_if(x.bits | y.bits), x.origin_or(y));
                 self.set(rd, value);
                 if s == 1 {
-                    self.flags = if value.is_defined() {
+                    self.set_flags(if value.is_defined() {
                         FlagState::Defined
                     } else {
                         FlagState::Undefined(value.origin)
-                    };
+                    });
                 }
             }
             Instr::Adr { rd, .. } | Instr::Gmi { rd, .. } => {

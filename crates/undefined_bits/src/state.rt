@@ -3,7 +3,7 @@
 use a64_registers::Regs;
 use a64_registers::operands::truncate;
 use common::{STACK_END, STACK_START};
-use shadow_memory::{Full, Step};
+use shadow_memory::{Full, RegisterUse, Step};
 use std::alloc::{AllocError, Global};
 use undefined_values::{BitMemory, BitOperand, FlagState, UndefinedOrigin, UndefinedValue};
 
@@ -17,7 +17,10 @@ const MOST_FRAME: u64 = 0x10_0000;
 #[derive(Drop)]
 pub struct UndefinedBits {
     registers: [UndefinedValue; REGISTERS],
-    pub(crate) flags: FlagState,
+    flags: FlagState,
+    /// The registers that have undefined bits, a bit each, and as [`RegisterUse::FLAGS`] the flags;
+    /// the others are defined, whatever `registers` and `flags` have.
+    pub(crate) undefined: u32,
     pub(crate) memory: BitMemory,
 }
 
@@ -31,6 +34,7 @@ impl UndefinedBits {
         Ok(UndefinedBits {
             registers: [UndefinedValue::DEFINED; REGISTERS],
             flags: FlagState::Defined,
+            undefined: 0,
             memory,
         })
     }
@@ -56,7 +60,7 @@ impl UndefinedBits {
 
     /// Enters that SP was moved by the instruction at an address, and that what lies between is
     /// undefined, where it is of one stack.
-    fn note_stack(&mut self, pc: u64, low: u64, high: u64) -> Result<(), AllocError> {
+    pub(crate) fn note_stack(&mut self, pc: u64, low: u64, high: u64) -> Result<(), AllocError> {
         let is_first = STACK_START <= low && high <= STACK_END;
         let is_other = high < STACK_START && high.saturating_sub(low) <= MOST_FRAME;
         if !is_first && !is_other {
@@ -67,11 +71,37 @@ impl UndefinedBits {
     }
 
     /// The undefined bits of a numbered register; none of 31.
+    #[inline(always)]
     pub fn register(&self, n: u8) -> UndefinedValue {
         match self.registers.get(usize::from(n)) {
-            Some(value) => *value,
-            None => UndefinedValue::DEFINED,
+            Some(value) if self.undefined.wrapping_shr(u32::from(n)) % 2 == 1 => *value,
+            _ => UndefinedValue::DEFINED,
         }
+    }
+
+    /// The state of the flags.
+    pub(crate) fn flags(&self) -> FlagState {
+        if self.undefined & RegisterUse::FLAGS == 0 {
+            FlagState::Defined
+        } else {
+            self.flags
+        }
+    }
+
+    /// Enters what is known of the flags.
+    pub(crate) fn set_flags(&mut self, state: FlagState) {
+        self.flags = state;
+        self.mark(RegisterUse::FLAGS, matches!(state, FlagState::Defined));
+    }
+
+    /// Enters whether what has a bit is defined.
+    #[inline(always)]
+    fn mark(&mut self, bit: u32, is_defined: bool) {
+        self.undefined = if is_defined {
+            self.undefined & !bit
+        } else {
+            self.undefined | bit
+        };
     }
 
     /// The same in the size of an instruction's operands.
@@ -93,21 +123,23 @@ impl UndefinedBits {
     }
 
     /// Enters the undefined bits of a numbered register; nothing for 31.
+    #[inline(always)]
     pub(crate) fn set(&mut self, n: u8, value: UndefinedValue) {
         if let Some(place) = self.registers.get_mut(usize::from(n)) {
             *place = value;
+            self.mark(1u32.wrapping_shl(u32::from(n)), value.bits == 0);
         }
     }
 
     /// Enters that what was told of is defined, so that it is told once.
     pub fn forget(&mut self, origin: UndefinedOrigin) {
-        for value in self.registers.iter_mut() {
-            if value.origin == origin {
-                *value = UndefinedValue::DEFINED;
+        for n in 0..REGISTERS as u8 {
+            if self.register(n).origin == origin {
+                self.set(n, UndefinedValue::DEFINED);
             }
         }
-        if self.flags.origin() == Some(origin) {
-            self.flags = FlagState::Defined;
+        if self.flags().origin() == Some(origin) {
+            self.set_flags(FlagState::Defined);
         }
     }
 }

@@ -29,11 +29,13 @@ impl BitMemory {
     }
 
     /// The page of an address.
+    #[inline]
     fn page(&self, addr: u64) -> Option<&BitPage> {
         self.pages.get(self.numbers.of(addr)?)
     }
 
     /// The page of an address, to be changed.
+    #[inline]
     fn page_mut(&mut self, addr: u64) -> Option<&mut BitPage> {
         self.pages.get_mut(self.numbers.of(addr)?)
     }
@@ -55,6 +57,7 @@ impl BitMemory {
     }
 
     /// The undefined bits of the bytes at a plain address, at most eight.
+    #[inline]
     pub fn load(&self, addr: u64, bytes: u8) -> UndefinedValue {
         let within = bytes_in_word(addr, bytes);
         let low = self.load_in_word(addr, within);
@@ -68,6 +71,7 @@ impl BitMemory {
     }
 
     /// The same within a word.
+    #[inline]
     fn load_in_word(&self, addr: u64, bytes: u8) -> UndefinedValue {
         match self.page(addr) {
             Some(page) => page.load(addr, bytes),
@@ -76,6 +80,7 @@ impl BitMemory {
     }
 
     /// Enters the undefined bits of the bytes at a plain address, at most eight.
+    #[inline]
     pub fn store(&mut self, addr: u64, bytes: u8, value: UndefinedValue) -> Result<(), AllocError> {
         let within = bytes_in_word(addr, bytes);
         self.store_in_word(addr, within, value)?;
@@ -89,6 +94,7 @@ impl BitMemory {
     }
 
     /// The same within a word.
+    #[inline]
     fn store_in_word(
         &mut self,
         addr: u64,
@@ -174,6 +180,7 @@ impl BitMemory {
 }
 
 /// How many of some bytes at an address are in its word.
+#[inline]
 fn bytes_in_word(addr: u64, bytes: u8) -> u8 {
     bytes.min((8 - addr % 8) as u8)
 }

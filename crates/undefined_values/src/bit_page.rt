@@ -28,6 +28,7 @@ impl BitPage {
     }
 
     /// The undefined bits of the bytes at an address, at most eight within a word.
+    #[inline]
     pub fn load(&self, addr: u64, bytes: u8) -> UndefinedValue {
         let word = word_of(addr);
         let bits = self.bits.get(word).copied().unwrap_or(0);
@@ -43,6 +44,7 @@ impl BitPage {
     }
 
     /// Enters the undefined bits of the bytes at an address, at most eight within a word.
+    #[inline]
     pub fn store(&mut self, addr: u64, bytes: u8, value: UndefinedValue) {
         let word = word_of(addr);
         let mask = ones(bytes).wrapping_shl(shift_of(addr));
@@ -82,6 +84,7 @@ impl BitPage {
 }
 
 /// The word of a page that an address is in.
+#[inline]
 fn word_of(addr: u64) -> usize {
     (addr % PAGE_SIZE / WORD_SIZE) as usize
 }
@@ -95,11 +98,13 @@ fn end_word(addr: u64) -> usize {
 }
 
 /// By how many bits a byte is above the lowest of its word.
+#[inline]
 fn shift_of(addr: u64) -> u32 {
     (addr % WORD_SIZE) as u32 * 8
 }
 
 /// The bits of a number of bytes.
+#[inline]
 pub fn ones(bytes: u8) -> u64 {
     match bytes {
         0 => 0,
