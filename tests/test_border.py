@@ -7,6 +7,7 @@ from collections.abc import Iterable
 
 import pytest
 
+from border_to_c.refusals import CODE_FILE, SPECS_FILE
 from tests.support import border
 from tests.support.border import CODES, HEADER, PYTHON, RUST, Changed
 from tests.support.places import ROOT
@@ -213,6 +214,10 @@ def test_what_a_proof_does_not_notice(what: str) -> None:
     (HEADER, r'return "svc"', 'return "an SVC"'),
     (RUST, r'TB_SVC => "svc"', 'TB_SVC => "an SVC"'),
     (PYTHON, r'SVC: "svc"', 'SVC: "an SVC"'),
+    (CODE_FILE, "ElfError::Short => SHORT", "ElfError::Short => OVERLAP"),
+    (SPECS_FILE, r"^abort_code abort\.Unmapped = code\.UNMAPPED", "abort_code abort.Unmapped = 0"),
+    ("crates/mte_elf/src/error.rt", r"^    Overlap,\n", "    Touching,\n"),
+    ("crates/mte_script/src/error.rt", r"^pub enum ScriptFault", "pub enum LineFault"),
     (HEADER, r"^uint32_t tb_version\(void\);", "uint64_t tb_version(void);"),
     (HEADER, r"^uint32_t tb_unmap\(.*\);\n", ""),
     (RUST, r"    fn tb_unmap\(.*;\n", ""),

@@ -5,8 +5,9 @@ the package of Python, which are compared; those of Rust are written from the he
     border.py --check    exit with 1 where the header, tombolopan.rs, the package of Python or
                          docs/C.md says something else than the crate tombolopan_c, or the
                          header does not compile as C99, C11 and C++17
-    border.py --write    write what tools/border_to_c/codes.toml has into these files, and the
-                         structs and calls of the header into tombolopan.rs
+    border.py --write    write what tools/border_to_c/codes.toml has into these files, the
+                         structs and calls of the header into tombolopan.rs, and the numbers of
+                         refusals into tombolopan_c
     border.py --root DIR --check    the same in another copy of the repository
 
 Proofs name the fields of a struct and the arguments of a call; in which order they stand is in no
@@ -19,7 +20,7 @@ import pathlib
 import sys
 
 import findings
-from border_to_c import compare, compiled, tables, written
+from border_to_c import compare, compiled, refusals, tables, written
 
 HERE = pathlib.Path(__file__).resolve().parent.parent
 
@@ -41,6 +42,16 @@ def write(root: pathlib.Path) -> None:
         if new != text:
             path.write_text(new, encoding="utf-8")
             print(f"wrote {part.name} of {part.path}")
+    write_files(root, refusals.files(known, lambda name: (root / name).read_text(encoding="utf-8")))
+
+
+def write_files(root: pathlib.Path, files: dict[str, str]) -> None:
+    """Writes each file that has not its text."""
+    for name, text in files.items():
+        path = root / name
+        if not path.exists() or path.read_text(encoding="utf-8") != text:
+            path.write_text(text, encoding="utf-8")
+            print(f"wrote {name}")
 
 
 def check(root: pathlib.Path) -> list[str]:

@@ -17,8 +17,9 @@ MISTAKES = ("misaligned", "unmapped", "corrupt", "freed", "within", "misaligned_
             "freed_corrupt", "misaligned_corrupt", "realloc_freed", "realloc_misaligned",
             "realloc_corrupt", "usable_freed", "usable_misaligned", "usable_corrupt")
 # What Scudo writes of a mistake, as the name that the profile has for it.
-MESSAGES = {"misaligned pointer": "Misaligned", "corrupted chunk header": "HeaderCorrupt",
-            "invalid chunk state": "InvalidState"}
+MESSAGES = {"misaligned pointer": tb.HeapAbort.MISALIGNED,
+            "corrupted chunk header": tb.HeapAbort.HEADER_CORRUPT,
+            "invalid chunk state": tb.HeapAbort.INVALID_STATE}
 REALLOCATIONS = ((24, 40), (24, 16), (24, 48), (24, 49), (100, 112), (100, 113), (1000, 500),
                  (1000, 1008), (1000, 1009), (20000, 8000), (20000, 17000))
 REUSES = ((24, 3), (72, 28), (136, 64), (600, 64))

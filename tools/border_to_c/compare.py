@@ -5,7 +5,7 @@ import functools
 import re
 from collections.abc import Callable, Iterator
 
-from . import binding, header, rusty, written
+from . import binding, header, refusals, rusty, written
 from .shapes import Border, BorderError, Call, Place, Struct, layout, renamed
 from .tables import SOURCE, Tables, read
 
@@ -189,6 +189,13 @@ def written_parts(read_file: Read, tables: Tables) -> Iterator[str]:
             yield f"{part.path}: {part.name} are not what {source} gives (border.py --write)"
 
 
+def written_files(read_file: Read, tables: Tables) -> Iterator[str]:
+    """Files of the crate that are not what the tables and the enums of refusals give."""
+    for path, wanted in refusals.files(tables, read_file).items():
+        if read_file(path) != wanted:
+            yield f"{path}: it is not what {SOURCE} and the enums give (border.py --write)"
+
+
 def bound_numbers(c: Border, rust: Border, python: Border, tables: Tables) -> Iterator[str]:
     """What differs between the tables and all numbers of the header and of the bindings."""
     entries = [it for group in tables.enums for it in group.entries]
@@ -216,8 +223,8 @@ def differences(read_file: Read, crate_files: list[str]) -> list[str]:
         return [
             *(f"{CRATE}: {it} is not in {SOURCE}" for it in sorted({*crate.structs} - names)),
             *code_numbers(read_file, tables), *bound_numbers(c, rust, python, tables),
-            *written_parts(read_file, tables), *limits(read_file, tables), *padding(crate),
-            *version_names(read_file, tables),
+            *written_parts(read_file, tables), *written_files(read_file, tables),
+            *limits(read_file, tables), *padding(crate), *version_names(read_file, tables),
             *same_structs(written.HEADER, crate, c), *same_calls(written.HEADER, crate, c, True),
             *same_structs(written.RUST_FILE, crate, rust),
             *same_calls(written.RUST_FILE, crate, rust, True),

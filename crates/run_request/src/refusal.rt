@@ -8,10 +8,7 @@ pub(crate) fn remedy_of(error: AdmitError) -> &'static str {
     match error {
         AdmitError::Image(error) => remedy_of_image(error),
         AdmitError::ReservationTooSmall => ": --pages gives it more",
-        AdmitError::Duplicate
-        | AdmitError::BadReservation
-        | AdmitError::NoFrames
-        | AdmitError::TooManyLive => "",
+        _ => "",
     }
 }
 

@@ -7,8 +7,6 @@ use Rattle.mte_tags.specs.declared.generator.Rgsr.{Rgsr}
 use Rattle.mte_tags.specs.declared.state.TagMode.{TagMode}
 use Rattle.scudo_heap.specs.Heaps.{empty_heap}
 use Rattle.scudo_heap.specs.Placing.{World, world_of}
-use Rattle.scudo_heap.specs.declared.abort.HeapAbort.{HeapAbort}
-use Rattle.scudo_heap.specs.declared.abort.HeapAbort.TheVariants as abort
 use Rattle.scudo_heap.specs.declared.call.HeapCall.TheVariants as heap
 use Rattle.tombolopan.specs.HeapAnswers.{after_operation}
 use Rattle.tombolopan.specs.declared.heap_op.HeapOp.{HeapOp}
@@ -17,9 +15,8 @@ use Rattle.tombolopan.specs.declared.heap_op.HeapAnswer.{HeapAnswer}
 use Rattle.tombolopan.specs.declared.heap_op.HeapAnswer.TheVariants as answer
 use Rattle.tombolopan_c.specs.Faults.{no_fault, report_of}
 use Rattle.tombolopan_c.specs.LentPages.{mode_for}
+use Rattle.tombolopan_c.specs.RefusalCodes.{abort_code}
 use Rattle.tombolopan_c.specs.declared.codes.TheConstants.{OK, FAULT, ABORT, BAD_ARGUMENT}
-use Rattle.tombolopan_c.specs.declared.codes.TheConstants.{MISALIGNED, UNMAPPED, HEADER_CORRUPT}
-use Rattle.tombolopan_c.specs.declared.codes.TheConstants.{INVALID_STATE, NOT_A_BLOCK, ALREADY_FREE}
 use Rattle.tombolopan_c.specs.declared.codes.TheConstants.{MALLOC, FREE, CALLOC, REALLOC, MEMALIGN}
 use Rattle.tombolopan_c.specs.declared.codes.TheConstants.{USABLE_SIZE, LOAD, STORE, LOAD_TAG}
 use Rattle.tombolopan_c.specs.declared.lent_heap.HeapSetup.{HeapSetup}
@@ -58,15 +55,6 @@ op_of c =
     else if c.op == STORE then Some (op.Store c.first c.second)
     else if c.op == LOAD_TAG then Some (op.LoadTag c.first)
     else None
-
--- The number of an abort of the heap.
-abbrev pub abort_code : HeapAbort → ℕ
-abort_code abort.Misaligned = MISALIGNED
-abort_code abort.Unmapped = UNMAPPED
-abort_code abort.HeaderCorrupt = HEADER_CORRUPT
-abort_code abort.InvalidState = INVALID_STATE
-abort_code abort.NotABlock = NOT_A_BLOCK
-abort_code abort.AlreadyFree = ALREADY_FREE
 
 -- A call with its answer.
 abbrev pub with_heap_answer : LentHeapCall → HeapAnswer → LentHeapCall

@@ -4,15 +4,13 @@ use Rattle.std.specs.Prelude.{◌≡◌, ℕ, ◌==◌, ◌&&◌, Bool, not, nat
 use Rattle.std.specs.Prelude.{Result, if◌then◌else◌}
 use Rattle.common.specs.declared.limits.TheConstants.{MAX_FRAMES}
 use Rattle.mte_script.specs.declared.error.ScriptFault.{ScriptFault}
-use Rattle.mte_script.specs.declared.error.ScriptFault.TheVariants as fault
 use Rattle.mte_session.specs.declared.session.SessionError.{SessionError}
 use Rattle.mte_session.specs.declared.session.SessionError.TheVariants.{Script, OutOfMemory, Write}
 use Rattle.mte_session.specs.Outcomes.{Input}
 use Rattle.tombolopan.specs.Reports.{IsReport, FailsBy}
 use Rattle.tombolopan_c.specs.LentBuffers.{lent_contents, filled}
+use Rattle.tombolopan_c.specs.RefusalCodes.{script_code}
 use Rattle.tombolopan_c.specs.declared.codes.TheConstants.{OK, NO_ROOM, OUT_OF_MEMORY, SCRIPT}
-use Rattle.tombolopan_c.specs.declared.codes.TheConstants.{SYNTAX, BAD_NUMBER, NO_SUCH_FILE}
-use Rattle.tombolopan_c.specs.declared.codes.TheConstants.{TOO_MANY_EVENTS}
 use Rattle.tombolopan_c.specs.declared.lent_bytes.LentBytes.{LentBytes}
 use Rattle.tombolopan_c.specs.declared.session_end.SessionEnd.{SessionEnd}
 
@@ -33,13 +31,6 @@ Comes input (Ok text) = IsReport input text
 Comes input (Err e) = FailsBy input e
 
 -- ---- its report
-
--- The number of a fault of a script.
-abbrev pub script_code : ScriptFault → ℕ
-script_code fault.Syntax = SYNTAX
-script_code fault.BadNumber = BAD_NUMBER
-script_code fault.NoSuchFile = NO_SUCH_FILE
-script_code fault.TooManyEvents = TOO_MANY_EVENTS
 
 -- The end of a session that writes no report.
 abbrev pub without_report : ℕ → SessionEnd

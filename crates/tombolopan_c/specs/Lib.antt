@@ -1,4 +1,5 @@
 pub mod Faults
+pub mod RefusalCodes
 pub mod Acts
 pub mod Machines
 pub mod Pages

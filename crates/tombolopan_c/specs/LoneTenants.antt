@@ -4,8 +4,6 @@ use Rattle.std.specs.Prelude.{Some, None, Result, Ok, Err, false, if◌then◌el
 use Rattle.common.specs.Obstacles.{IfRefused}
 use Rattle.common.specs.declared.obstacle.Obstacle.{Obstacle}
 use Rattle.common.specs.declared.obstacle.Obstacle.TheVariants as obstacle
-use Rattle.mte_elf.specs.declared.error.ElfError.{ElfError}
-use Rattle.mte_elf.specs.declared.error.ElfError.TheVariants as image
 use Rattle.scudo_heap.specs.Calls.{arguments_of}
 use Rattle.mte_svc.specs.Calls.{number_of}
 use Rattle.mte_svc.specs.declared.calls.AnsweredCall.{AnsweredCall}
@@ -13,14 +11,13 @@ use Rattle.mte_svc.specs.declared.record.Record.{Record}
 use Rattle.mte_svc.specs.declared.record.Status.{Status}
 use Rattle.mte_svc.specs.declared.record.Status.TheVariants as status
 use Rattle.mte_tenant.specs.declared.admission.AdmitError.{AdmitError}
-use Rattle.mte_tenant.specs.declared.admission.AdmitError.TheVariants as refusal
 use Rattle.mte_tenant.specs.Ledger.{is_bad}
 use Rattle.mte_tenant.specs.Machines.{Start}
 use Rattle.mte_tenant.specs.Alone.{refusal_alone, record_after}
 use Rattle.tombolopan_c.specs.Faults.{no_fault, report_of}
-use Rattle.tombolopan_c.specs.HeapCalls.{abort_code}
 use Rattle.tombolopan_c.specs.LentBuffers.{filled}
 use Rattle.tombolopan_c.specs.LentPages.{mode_for}
+use Rattle.tombolopan_c.specs.RefusalCodes.{abort_code, refusal_code}
 use Rattle.tombolopan_c.specs.declared.codes.TheConstants as code
 use Rattle.tombolopan_c.specs.declared.alone_end.AloneEnd.{AloneEnd}
 use Rattle.tombolopan_c.specs.declared.kept_calls.KeptCall.{KeptCall}
@@ -74,27 +71,6 @@ call_told c = record {
 }
 
 -- ---- its reports end
-
--- The number of a refusal of an image.
-abbrev pub image_code : ElfError → ℕ
-image_code image.Short = code.SHORT
-image_code image.NotElf64 = code.NOT_ELF64
-image_code image.NotAarch64 = code.NOT_AARCH64
-image_code image.NotExec = code.NOT_EXEC
-image_code image.BadHeaders = code.BAD_HEADERS
-image_code image.Interpreter = code.INTERPRETER
-image_code image.SegmentRange = code.SEGMENT_RANGE
-image_code image.Overlap = code.OVERLAP
-image_code image.NoEntry = code.NO_ENTRY
-
--- The number of a refusal of an admission: for an image it is the image's.
-abbrev pub refusal_code : AdmitError → ℕ
-refusal_code refusal.Duplicate = code.DUPLICATE
-refusal_code refusal.BadReservation = code.BAD_RESERVATION
-refusal_code (refusal.Image e) = image_code e
-refusal_code refusal.ReservationTooSmall = code.RESERVATION_TOO_SMALL
-refusal_code refusal.NoFrames = code.NO_FRAMES
-refusal_code refusal.TooManyLive = code.TOO_MANY_LIVE
 
 -- The end of a tenant that was not admitted.
 abbrev pub without_tenant : ℕ → ℕ → AloneEnd

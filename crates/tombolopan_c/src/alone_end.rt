@@ -1,17 +1,12 @@
 //! The report of a tenant alone.
 
 ghost use Rattle.std.specs.Prelude.{◌≡◌};
-ghost use Rattle.tombolopan_c.specs.LoneTenants.{image_code, refusal_code, end_without, told_end};
-ghost use Rattle.tombolopan_c.specs.LoneTenants.{without_tenant};
+ghost use Rattle.tombolopan_c.specs.LoneTenants.{end_without, told_end, without_tenant};
 
-use crate::codes::{
-    BAD_HEADERS, BAD_RESERVATION, DUPLICATE, INTERPRETER, NO_ENTRY, NO_FRAMES, NO_REFUSAL,
-    NOT_AARCH64, NOT_ELF64, NOT_EXEC, OUT_OF_MEMORY, OVERLAP, REFUSED, RESERVATION_TOO_SMALL,
-    SEGMENT_RANGE, SHORT, TOO_MANY_LIVE,
-};
+use crate::codes::{NO_REFUSAL, OUT_OF_MEMORY, REFUSED};
+use crate::refusal_codes::code_of_refusal;
 use crate::status_report::StatusReport;
 use common::Obstacle;
-use mte_elf::ElfError;
 use mte_tenant::{AdmitError, Record};
 
 /// How a tenant alone ended.
@@ -32,35 +27,6 @@ pub struct AloneEnd {
     pub code: u32,
     /// Why it was refused, from BAD_RESERVATION on, for REFUSED; else 0.
     pub refusal: u32,
-}
-
-fn code_of_image(error: ElfError) -> u32
-    ensures { result ≡ image_code error }
-{
-    match error {
-        ElfError::Short => SHORT,
-        ElfError::NotElf64 => NOT_ELF64,
-        ElfError::NotAarch64 => NOT_AARCH64,
-        ElfError::NotExec => NOT_EXEC,
-        ElfError::BadHeaders => BAD_HEADERS,
-        ElfError::Interpreter => INTERPRETER,
-        ElfError::SegmentRange => SEGMENT_RANGE,
-        ElfError::Overlap => OVERLAP,
-        ElfError::NoEntry => NO_ENTRY,
-    }
-}
-
-fn code_of_refusal(error: AdmitError) -> u32
-    ensures { result ≡ refusal_code error }
-{
-    match error {
-        AdmitError::Duplicate => DUPLICATE,
-        AdmitError::BadReservation => BAD_RESERVATION,
-        AdmitError::Image(error) => code_of_image(error),
-        AdmitError::ReservationTooSmall => RESERVATION_TOO_SMALL,
-        AdmitError::NoFrames => NO_FRAMES,
-        AdmitError::TooManyLive => TOO_MANY_LIVE,
-    }
 }
 
 impl AloneEnd {

@@ -2,17 +2,17 @@
 
 ghost use Rattle.std.specs.Prelude.{◌≡◌, ◌<◌, ◌≤◌, true};
 ghost use Rattle.tombolopan_c.specs.HeapCalls.{is_setup, mode_of, rgsr_of};
-ghost use Rattle.tombolopan_c.specs.HeapCalls.{op_of, abort_code, with_heap_answer};
-ghost use Rattle.tombolopan_c.specs.HeapCalls.{with_bad_argument};
+ghost use Rattle.tombolopan_c.specs.HeapCalls.{op_of, with_heap_answer, with_bad_argument};
 
 use crate::codes::{
-    ABORT, ALREADY_FREE, BAD_ARGUMENT, CALLOC, FAULT, FREE, HEADER_CORRUPT, INVALID_STATE, LOAD,
-    LOAD_TAG, MALLOC, MEMALIGN, MISALIGNED, NOT_A_BLOCK, OK, REALLOC, STORE, UNMAPPED, USABLE_SIZE,
+    ABORT, BAD_ARGUMENT, CALLOC, FAULT, FREE, LOAD, LOAD_TAG, MALLOC, MEMALIGN, OK, REALLOC, STORE,
+    USABLE_SIZE,
 };
 use crate::faults::FaultReport;
+use crate::refusal_codes::code_of_abort;
 use common::MAX_PAGES;
 use mte_tags::{Rgsr, TagMode};
-use scudo_heap::{HeapAbort, HeapCall};
+use scudo_heap::HeapCall;
 use tombolopan::{HeapAnswer, HeapOp};
 
 /// The start of a heap and its memory.
@@ -75,19 +75,6 @@ impl HeapSetup {
             tag: (self.rgsr_tag % 16) as u8,
             seed: self.rgsr_seed,
         }
-    }
-}
-
-pub(crate) fn code_of_abort(abort: HeapAbort) -> u64
-    ensures { result ≡ abort_code abort }
-{
-    match abort {
-        HeapAbort::Misaligned => MISALIGNED,
-        HeapAbort::Unmapped => UNMAPPED,
-        HeapAbort::HeaderCorrupt => HEADER_CORRUPT,
-        HeapAbort::InvalidState => INVALID_STATE,
-        HeapAbort::NotABlock => NOT_A_BLOCK,
-        HeapAbort::AlreadyFree => ALREADY_FREE,
     }
 }
 

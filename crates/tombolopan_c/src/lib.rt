@@ -32,6 +32,7 @@ mod memory;
 mod memory_calls;
 mod page_calls;
 mod pages;
+mod refusal_codes;
 mod registers;
 mod replay_calls;
 mod run_calls;

@@ -1,10 +1,10 @@
 //! The report of the end of a session.
 
 ghost use Rattle.std.specs.Prelude.{◌≡◌};
-ghost use Rattle.tombolopan_c.specs.LentSessions.{script_code, without_report, with_report};
-ghost use Rattle.tombolopan_c.specs.LentSessions.{with_fault};
+ghost use Rattle.tombolopan_c.specs.LentSessions.{without_report, with_report, with_fault};
 
-use crate::codes::{BAD_NUMBER, NO_ROOM, NO_SUCH_FILE, OK, SCRIPT, SYNTAX, TOO_MANY_EVENTS};
+use crate::codes::{NO_ROOM, OK, SCRIPT};
+use crate::refusal_codes::code_of_fault;
 use mte_session::ScriptFault;
 
 /// How a session ended.
@@ -19,17 +19,6 @@ pub struct SessionEnd {
     pub code: u32,
     /// The fault of the line, from SYNTAX on, for SCRIPT; else 0.
     pub fault: u32,
-}
-
-fn code_of_fault(fault: ScriptFault) -> u32
-    ensures { result ≡ script_code fault }
-{
-    match fault {
-        ScriptFault::Syntax => SYNTAX,
-        ScriptFault::BadNumber => BAD_NUMBER,
-        ScriptFault::NoSuchFile => NO_SUCH_FILE,
-        ScriptFault::TooManyEvents => TOO_MANY_EVENTS,
-    }
 }
 
 impl SessionEnd {

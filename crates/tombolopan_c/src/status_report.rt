@@ -9,7 +9,7 @@ use crate::codes::{
     STATUS_NONE, STATUS_RUNNING, STATUS_STOPPED,
 };
 use crate::faults::FaultReport;
-use crate::lent_heap::code_of_abort;
+use crate::refusal_codes::code_of_abort;
 use mte_tenant::Status;
 
 /// A tenant's status, or zero in all fields where there is none.
