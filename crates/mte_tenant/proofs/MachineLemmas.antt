@@ -46,7 +46,7 @@ abbrev pub met_if : Option Outcome → Machine → Attempt
 met_if None m = continues m
 met_if (Some o) m = after_outcome o m
 
--- The machine after a run of at most n steps, behind which b steps of the slice are left.
+-- The machine after a run of at most n steps, after which b steps of the slice are left.
 abbrev pub after_run : ℕ → ℕ → Ran → Machine → Attempt
 after_run b n ran m = met_if ran.stop.outcome (machine_of (with_steps (n - ran.stop.left) (b + ran.stop.left) (with_regs m.parts ran.regs)) ran.memory)
 
@@ -57,7 +57,7 @@ rest_of n a = if a.goes_on then after_attempts n a.machine else a.machine
 abbrev pub RunAdvances : ℕ → ℕ → Machine → Type 0
 RunAdvances b n m = rest_of (b + (run_of n m.parts.regs m.memory).stop.left) (after_run b n (run_of n m.parts.regs m.memory) m) ≡ after_attempts (b + n) m
 
--- Before a run of no steps the steps behind it are left.
+-- Before a run of no steps the steps after it are left.
 abbrev pub HasLeft : ℕ → ℕ → Machine → Type 0
 HasLeft b n m = n ≡ 0 → m.parts.left ≡ b
 
@@ -123,7 +123,7 @@ met-ending (outcome.Fault f) m = refl
 met-ending (outcome.Illegal w) m = refl
 met-ending (outcome.Breakpoint k) m = refl
 
--- The same, of what the code has in hand, where b steps of the slice are left behind the run.
+-- The same, of what the code has in hand, where b steps of the slice are left after the run.
 pub after_part : (b n rest whole : ℕ) (m : Machine) (a : Attempt) (o : Outcome) (left : ℕ) (r : Regs) (mem : Memory) (steps : ℕ)
     → rest ≡ b + left → whole ≡ b + n
     → stop_of o left ≡ (run_of n m.parts.regs m.memory).stop → r ≡ (run_of n m.parts.regs m.memory).regs → mem ≡ (run_of n m.parts.regs m.memory).memory
@@ -136,7 +136,7 @@ after_part b n rest whole m a o left r mem steps e_rest e_whole e_stop e_regs e_
     let l = rw (← e_rest, ← e_whole) at k in
     ap (λ x. rest_of rest x) (e_new ∙ sym (met-ending o _)) ∙ l
 
--- Nothing is left behind a run of the whole slice.
+-- Nothing is left after a run of the whole slice.
 pub after_last : (n : ℕ) (m : Machine) (a : Attempt) (o : Outcome) (left : ℕ) (r : Regs) (mem : Memory) (steps : ℕ)
     → stop_of o left ≡ (run_of n m.parts.regs m.memory).stop → r ≡ (run_of n m.parts.regs m.memory).regs → mem ≡ (run_of n m.parts.regs m.memory).memory
     → steps ≡ min (m.parts.history.steps + (n - left)) 18446744073709551615

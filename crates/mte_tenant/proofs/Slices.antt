@@ -4,7 +4,7 @@ use Rattle.std.proofs.lemmas.List.{at_drop_more, drop_all}
 use Rattle.mte_tenant.specs.Machines.{Machine, after_slice}
 use Rattle.mte_tenant.specs.Alone.{after_slices}
 
--- the slice i, and then those behind it
+-- the slice i, and then those after it
 pub slices_next :
     (m n : Machine) (slices : List ℕ) (i d : ℕ) → i < length slices → n ≡ after_slice (get_or slices i d) m
     → after_slices n (drop (i + 1) slices) ≡ after_slices m (drop i slices)

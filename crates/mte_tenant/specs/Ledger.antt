@@ -18,7 +18,7 @@ use Rattle.mte_tenant.specs.declared.refusal.Refusal.TheVariants as refusal
 use Rattle.tenant_terms.specs.declared.Terms.{Terms}
 use Rattle.mte_tenant.specs.Machines.{Start}
 
--- What is requested of a host: the admission of a tenant with a number, a slice of a tenant with
+-- The calls of a host: the admission of a tenant with a number, a slice of a tenant with
 -- its number of steps, the stop of a tenant.
 pub data Call : Type 0 where
   Admit : ℕ → Start → Call
@@ -71,7 +71,7 @@ refuse_if test e = if test then Some e else None
 abbrev pub is_bad : Terms → Bool
 is_bad t = (t.pages == 0) || nat_lt MAX_PAGES t.pages || nat_lt MAX_OUTPUT t.room
 
--- What the ledger of a host of `frames` frames says of an admission with a number.
+-- The facts of the ledger of a host of `frames` frames for an admission with a number.
 abbrev pub facts_of : ℕ → List LedgerEntry → ℕ → LedgerFacts
 facts_of frames ledger id = record {
   known = list_any (has_id id) ledger;
@@ -79,7 +79,7 @@ facts_of frames ledger id = record {
   live = count_by is_live ledger;
 }
 
--- What an admission is tested for, in this order, each test with its refusal.
+-- The tests of an admission, in this order, each with its refusal.
 abbrev pub admission_tests : LedgerFacts → Start → List (Option AdmitError)
 admission_tests facts start =
     refuse_if facts.known Duplicate

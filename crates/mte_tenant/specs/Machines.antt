@@ -44,7 +44,7 @@ with_status m s =
 
 -- ---- the first machine
 
--- What a tenant starts with: its image, its input, and the terms of its admission.
+-- The start of a tenant: its image, its input, and the terms of its admission.
 pub record Start : Type 0 where
   pub image : List ℕ
   pub input : List ℕ
@@ -86,7 +86,7 @@ start_of id start =
 
 -- ---- an attempted instruction
 
--- What it leaves, and whether the slice goes on.
+-- The machine after it, and whether the slice continues.
 pub record Attempt : Type 0 where
   pub machine : Machine
   pub goes_on : Bool
@@ -112,7 +112,7 @@ with_service s = after_service s.end (machine_of s.parts s.memory)
 abbrev pub stop_by_tag : Machine → Machine
 stop_by_tag m = with_status m (AsyncTag m.parts.regs.pc)
 
--- What an instruction's outcome makes of the machine. An SVC is served where the flag is clear.
+-- The machine after an instruction's outcome. An SVC is served where the flag is clear.
 unfoldable pub after_outcome : Outcome → Machine → Attempt
 after_outcome outcome.Next m = continues m
 after_outcome outcome.Svc m =

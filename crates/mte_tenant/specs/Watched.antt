@@ -1,4 +1,4 @@
--- What a watch is shown of a slice.
+-- The machines that a watch is shown of a slice.
 use Rattle.std.specs.Prelude.{ℕ, zero, suc, List, [], ◌∷◌, ◌++◌, Option, option_map, if◌then◌else◌}
 use Rattle.mte_tenant.specs.Machines.{Machine, runs, after_attempt}
 
@@ -15,7 +15,7 @@ WatchLog = Option (List Shown)
 abbrev pub with_shown : WatchLog → List Shown → WatchLog
 with_shown log more = option_map (λ shown. shown ++ more) log
 
--- What a slice of n steps shows: each attempt once, in order.
+-- The machines of a slice of n steps: each attempt once, in order.
 unfoldable pub shown_of : ℕ → Machine → List Shown
 shown_of zero m = []
 shown_of (suc n) m =

@@ -1,4 +1,4 @@
-//! What a tenant is admitted with, and why it is refused.
+//! The admission of a tenant, and why it is refused.
 
 ghost use Rattle.std.specs.Prelude.{◌≡◌, ◌↔◌, ◌+◌, ◌<◌, ◌≤◌, IfOk, IfErr, OnOk, IsErrOf, Some};
 ghost use Rattle.std.specs.Prelude.{None, IsTrue, false, option_map};
@@ -26,7 +26,7 @@ pub fn live_limit_in_digits()
     ensures { MAX_LIVE ≡ 255 }
 {}
 
-/// What a tenant is admitted with.
+/// The admission of a tenant.
 #[derive(Clone, Copy)]
 pub struct Admission<'a> {
     /// Its number, never admitted before.
@@ -39,7 +39,7 @@ pub struct Admission<'a> {
     pub terms: Terms,
 }
 
-/// What a ledger says of an admission.
+/// The facts of a ledger for an admission.
 #[derive(Clone, Copy)]
 pub struct LedgerFacts {
     /// Whether its number was admitted before, stopped or not.
@@ -115,7 +115,7 @@ pub fn charge(pages: u32) -> u64
 }
 
 /// The plan of an admission's image, or the first refusal that applies. Only `OutOfMemory`, where
-/// an allocation failed, can come in place of the refusals from `Image` on. `accepted_means` says
+/// an allocation failed, can come instead of the refusals from `Image` on. `accepted_means` says
 /// what follows from `accepted`.
 pub fn accept(
     alloc: Global,
@@ -150,7 +150,7 @@ pub fn accept(
     Ok(plan)
 }
 
-/// What each test says of an admission that none of them refuses.
+/// The facts about an admission that no test refuses.
 pub fn accepted_means(facts: LedgerFacts, admission: &Admission<'_>)
     requires { first_of (admission_tests facts (start_in admission.now)) ≡ None }
     ensures fresh { facts.known ≡ false }

@@ -21,10 +21,10 @@ use mte_tags::Paged;
 use scudo_heap::condition_of_calls;
 use std::alloc::Global;
 
-/// What watches a tenant: it is shown the machine before and after each attempt, and changes
+/// A watch of a tenant: it is shown the machine before and after each attempt, and changes
 /// nothing of it.
 pub trait Watch {
-    /// What it was shown, as far as it is known.
+    /// The machines that it was shown, as far as they are known.
     ghost log: { Self → WatchLog };
 
     /// An instruction is attempted next.
@@ -82,7 +82,7 @@ pub fn admit_alone<M: Paged>(
     Ok(parts)
 }
 
-/// What the ledger of a host says that has no tenant and just the frames of the charge.
+/// The facts of the ledger of a host that has no tenant and just the frames of the charge.
 fn facts_alone(admission: &Admission<'_>) -> LedgerFacts
     ensures { result ≡ facts_of (charge_of admission.now.terms.pages) [] admission.now.id }
 {

@@ -34,7 +34,7 @@ impl Lone {
     ghost use Rattle.mte_tenant.specs.Alone.{after_slices};
 
     /// A tenant at its first instruction, or why it is refused. Only `OutOfMemory`, where an
-    /// allocation failed, can come in place of the refusals from `Image` on.
+    /// allocation failed, can come instead of the refusals from `Image` on.
     #[tactic(auto, unfolding(crate::specs::Ledger::admission_refusal))]
     pub fn new(alloc: Global, admission: &Admission<'_>) -> Result<Lone, Obstacle<AdmitError>>
         ensures machine { IfOk result (λ l. machine_of l.parts l.memory

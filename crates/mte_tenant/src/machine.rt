@@ -82,8 +82,8 @@ pub fn fill<M: Paged>(plan: &Plan, image: &[u8], pages: u32, mode: TagMode, memo
 
 /// Lets a tenant attempt at most `steps` instructions while it is running and does not yield. It
 /// ends where its flag is set then. A table may serve any number of slices, of any tenants. A slice
-/// is one run of kept instructions, since no service changes a page without WRITE. What counts the
-/// branches that it takes changes nothing of it.
+/// is one run of decoded instructions, since no service changes a page without WRITE. What counts
+/// the branches that it takes changes nothing of it.
 #[inline(never)]
 pub fn slice_with_edges<M: Paged, E: Edges>(
     ops: &mut OpCache,
@@ -108,7 +108,7 @@ pub fn slice_with_edges<M: Paged, E: Edges>(
 
 /// Lets a tenant attempt at most `steps` instructions while it is running and does not yield. It
 /// ends where its flag is set then. A table may serve any number of slices, of any tenants. A slice
-/// is one run of kept instructions, since no service changes a page without WRITE.
+/// is one run of decoded instructions, since no service changes a page without WRITE.
 pub fn slice<M: Paged>(ops: &mut OpCache, parts: &mut TenantParts, memory: &mut M, steps: u32)
     requires ready { IsReady parts.old (M.Tagged.memory memory.old) }
     ensures machine { machine_of parts.new (M.Tagged.memory memory.new)

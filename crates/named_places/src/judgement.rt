@@ -10,7 +10,7 @@ use common::{IMAGE_END, IMAGE_START, STACK_END, STACK_START};
 use debug_variables::{Neighbor, VariableName};
 use shadow_memory::{AccessedBytes, OriginKind, PointerOrigin, Step};
 
-/// What a pointer to a variable was used for that the variable does not allow.
+/// A use of a pointer to a variable that the variable does not allow.
 #[derive(Clone, Copy, Debug, PartialEq, Eq)]
 pub enum PlaceMisuseKind {
     /// An access past the end of a variable.
@@ -26,7 +26,7 @@ pub enum PlaceMisuseKind {
 /// A use of a pointer to a variable that the variable does not allow.
 #[derive(Clone, Copy, PartialEq, Eq)]
 pub struct PlaceMisuse {
-    /// What is wrong.
+    /// The misuse.
     pub kind: PlaceMisuseKind,
     /// The plain address of the first byte that is wrong.
     pub addr: u64,
@@ -48,7 +48,7 @@ struct Strictness {
 }
 
 impl NamedPlaces {
-    /// What is wrong with what an instruction loads or stores by a pointer, of which nothing is
+    /// The misuse by an instruction that loads or stores through a pointer, of which nothing is
     /// noted yet.
     pub fn judge(&self, step: &Step<'_>, origin: PointerOrigin) -> Option<PlaceMisuse> {
         let index = origin.place()?;
@@ -112,7 +112,7 @@ impl NamedPlaces {
         }
     }
 
-    /// What is wrong with bytes that are accessed by a pointer to a place.
+    /// The misuse by an access to bytes through a pointer to a place.
     fn judge_bytes(
         &self,
         place: &NamedPlace,
@@ -144,7 +144,7 @@ impl NamedPlaces {
 }
 
 impl NamedPlaces {
-    /// What is wrong with the bytes that a service accesses by the pointer in x0.
+    /// The misuse by a service that accesses bytes by the pointer in x0.
     pub fn judge_service(
         &self,
         bytes: AccessedBytes,
@@ -162,7 +162,7 @@ impl NamedPlaces {
         self.judge_bytes(place, bytes, strictness)
     }
 
-    /// What is wrong with a pointer that a heap call is to free or to give another size: it is one
+    /// The misuse of a pointer that a heap call is to free or to give another size: it is one
     /// to a variable or to the stack, by where it came from, else by its address.
     pub fn judge_free(&self, pointer: u64, origin: PointerOrigin) -> Option<PlaceMisuse> {
         let text = self.freed_text(plain(pointer), origin)?;
@@ -191,7 +191,7 @@ impl NamedPlaces {
         }
     }
 
-    /// What is at an address: a variable of the image, or the stack.
+    /// The place at an address: a variable of the image, or the stack.
     fn text_at(&self, addr: u64) -> Option<PlaceText> {
         if IMAGE_START <= addr && addr < IMAGE_END {
             let number = self.objects.number_at(addr)?;
@@ -248,7 +248,7 @@ fn misuse_if(
     })
 }
 
-/// Whether an access is a read of an aligned word that begins in a variable. What is behind the
+/// Whether an access is a read of an aligned word that begins in a variable. What is after the
 /// variable is read for nothing, as by functions that look for the end of a text.
 fn is_part_of_word(place: &PlaceText, access: AccessedBytes) -> bool {
     let addr = plain(access.addr);

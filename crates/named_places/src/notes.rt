@@ -1,4 +1,4 @@
-//! What instructions make of pointers to variables.
+//! The rules of instructions for pointers to variables.
 
 use crate::access_form::form_by_base;
 use crate::place::PlaceKind;

@@ -3,7 +3,7 @@
 use debug_variables::{Declaration, FrameBases, Neighbor, VariableName};
 use std::fmt;
 
-/// What a place is.
+/// The kind of a place.
 #[derive(Clone, Copy, PartialEq, Eq)]
 pub enum PlaceKind {
     /// A page of the image, from which an address of it is made.
@@ -16,14 +16,14 @@ pub enum PlaceKind {
     Frame,
 }
 
-/// What a place is called, and where it is.
+/// The name of a place, and where it is.
 #[derive(Clone, Copy, PartialEq, Eq)]
 pub struct PlaceText {
-    /// What it is.
+    /// Its kind.
     pub kind: PlaceKind,
     /// Its plain address.
     pub start: u64,
-    /// The address behind its last byte.
+    /// The address after its last byte.
     pub end: u64,
     /// Its name.
     pub name: VariableName,
@@ -33,7 +33,7 @@ pub struct PlaceText {
     pub function: Option<u64>,
 }
 
-/// What it is: its bytes and its name, and where it is.
+/// Its bytes and its name, and where it is.
 impl fmt::Display for PlaceText {
     fn fmt<W: fmt::Write>(&self, f: &mut fmt::Formatter<W>) -> fmt::Result {
         let PlaceText {
@@ -70,13 +70,13 @@ pub(crate) struct NamedPlace {
     pub(crate) is_live: bool,
     /// Whether the function that made a pointer to it was not optimized.
     pub(crate) is_exact: bool,
-    /// Whether a pointer to it may be meant for the variable behind it.
+    /// Whether a pointer to it may be meant for the variable after it.
     pub(crate) is_unsure: bool,
-    /// Whether a pointer to it may be meant for all that is behind it.
+    /// Whether a pointer to it may be meant for all that is after it.
     pub(crate) is_marked: bool,
-    /// What the variables of its function are counted from.
+    /// The base from which the variables of its function are counted.
     pub(crate) bases: FrameBases,
-    /// What ends where it begins.
+    /// The variables that end where it begins.
     pub(crate) before: Neighbor,
     /// The next place of its frame.
     pub(crate) next: Option<usize>,

@@ -1,4 +1,4 @@
-//! What is known of a tenant's variables.
+//! The variables of a tenant.
 
 use crate::frames::FrameStack;
 use crate::marks::RegisterMarks;
@@ -6,7 +6,7 @@ use crate::table::PlaceTable;
 use debug_variables::{FrameFunction, FrameVariables, ImageObjects};
 use std::alloc::{AllocError, Global};
 
-/// What is known of the variables of an image, of the frames of its functions, and of the pointers
+/// The variables of an image, the frames of its functions, and the pointers
 /// to them.
 #[derive(Drop)]
 pub struct NamedPlaces {

@@ -153,7 +153,7 @@ impl NamedPlaces {
         })
     }
 
-    /// Whether another variable of several elements begins behind one, of which a pointer is so
+    /// Whether another variable of several elements begins after one, of which a pointer is so
     /// near that it may be one in front of the other's first element.
     fn is_before_other(
         &self,
@@ -227,7 +227,7 @@ impl NamedPlaces {
     }
 }
 
-/// What a variable of the function that begins at an address is called.
+/// The name of a variable of the function that begins at an address.
 fn text_of(placed: &PlacedVariable, function: u64) -> PlaceText {
     PlaceText {
         kind: PlaceKind::Variable,

@@ -133,7 +133,7 @@ impl PlaceTable {
     }
 }
 
-/// What of the image ends at an address.
+/// The variable of the image that ends at an address.
 fn neighbor(objects: &ImageObjects, variables: &FrameVariables, addr: u64) -> Neighbor {
     match objects.ending_at(addr) {
         Some(object) => Neighbor::of(variables.is_single_at(object.start)),

@@ -1,4 +1,4 @@
-//! What loads and stores do to pointers.
+//! The rules of loads and stores for pointers.
 
 use crate::shadow::Shadow;
 use a64_access::{AccessForm, AccessKind, LoadExtension};
@@ -54,7 +54,7 @@ impl Shadow {
         }
     }
 
-    /// What is known of the bytes that a register was loaded with. A whole word of which nothing is
+    /// The origin of the bytes that a register was loaded with. A whole word of which nothing is
     /// known is a pointer again where its value is one.
     fn loaded(&self, step: &Step<'_>, register: u8, bytes: AccessedBytes) -> Provenance {
         let found = self

@@ -103,7 +103,7 @@ impl ChunkTable {
         }
     }
 
-    /// Enters another chunk in place of the one at an index.
+    /// Enters another chunk instead of the one at an index.
     pub fn replace(&mut self, index: usize, chunk: TracedChunk) {
         if let Some(place) = self.chunks.get_mut(index) {
             *place = chunk;

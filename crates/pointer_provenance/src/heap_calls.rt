@@ -1,4 +1,4 @@
-//! What services do to chunks and pointers.
+//! The effect of services on chunks and pointers.
 
 use crate::chunk_table::TracedChunk;
 use crate::quick::NearChunks;
@@ -7,7 +7,7 @@ use a64_bits::plain;
 use a64_registers::Regs;
 use shadow_memory::{AccessedBytes, Full, PointerOrigin, Provenance, ReturnedChunk};
 
-/// What a heap call that was answered did to chunks.
+/// The effect of an answered heap call on chunks.
 #[derive(Clone, Copy, PartialEq, Eq)]
 pub struct ChunkChange {
     /// The call's number, from 1.
@@ -91,7 +91,7 @@ impl Shadow {
         }
     }
 
-    /// Enters a chunk that a call returned, in place of an old one where it gave that another size.
+    /// Enters a chunk that a call returned, instead of an old one where it gave that another size.
     /// Where the old one stays where it is, the pointers into it are those of the new one.
     fn note_made(
         &mut self,

@@ -9,7 +9,7 @@ use common::PAGE_SIZE;
 use shadow_memory::{AccessedBytes, HeapFunction, OriginKind, PointerOrigin, Sign, Step};
 use std::alloc::AllocError;
 
-/// What a pointer was used for that its chunk does not allow.
+/// A use of a pointer that its chunk does not allow.
 #[derive(Clone, Copy, Debug, PartialEq, Eq)]
 pub enum MisuseKind {
     /// An access to a chunk that was freed.
@@ -31,7 +31,7 @@ pub enum MisuseKind {
 /// A use of a pointer that its chunk does not allow.
 #[derive(Clone, Copy, PartialEq, Eq)]
 pub struct Misuse {
-    /// What is wrong.
+    /// The misuse.
     pub kind: MisuseKind,
     /// The plain address of the first byte that is wrong.
     pub addr: u64,
@@ -47,7 +47,7 @@ pub struct Misuse {
 }
 
 impl Shadow {
-    /// What is wrong with what an instruction loads or stores, of which nothing is noted yet. Where
+    /// The misuse by an instruction that loads or stores, of which nothing is noted yet. Where
     /// it did not complete, only what is known of its pointer counts.
     pub fn judge(
         &mut self,
@@ -81,7 +81,7 @@ impl Shadow {
         }
     }
 
-    /// What is wrong with the bytes that a service accesses by the pointer in x0. Where it did not
+    /// The misuse by a service that accesses bytes by the pointer in x0. Where it did not
     /// complete, only what is known of the pointer counts.
     pub fn judge_service(&self, bytes: AccessedBytes, is_completed: bool) -> Option<Misuse> {
         let origin = self.pointer(0);
@@ -91,7 +91,7 @@ impl Shadow {
         self.judge_bytes(origin, bytes)
     }
 
-    /// What is wrong with the pointer in x0, which a heap call is to free or to give another size,
+    /// The misuse of the pointer in x0, which a heap call is to free or to give another size,
     /// made for a function of C or C++, where it is known for which.
     pub fn judge_free(&self, pointer: u64, function: Option<HeapFunction>) -> Option<Misuse> {
         let chunk = *self.chunk(self.pointer(0))?;
@@ -119,7 +119,7 @@ impl Shadow {
         })
     }
 
-    /// What is wrong with an access by a pointer.
+    /// The misuse by an access through a pointer.
     pub(crate) fn judge_bytes(
         &self,
         origin: PointerOrigin,
@@ -138,7 +138,7 @@ impl Shadow {
         }
     }
 
-    /// What is wrong with an access by a pointer of which nothing is known: by the chunk that is or
+    /// The misuse by an access through a pointer of unknown origin: by the chunk that is or
     /// was at its address.
     fn judge_by_address(&self, access: AccessedBytes) -> Option<Misuse> {
         let addr = plain(access.addr);
@@ -159,7 +159,7 @@ impl Shadow {
     }
 }
 
-/// What is wrong with an access to a chunk.
+/// The misuse by an access to a chunk.
 fn judge_in(chunk: TracedChunk, access: AccessedBytes, is_by_address: bool) -> Option<Misuse> {
     let addr = plain(access.addr);
     let kind = if !chunk.is_live {

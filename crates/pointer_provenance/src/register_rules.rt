@@ -1,4 +1,4 @@
-//! What instructions that work on registers make of pointers.
+//! The rules of instructions that work on registers for pointers.
 
 use crate::shadow::Shadow;
 use a64_bits::bit_masks;
@@ -289,7 +289,7 @@ fn of_size(sf: u8, value: Provenance) -> Provenance {
     if sf == 1 { value } else { value.part(0, HALF) }
 }
 
-/// What is left of a value by a mask: a pointer whose address is left, or its lowest bytes.
+/// The part of a value that a mask leaves: a pointer whose address is left, or its lowest bytes.
 fn masked(old: Provenance, mask: u64) -> Provenance {
     if kept_by(old.pointer(), mask).is_known() {
         return old;

@@ -1,4 +1,4 @@
-//! What is known of a tenant's registers and memory beside their values.
+//! The shadow of a tenant's registers and memory.
 
 use crate::chunk_table::{ChunkTable, TracedChunk};
 use crate::quick::NearChunks;
@@ -31,7 +31,7 @@ impl Pointed {
     }
 }
 
-/// What is known of a tenant's registers and memory beside their values: where each pointer points.
+/// The shadow of a tenant's registers and memory: where each pointer points.
 #[derive(Drop)]
 pub struct Shadow {
     alloc: Global,
@@ -172,7 +172,7 @@ impl Shadow {
         self.chunks.get(origin.chunk()?)
     }
 
-    /// Enters where SP is: in a chunk that has room for a stack, this is the stack from now on.
+    /// Enters where SP is: in a chunk that has capacity for a stack, this is the stack from now on.
     pub(crate) fn note_stack(&mut self, sp: u64) {
         let addr = plain(sp).saturating_sub(1);
         if !is_in_heap(addr) {

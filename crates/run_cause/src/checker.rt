@@ -38,10 +38,10 @@ pub struct Checker<'a> {
     pub(crate) functions: HeapFunctionWatch,
     /// The variables, where their bounds are checked.
     pub(crate) places: Option<NamedPlaces>,
-    /// What is undefined, where that is checked.
+    /// The undefined bits, where they are checked.
     pub(crate) bits: Option<UndefinedBits>,
     pub(crate) followed: FollowedInstruction,
-    /// What is not told, where something is not.
+    /// The suppressed findings, where there are some.
     silence: Option<Silence<'a>>,
     finding: Option<Finding>,
     full: Option<Full>,
@@ -167,7 +167,7 @@ impl<'a> Checker<'a> {
         self.full
     }
 
-    /// What is known of the tenant's pointers.
+    /// The origins of the tenant's pointers.
     pub fn shadow(&self) -> &Shadow {
         &self.shadow
     }
@@ -254,7 +254,7 @@ impl<'a> Checker<'a> {
         }
     }
 
-    /// What is wrong with an attempt, of which nothing is noted yet.
+    /// The violation of an attempt, of which nothing is noted yet.
     pub(crate) fn judge(&mut self, attempt: &Attempt<'_>) -> Result<Option<Violation>, Full> {
         if let Some(misuse) = self.misuse_by(attempt)? {
             return Ok(Some(Violation::Provenance(misuse)));
@@ -274,7 +274,7 @@ impl<'a> Checker<'a> {
         )
     }
 
-    /// What of an attempt depends on undefined bits, where that is checked.
+    /// The use of undefined bits by an attempt, where that is checked.
     fn undefined_use(&self, attempt: &Attempt<'_>) -> Option<UndefinedUse> {
         let bits = self.bits.as_ref()?;
         match &attempt.service {
@@ -286,7 +286,7 @@ impl<'a> Checker<'a> {
         }
     }
 
-    /// What is wrong with the pointer to a variable by which an attempt accesses memory, or which
+    /// The misuse of the pointer to a variable by which an attempt accesses memory, or which
     /// it frees, where that is checked.
     fn place_misuse(&mut self, attempt: &Attempt<'_>) -> Result<Option<PlaceMisuse>, Full> {
         let Some(places) = &self.places else {
@@ -336,7 +336,7 @@ impl<'a> Checker<'a> {
         }
     }
 
-    /// What is wrong with the pointer by which an attempt accesses memory, or which it frees, where
+    /// The misuse of the pointer by which an attempt accesses memory, or which it frees, where
     /// that is checked.
     fn misuse_by(&mut self, attempt: &Attempt<'_>) -> Result<Option<Misuse>, Full> {
         let is_completed = attempt.is_completed;
@@ -445,7 +445,7 @@ fn arguments_of(before: &Regs) -> ServiceArguments {
     }
 }
 
-/// What a heap call with a number did to chunks.
+/// The effect of a heap call with a number on chunks.
 fn change_by(call: &AnsweredCall, number: u64) -> ChunkChange {
     ChunkChange {
         number,
@@ -454,7 +454,7 @@ fn change_by(call: &AnsweredCall, number: u64) -> ChunkChange {
     }
 }
 
-/// What is wrong, as it is told.
+/// The violation, as it is reported.
 fn forbidden(violation: &Violation) -> ForbiddenAccess {
     let (addr, access) = match violation {
         Violation::Provenance(misuse) => (misuse.addr, Some(&misuse.access)),

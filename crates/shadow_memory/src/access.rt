@@ -1,4 +1,4 @@
-//! What a load, a store or a service accesses.
+//! The access of a load, a store or a service.
 
 use a64_access::AccessForm;
 use a64_registers::Regs;
@@ -15,7 +15,7 @@ pub struct RegisterAccess {
 }
 
 impl RegisterAccess {
-    /// What an instruction of a form accesses, by the registers before it; `None` where that is
+    /// The access of an instruction of a form, by the registers before it; `None` where that is
     /// tags, or zeros with tags.
     pub fn of(form: &AccessForm, regs: &Regs) -> Option<RegisterAccess> {
         if !form.is_of_registers() {
@@ -48,7 +48,7 @@ pub struct AccessedBytes {
 }
 
 impl AccessedBytes {
-    /// As many bytes behind them.
+    /// As many bytes after them.
     pub fn next(self) -> AccessedBytes {
         AccessedBytes {
             addr: self.addr.wrapping_add(self.count),

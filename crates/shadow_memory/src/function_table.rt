@@ -14,7 +14,7 @@ const SYMBOL: usize = 24;
 /// STT_FUNC, the lower half of `st_info`.
 const FUNCTION: u8 = 2;
 
-/// The most bytes of a name that is looked at, with the 0 behind it.
+/// The most bytes of a name that is looked at, with the 0 after it.
 const LONGEST: usize = 64;
 
 /// How many entries are kept.

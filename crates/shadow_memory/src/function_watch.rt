@@ -25,7 +25,7 @@ struct ActiveFunction {
 pub struct ReturnedChunk {
     /// The function.
     pub function: HeapFunction,
-    /// What it returned.
+    /// The value that it returned.
     pub pointer: u64,
     /// How many bytes it was asked for, where its first argument says that.
     pub size: Option<u64>,

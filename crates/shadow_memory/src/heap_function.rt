@@ -98,7 +98,7 @@ impl HeapFunction {
         matches!(self, HeapFunction::New | HeapFunction::NewArray)
     }
 
-    /// What it is called.
+    /// Its name.
     pub fn name(self) -> &'static str {
         match self {
             HeapFunction::Malloc => "malloc",

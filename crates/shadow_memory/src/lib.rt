@@ -1,4 +1,4 @@
-//! What is kept beside a tenant's memory and registers while it runs: of which pages something is
+//! The shadow of a tenant's memory and registers while it runs: of which pages something is
 //! known, where pointers point, what an instruction did, and which function of C or C++ makes or
 //! frees a chunk.
 #![tactic(auto)]

@@ -1,4 +1,4 @@
-//! What is known of the words of a tenant's memory.
+//! The shadow of a tenant's memory.
 
 use crate::origin::{PointerOrigin, Provenance};
 use crate::page_numbers::PageNumbers;
@@ -6,7 +6,7 @@ use crate::shadow_page::ShadowPage;
 use common::{GRANULE_SIZE, PAGE_SIZE};
 use std::alloc::{AllocError, Global};
 
-/// What is known of the words of a tenant's memory. A page of which nothing is known takes none.
+/// The shadow of a tenant's memory. A page of which nothing is known takes none.
 #[derive(Drop)]
 pub struct MemoryShadow {
     alloc: Global,

@@ -8,7 +8,7 @@ pub struct PointerOrigin {
     number: u32,
 }
 
-/// What an origin is.
+/// The kind of an origin.
 #[derive(Clone, Copy, PartialEq, Eq)]
 pub enum OriginKind {
     /// None is known: the value is no pointer, or which one it is was lost.
@@ -72,7 +72,7 @@ impl PointerOrigin {
         }
     }
 
-    /// What it is.
+    /// Its kind.
     pub fn kind(self) -> OriginKind {
         match self.number {
             0 => OriginKind::Unknown,

@@ -61,7 +61,7 @@ const NO_TERM: Term = Term {
 };
 
 /// A sum of two to four pointers, or of one that is subtracted, in the order of their origins;
-/// behind them are terms of no pointer.
+/// after them are terms of no pointer.
 #[derive(Clone, Copy, PartialEq, Eq, PartialOrd, Ord)]
 pub struct PointerSum {
     first: Term,

@@ -1,4 +1,4 @@
-//! What is known of the words of one page.
+//! The shadow of one page.
 
 use crate::origin::{PointerOrigin, Provenance};
 use common::PAGE_SIZE;
@@ -13,7 +13,7 @@ const WORDS: usize = 512;
 /// How many granules a page has.
 const GRANULES: usize = 256;
 
-/// What is known of a page: for each word where the pointer in it points, and which of the word's
+/// The shadow of a page: for each word where the pointer in it points, and which of the word's
 /// bytes are that pointer's, a bit each; for each granule the newest chunk that it was in.
 #[derive(Drop)]
 pub struct ShadowPage {

@@ -1,6 +1,6 @@
 //! A tenant alone on a memory of its own.
 
-ghost use Rattle.std.specs.Prelude.{◌≡◌, ◌<◌, [], Some, false, IfOk, IfErr, IsErrOf};
+ghost use Rattle.std.specs.Prelude.{◌≡◌, ◌<◌, Some, false, IfOk, IfErr, IsErrOf};
 ghost use Rattle.common.specs.Obstacles.{IfRefused};
 ghost use Rattle.mte_svc.specs.Ready.{IsReady};
 
@@ -8,8 +8,8 @@ use a64_run::{NoEdges, OpCache};
 use common::Obstacle;
 use mte_flat::Flat;
 use mte_tenant::{
-    Admission, AdmitError, Notes, Status, TenantParts, admit_alone, is_bad_reservation,
-    slice_noted, slice_watched, slice_with_edges,
+    Admission, AdmitError, Lone, Notes, Status, TenantParts, slice_noted, slice_watched,
+    slice_with_edges,
 };
 use std::alloc::Global;
 
@@ -25,7 +25,7 @@ pub enum WatchLevel {
     Attempts,
 }
 
-/// What may watch a tenant.
+/// A watch of a tenant.
 pub trait Watcher: Notes {
     /// How much it is shown.
     fn shown(&self) -> WatchLevel;
@@ -53,11 +53,11 @@ pub struct TenantBench {
 impl TenantBench {
     ghost use Rattle.mte_tenant.specs.Machines.{machine_of, start_of, after_slice, after_stop};
     ghost use Rattle.mte_tenant.specs.Admissions.{start_in};
-    ghost use Rattle.mte_tenant.specs.Ledger.{admission_refusal, charge_of, is_bad};
+    ghost use Rattle.mte_tenant.specs.Alone.{refusal_alone};
+    ghost use Rattle.mte_tenant.specs.Ledger.{is_bad};
 
     /// A tenant at its first instruction, or why it is refused. Only `OutOfMemory`, where an
-    /// allocation failed, can come in place of the refusals from `Image` on.
-    #[tactic(auto, unfolding(mte_tenant::specs::Ledger::admission_refusal))]
+    /// allocation failed, can come instead of the refusals from `Image` on.
     pub fn new(
         alloc: Global,
         admission: &Admission<'_>,
@@ -65,17 +65,16 @@ impl TenantBench {
         ensures machine { IfOk result (λ b. machine_of b.parts b.memory
             ≡ start_of admission.now.id (start_in admission.now)) }
         ensures refused { IfErr result (λ o. IfRefused o (λ e.
-            admission_refusal (charge_of admission.now.terms.pages) []
-            admission.now.id (start_in admission.now) ≡ Some e)) }
+            refusal_alone admission.now.id (start_in admission.now) ≡ Some e)) }
         ensures memory { IsErrOf result Obstacle.OutOfMemory
             → is_bad admission.now.terms ≡ false }
     {
-        if is_bad_reservation(admission) {
-            return Err(Obstacle::Refused(AdmitError::BadReservation));
-        }
-        let words = OpCache::new(alloc)?;
-        let mut memory = Flat::new(alloc, admission.terms.pages as usize, admission.terms.mode)?;
-        let parts = admit_alone(alloc, admission, &mut memory)?;
+        let Lone {
+            parts,
+            memory,
+            words,
+            ..
+        } = Lone::new(alloc, admission)?;
         Ok(TenantBench {
             parts,
             memory,

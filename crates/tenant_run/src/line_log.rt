@@ -13,7 +13,7 @@ use std::io::{BufWriter, Stderr};
 /// Where the lines go that are written while a tenant runs.
 pub(crate) type Log = BufWriter<Either<Stderr, File>>;
 
-/// What is remembered and written of a tenant, as the options request it: with the names of an
+/// The records and texts of a tenant, as the options request them: with the names of an
 /// image's functions, where it is known before the run, and without what is not told.
 pub fn observer_of<'a, 'i>(
     rt: &HostRuntime,
@@ -51,7 +51,7 @@ fn observer_with<'i>(
     Ok(observer)
 }
 
-/// What writes some lines, with the names of an image's functions.
+/// The writer of some lines, with the names of an image's functions.
 fn tracer_of<'a, 'i>(
     rt: &HostRuntime,
     output: &'a OutputOptions,

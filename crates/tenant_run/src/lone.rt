@@ -17,7 +17,7 @@ use std::alloc::Global;
 /// The number of a tenant that is alone.
 const ID: u16 = 1;
 
-/// What an image is admitted with under a seed.
+/// The admission of an image under a seed.
 pub fn admission_of<'a>(
     options: &Options,
     image: &'a [u8],
@@ -140,8 +140,8 @@ impl<'x> LoneTenant<'x> {
         Ok(())
     }
 
-    /// Puts the tenant behind the access that ends it beyond what its tags forbid, if one does: its
-    /// slice went on behind that.
+    /// Puts the tenant after the access that ends it beyond what its tags forbid, if one does: its
+    /// slice went on after that.
     fn run_to_finding<'a>(
         &self,
         alloc: Global,

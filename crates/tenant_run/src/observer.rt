@@ -1,4 +1,4 @@
-//! What is remembered and written of a tenant while it runs.
+//! The records and texts of a tenant while it runs.
 
 ghost use Rattle.std.specs.Prelude.{None};
 
@@ -25,7 +25,7 @@ const LEAST: usize = 16;
 /// that goes beyond its chunk where accesses are to keep to them.
 #[derive(Drop)]
 pub struct Observer<'a> {
-    /// What it is shown of the tenant.
+    /// How much it is shown of the tenant.
     pub shown: WatchLevel,
     /// The step after which it is shown each attempt, where it is shown accesses.
     shown_after: u64,
@@ -37,7 +37,7 @@ pub struct Observer<'a> {
     pub book: Book,
     /// The last instructions, the oldest first.
     last: HeapCircularBuffer<Moment>,
-    /// The last calls and returns, the oldest first, where they are wanted.
+    /// The last calls and returns, the oldest first, where they are requested.
     turns: Option<HeapCircularBuffer<Turn>>,
     /// The lines.
     tracer: Option<Tracer<'a>>,
@@ -45,11 +45,12 @@ pub struct Observer<'a> {
     exact: Option<Exact>,
     /// Where pointers come from, where each is to be used as its own chunk allows.
     checker: Option<Checker<'a>>,
-    /// The numbers of the run, where they are wanted.
+    /// The numbers of the run, where they are requested.
     statistics: Option<Statistics>,
     /// Whether a service wrote fewer bytes than it was handed.
     pub is_cut: bool,
-    /// What wrote the target last of the jump to no code that ended the tenant, once it is found.
+    /// The store that wrote the target last of the jump to no code that ended the tenant, once
+    /// found.
     pub store: Option<LastStore>,
 }
 
@@ -154,12 +155,12 @@ impl<'a> Observer<'a> {
         &self.last
     }
 
-    /// The last calls and returns, where they are wanted.
+    /// The last calls and returns, where they are requested.
     pub fn turns(&self) -> Option<&HeapCircularBuffer<Turn>> {
         self.turns.as_ref()
     }
 
-    /// The numbers of the run of a tenant with `reserved` pages, if they are wanted.
+    /// The numbers of the run of a tenant with `reserved` pages, if they are requested.
     pub fn table(&self, reserved: u64) -> Option<StatisticsTable<'_>> {
         match &self.statistics {
             Some(statistics) => Some(StatisticsTable {
@@ -180,7 +181,7 @@ impl<'a> Observer<'a> {
         self.exact.as_ref()?.finding()
     }
 
-    /// What is known of the tenant's pointers, where it is watched for that.
+    /// The checker of the tenant's pointers, where it is watched for that.
     pub fn checker(&self) -> Option<&Checker<'a>> {
         self.checker.as_ref()
     }
@@ -198,7 +199,7 @@ impl<'a> Observer<'a> {
         TargetLoad::of_end(status, Some(&self.last))
     }
 
-    /// Whether no chunk was missed for want of memory.
+    /// Whether no chunk was missed for out of memory.
     pub fn is_complete(&self) -> bool {
         match &self.exact {
             Some(exact) => exact.is_complete(),
@@ -343,7 +344,7 @@ impl<'a> Watch for Observer<'a> {
     }
 }
 
-/// Remembers the call or return that an instruction made, where they are wanted.
+/// Remembers the call or return that an instruction made, where they are requested.
 fn note_turn(turns: &mut Option<HeapCircularBuffer<Turn>>, moment: &Moment, parts: &TenantParts) {
     let Some(turns) = turns else {
         return;
@@ -374,7 +375,7 @@ pub fn turns_of(
     Ok(Some(turns))
 }
 
-/// What checks a tenant as terms say, where they ask for anything.
+/// The checker of a tenant by its terms, where they ask for anything.
 pub fn checker_of<'a>(
     alloc: Global,
     terms: &CheckTerms<'a>,
@@ -386,7 +387,7 @@ pub fn checker_of<'a>(
     Ok(Some(checker))
 }
 
-/// What watches that accesses keep to the bytes of chunks, where they are to.
+/// The watch of accesses by the bytes of chunks, where it is requested.
 pub fn exact_of(alloc: Global, exactness: Exactness) -> Option<Exact> {
     match exactness {
         Exactness::Tags => None,

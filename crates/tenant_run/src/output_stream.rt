@@ -1,4 +1,4 @@
-//! What a tenant writes, on standard output.
+//! The output of a tenant, on standard output.
 
 use mte_tenant::Output;
 use std::io::Write;

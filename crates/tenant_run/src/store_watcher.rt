@@ -13,12 +13,12 @@ use run_records::Moment;
 #[derive(Clone, Copy)]
 pub struct StoreWatcher {
     watch: StoreWatch,
-    /// What stood before the instruction that is attempted.
+    /// The state before the instruction that is attempted.
     moment: Option<Moment>,
 }
 
 impl StoreWatcher {
-    /// Watches for the store behind a load.
+    /// Watches for the store after a load.
     pub fn new(load: TargetLoad) -> StoreWatcher {
         StoreWatcher {
             watch: StoreWatch::new(load),

@@ -88,7 +88,7 @@ fn ending_under<'x>(
     ending_of(alloc, options, &admission, &mut observer)
 }
 
-/// What watches a run of which only the ending counts.
+/// The watch of a run of which only the ending counts.
 fn silent_observer<'x>(
     alloc: Global,
     options: &Options,

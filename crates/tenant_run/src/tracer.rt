@@ -40,7 +40,7 @@ impl<'a> Tracer<'a> {
     }
 
     /// Writes the line of an instruction, and the line of the service that it requests, where they
-    /// are wanted.
+    /// are requested.
     fn write_lines(&mut self, moment: &Moment, after: &Regs) -> io::Result<()> {
         let Traced { from, to, services } = self.traced;
         let is_service = moment.word == Some(SVC);
@@ -57,7 +57,7 @@ impl<'a> Tracer<'a> {
         Ok(())
     }
 
-    /// Writes the line of an instruction, behind the name of its function where that is another
+    /// Writes the line of an instruction, after the name of its function where that is another
     /// one.
     fn write_instruction(&mut self, moment: &Moment, after: &Regs) -> io::Result<()> {
         let pc = moment.regs.pc;

@@ -19,7 +19,7 @@ pub enum ArithmeticKind {
 pub struct ArithmeticFault {
     /// The operation.
     pub kind: ArithmeticKind,
-    /// What is divided or shifted.
+    /// The operands.
     pub value: u64,
     /// By how much.
     pub amount: u64,

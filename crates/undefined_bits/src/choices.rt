@@ -1,4 +1,4 @@
-//! What instructions make of undefined bits that choose by a condition, or take a carry.
+//! The rules for undefined bits of instructions that choose by a condition, or take a carry.
 
 use crate::register_rules::{SumOperands, mask};
 use crate::state::UndefinedBits;

@@ -8,7 +8,7 @@ use a64_registers::operands::truncate;
 use shadow_memory::Step;
 use undefined_values::UndefinedOrigin;
 
-/// What depends on undefined bits.
+/// The use of undefined bits.
 #[derive(Clone, Copy, Debug, PartialEq, Eq)]
 pub enum UseKind {
     /// Whether a branch is taken.
@@ -28,9 +28,9 @@ pub enum UseKind {
 /// A use of undefined bits.
 #[derive(Clone, Copy, PartialEq, Eq)]
 pub struct UndefinedUse {
-    /// What depends on them.
+    /// The use of the bits.
     pub kind: UseKind,
-    /// What they are a part of.
+    /// The origin of the bits.
     pub origin: UndefinedOrigin,
     /// The plain address of the first byte that has some, where bytes are written out.
     pub addr: Option<u64>,
@@ -48,7 +48,7 @@ impl UndefinedUse {
 }
 
 impl UndefinedBits {
-    /// What of an instruction other than SVC depends on undefined bits, of which nothing is noted
+    /// The use of undefined bits by an instruction other than SVC, of which nothing is noted
     /// yet.
     pub fn judge(&self, step: &Step<'_>) -> Option<UndefinedUse> {
         match *step.instr {

@@ -1,4 +1,4 @@
-//! What loads and stores do to undefined bits.
+//! The rules of loads and stores for undefined bits.
 
 use crate::state::UndefinedBits;
 use a64_access::{AccessForm, AccessKind, LoadExtension};

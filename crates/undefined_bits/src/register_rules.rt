@@ -1,4 +1,4 @@
-//! What instructions that work on registers make of undefined bits.
+//! The rules of instructions that work on registers for undefined bits.
 
 use crate::state::UndefinedBits;
 use a64_bits::{bit_masks, extract, move_field, reverse_bits, reverse_bytes};
@@ -36,7 +36,7 @@ impl SumOperands {
         truncate(self.sf, bits)
     }
 
-    /// What is known of the flags that it sets. A sum with a number is a comparison with that
+    /// The facts about the flags that it sets. A sum with a number is a comparison with that
     /// number's negative, unless it is 0 or has no negative.
     pub(crate) fn flags(&self) -> FlagState {
         if self.x.undefined | self.y.undefined == 0 {

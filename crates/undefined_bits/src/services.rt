@@ -1,4 +1,4 @@
-//! What services use and define.
+//! The bits that services use and define.
 
 use crate::judgement::{UndefinedUse, UseKind};
 use crate::state::UndefinedBits;
@@ -21,7 +21,7 @@ pub enum ServiceArguments {
 }
 
 impl UndefinedBits {
-    /// What of a service depends on undefined bits: its number in x8, its arguments, or the bytes
+    /// The use of undefined bits by a service: its number in x8, its arguments, or the bytes
     /// that it writes out.
     pub fn judge_service(
         &self,

@@ -1,4 +1,4 @@
-//! What is undefined of a tenant.
+//! The undefined bits of a tenant.
 
 use a64_registers::Regs;
 use a64_registers::operands::truncate;
@@ -40,7 +40,7 @@ impl UndefinedBits {
     }
 
     /// Notes an instruction that completed, other than SVC. What SP is moved above is undefined
-    /// behind the instruction, and what it is moved below in front of its store.
+    /// after the instruction, and what it is moved below in front of its store.
     pub fn note(&mut self, step: &Step<'_>) -> Result<(), Full> {
         let (old, new) = (step.before.sp, step.after.sp);
         if new < old {

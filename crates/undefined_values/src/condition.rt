@@ -16,7 +16,7 @@ pub struct Comparison {
     pub sign: u64,
 }
 
-/// What is known of the flags.
+/// The facts about the flags.
 #[derive(Clone, Copy, PartialEq, Eq)]
 pub enum FlagState {
     /// They are defined.

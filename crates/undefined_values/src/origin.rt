@@ -1,13 +1,13 @@
-//! What undefined bits are a part of.
+//! The origin of undefined bits.
 
-/// What undefined bits are a part of. It has four bytes, since each word of memory has one.
+/// The origin of undefined bits. It has four bytes, since each word of memory has one.
 #[derive(Clone, Copy, PartialEq, Eq)]
 pub struct UndefinedOrigin {
     /// Twice the number of a heap call, or the address of an instruction and 1.
     number: u32,
 }
 
-/// What undefined bits are a part of.
+/// The origin of undefined bits.
 #[derive(Clone, Copy, PartialEq, Eq)]
 pub enum UndefinedPlace {
     /// It is not known.
@@ -42,7 +42,7 @@ impl UndefinedOrigin {
         }
     }
 
-    /// What it is.
+    /// Its kind.
     pub fn place(self) -> UndefinedPlace {
         if self.number == 0 {
             UndefinedPlace::Unknown
@@ -60,7 +60,7 @@ impl UndefinedOrigin {
 pub struct UndefinedValue {
     /// A 1 for each undefined bit.
     pub bits: u64,
-    /// What they are a part of.
+    /// The origin of the bits.
     pub origin: UndefinedOrigin,
 }
 
