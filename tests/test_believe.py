@@ -167,7 +167,7 @@ def checkout() -> Repository:
     ("scudo_header::class_of", {"class_for", "size_of", "power_below", "IsLeastClass"},
      {"CLASSES", "LARGEST_CLASS_SIZE"}),
     ("a64_step::adr", {"adr_of", "offset_address", "with_register", "with_next_pc",
-                       "twos_complement"}, {"Regs", "Flags", "Rgsr"}),
+                       "twos_complement", "AreRegisters"}, {"Regs", "Flags", "Rgsr"}),
     ("heap_bounds::freed_by", {"ended_chunk", "ended_pointer", "plain"},
      {"AnsweredCall", "HeapCall"}),
     ("fill_adds_its_own", {"with_translation", "lookup", "is_for", "without", "newest"},

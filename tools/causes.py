@@ -69,7 +69,7 @@ def enum(name: str, about: str, variants: Iterable[tuple[str, str]], derived: st
 
 
 CAUSE_HEAD = '''\
-//! What causes, findings and ends are called, and what is said of them.
+//! The words for causes, findings and ends.
 
 use mte_svc::Status;
 use mte_tags::FaultKind;
@@ -77,14 +77,14 @@ use run_terms::CheckKind;
 use scudo_heap::HeapAbort;
 '''
 CAUSE_STRUCT = '''
-/// What a cause is called.
+/// The words for a cause.
 #[derive(Clone, Copy)]
 pub(crate) struct CauseWords {
-    /// What stands before its name: `[MTE]: ` where a tag found it.
+    /// The text before its name: `[MTE]: ` where a tag found it.
     pub finder: &'static str,
     /// Its name.
     pub name: &'static str,
-    /// What is between its name, or the distance, and what it belongs to.
+    /// The text between its name, or the distance, and what it belongs to.
     pub joint: &'static str,
     /// The name of its kind, for other programs.
     pub rule: &'static str,
@@ -92,14 +92,14 @@ pub(crate) struct CauseWords {
 '''
 CAUSE_FUNCTION = '''
 impl CauseKind {
-    /// What it is called.
+    /// Its name.
     pub(crate) fn words(self) -> &'static CauseWords {
         &CAUSES[self as usize]
     }
 }
 '''
 FINDING_STRUCT = '''
-/// What a finding is called.
+/// The words for a finding.
 #[derive(Clone, Copy)]
 pub(crate) struct FindingWords {
     /// The name of what found it, which is that of the option.
@@ -108,23 +108,23 @@ pub(crate) struct FindingWords {
     pub key: &'static str,
     /// The kind of what is checked that it is of.
     pub kind: CheckKind,
-    /// What is wrong.
+    /// The misuse.
     pub words: &'static str,
-    /// The same where it is not known where the pointer came from.
+    /// The misuse where it is not known where the pointer came from.
     pub by_address: &'static str,
 }
 '''
 END_STRUCT = '''
-/// What is said of an end that is not judged.
+/// The words for an end that is not judged.
 #[derive(Clone, Copy)]
 pub struct EndWords {
     /// The name of its kind, for other programs.
     pub rule: &'static str,
-    /// What happened.
+    /// The event.
     pub text: &'static str,
 }
 
-/// What is said of a tenant with a status, where that is not judged.
+/// The words for a tenant with a status, where that is not judged.
 #[rattlefmt::skip]
 pub fn end_words(status: &Status) -> EndWords {
     match status {
@@ -171,7 +171,7 @@ def cause_file(data: Data) -> str:
     """The words of causes and findings."""
     variants = [(it["kind"], it["about"]) for it in data["cause"]]
     return "".join([
-        HEAD, CAUSE_HEAD, enum("CauseKind", "What may go wrong.", variants, "Clone, Copy"),
+        HEAD, CAUSE_HEAD, enum("CauseKind", "The kinds of causes.", variants, "Clone, Copy"),
         CAUSE_STRUCT, table("CAUSES", "CauseWords", map(cause_row, data["cause"]), "All causes."),
         CAUSE_FUNCTION, FINDING_STRUCT, *map(finding_table, data["violation"]),
         END_STRUCT, *map(end_arm, data["end"]), "    }\n}\n",

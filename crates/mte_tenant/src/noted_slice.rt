@@ -124,7 +124,7 @@ fn run_by_table<M: Tagged, W: Notes>(
     }
 }
 
-/// The same, and passes their accesses on.
+/// Runs instructions by the table, as `run_with_edges` does, and passes their accesses on.
 #[inline(never)]
 fn run_with_notes<M: Tagged, W: Notes>(
     ops: &mut OpCache,
@@ -148,7 +148,7 @@ fn run_with_notes<M: Tagged, W: Notes>(
     run_with_edges(ops, regs, &mut noted, &mut NoEdges, outcome, steps)
 }
 
-/// The same, and passes them on.
+/// Runs instructions by the table, as `run_with_edges` does, and passes them on.
 #[inline(never)]
 fn run_followed<M: Tagged, W: Notes>(
     ops: &mut OpCache,

@@ -1,4 +1,4 @@
-//! The same of instructions of which it was worked out once what they do with registers. Where
+//! Rules for instructions whose use of registers was worked out once. Where
 //! nothing is known of what one reads, two masks are enough; accesses, sums, moves and branches are
 //! noted without being decoded.
 
@@ -100,7 +100,7 @@ impl Shadow {
         self.may_misuse_by(used, origin, addr)
     }
 
-    /// The same where something is known of the register that is added to the base.
+    /// Judges an access where something is known of the register that is added to the base.
     #[inline(never)]
     fn may_misuse_by_sum(&mut self, used: &RegisterUse, base: PointerOrigin, addr: u64) -> bool {
         let index = self.pointer_where(used.index, used.is_plain());
@@ -110,7 +110,7 @@ impl Shadow {
         }
     }
 
-    /// The same by a pointer.
+    /// Judges an access by a pointer.
     #[inline(always)]
     fn may_misuse_by(&mut self, used: &RegisterUse, origin: PointerOrigin, addr: u64) -> bool {
         if origin == PointerOrigin::STACK {
@@ -123,7 +123,7 @@ impl Shadow {
         self.may_misuse_far(used, origin, addr)
     }
 
-    /// The same of an access that is in no remembered chunk.
+    /// Judges an access that is in no remembered chunk.
     #[inline(never)]
     fn may_misuse_far(&mut self, used: &RegisterUse, origin: PointerOrigin, addr: u64) -> bool {
         let bytes = AccessedBytes {

@@ -117,7 +117,7 @@ impl CallSite {
         Ok(CallSite { text, stack })
     }
 
-    /// The same with what its addresses are called.
+    /// Writes it with the names of its addresses.
     fn named<'s>(&'s self, names: &'s FrameNames<'s>) -> Site<'s> {
         Site {
             text: self.text.as_str(),

@@ -1,12 +1,12 @@
 // Written by tools/causes.py from tools/causes.toml. Do not edit.
-//! What causes, findings and ends are called, and what is said of them.
+//! The words for causes, findings and ends.
 
 use mte_svc::Status;
 use mte_tags::FaultKind;
 use run_terms::CheckKind;
 use scudo_heap::HeapAbort;
 
-/// What may go wrong.
+/// The kinds of causes.
 #[derive(Clone, Copy)]
 pub enum CauseKind {
     /// An access to a chunk that was freed.
@@ -76,14 +76,14 @@ pub enum CauseKind {
     Unknown,
 }
 
-/// What a cause is called.
+/// The words for a cause.
 #[derive(Clone, Copy)]
 pub(crate) struct CauseWords {
-    /// What stands before its name: `[MTE]: ` where a tag found it.
+    /// The text before its name: `[MTE]: ` where a tag found it.
     pub finder: &'static str,
     /// Its name.
     pub name: &'static str,
-    /// What is between its name, or the distance, and what it belongs to.
+    /// The text between its name, or the distance, and what it belongs to.
     pub joint: &'static str,
     /// The name of its kind, for other programs.
     pub rule: &'static str,
@@ -127,13 +127,13 @@ static CAUSES: [CauseWords; 32] = [
 ];
 
 impl CauseKind {
-    /// What it is called.
+    /// Its name.
     pub(crate) fn words(self) -> &'static CauseWords {
         &CAUSES[self as usize]
     }
 }
 
-/// What a finding is called.
+/// The words for a finding.
 #[derive(Clone, Copy)]
 pub(crate) struct FindingWords {
     /// The name of what found it, which is that of the option.
@@ -142,9 +142,9 @@ pub(crate) struct FindingWords {
     pub key: &'static str,
     /// The kind of what is checked that it is of.
     pub kind: CheckKind,
-    /// What is wrong.
+    /// The misuse.
     pub words: &'static str,
-    /// The same where it is not known where the pointer came from.
+    /// The misuse where it is not known where the pointer came from.
     pub by_address: &'static str,
 }
 
@@ -195,16 +195,16 @@ pub(crate) static OPERATIONS: [FindingWords; 2] = [
     FindingWords { finder: "check", key: "Shift", kind: CheckKind::Arithmetic, words: "shifts by as many bits as there are, or more", by_address: "shifts by as many bits as there are, or more" },
 ];
 
-/// What is said of an end that is not judged.
+/// The words for an end that is not judged.
 #[derive(Clone, Copy)]
 pub struct EndWords {
     /// The name of its kind, for other programs.
     pub rule: &'static str,
-    /// What happened.
+    /// The event.
     pub text: &'static str,
 }
 
-/// What is said of a tenant with a status, where that is not judged.
+/// The words for a tenant with a status, where that is not judged.
 #[rattlefmt::skip]
 pub fn end_words(status: &Status) -> EndWords {
     match status {

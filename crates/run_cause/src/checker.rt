@@ -347,7 +347,7 @@ impl<'a> Checker<'a> {
         }
     }
 
-    /// The same of a service.
+    /// The access of a service.
     fn misuse_of(&self, asked: &RequestedService<'_>, attempt: &Attempt<'_>) -> Option<Misuse> {
         let before = attempt.step.before;
         match asked.bytes {

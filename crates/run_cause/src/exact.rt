@@ -110,7 +110,7 @@ impl Exact {
         self.is_suspicious_far(first, bytes, is_write)
     }
 
-    /// The same of an access to bytes of the heap that no remembered chunk has.
+    /// Judges an access to bytes of the heap that no remembered chunk has.
     #[cold]
     #[inline(never)]
     fn is_suspicious_far(&mut self, first: u64, bytes: u64, is_write: bool) -> bool {

@@ -76,7 +76,7 @@ impl<'a> Silence<'a> {
         Ok(is_hidden)
     }
 
-    /// The same of one that was not found before.
+    /// Answers for one that was not found before.
     fn is_new_hidden(&self, alloc: Global, place: &HiddenPlace) -> Result<bool, AllocError> {
         let symbols = &self.names.symbols;
         let stack = CallStack::of_heap_call(alloc, place.pc, &place.callers, symbols)?;

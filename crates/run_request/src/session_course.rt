@@ -20,7 +20,7 @@ pub struct Admitted {
 }
 
 impl Admitted {
-    /// The same with the bytes of its files.
+    /// The admission with the bytes of its files.
     pub fn admission<'x>(&self, id: u16, files: &'x [Vec<u8>]) -> Admission<'x> {
         admission_of(files, id, self.image, self.input, self.terms)
     }

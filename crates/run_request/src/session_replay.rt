@@ -53,7 +53,7 @@ impl<'a, 'x> SessionReplay<'a, 'x> {
         }
     }
 
-    /// The same tenant, which a second run watched if its end is explained by what that remembers.
+    /// The tenant, which a second run watched if its end is explained by what that remembers.
     fn watched(
         &self,
         alloc: Global,

@@ -96,7 +96,7 @@ fn first_refusal<'a>(
     }
 }
 
-/// The same by a host that has no tenant yet.
+/// The refusal by a host that has no tenant yet.
 fn first_refusal_by<'a>(
     alloc: Global,
     host: &mut Host,

@@ -71,7 +71,7 @@ impl HeapFunctionWatch {
         None
     }
 
-    /// The same of a branch of a kind, by the registers after it.
+    /// Notes a branch of a kind, by the registers after it.
     #[inline(always)]
     pub fn note_branch_of(&mut self, kind: BranchKind, after: &Regs) -> Option<ReturnedChunk> {
         match kind {

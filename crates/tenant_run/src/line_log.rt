@@ -34,7 +34,7 @@ pub fn observer_of<'a, 'i>(
     Ok(observer_with(rt.alloc(), output, tracer, &terms)?)
 }
 
-/// The same with what writes its lines.
+/// The log with the writer of its lines.
 fn observer_with<'i>(
     alloc: Global,
     output: &OutputOptions,

@@ -1,4 +1,4 @@
-//! The same of instructions of which it was worked out once what they do with registers. Where all
+//! Rules for instructions whose use of registers was worked out once. Where all
 //! bits that one works on are defined, two masks are enough; accesses are noted without being
 //! decoded.
 

@@ -138,7 +138,7 @@ impl UndefinedBits {
         }
     }
 
-    /// The same of one with a shifted register. A register less itself is 0.
+    /// The rule of one with a shifted register. A register less itself is 0.
     fn shifted_operands(&self, step: &Step<'_>) -> Option<SumOperands> {
         let Instr::AddSubShift {
             sf,

@@ -104,7 +104,7 @@ impl UndefinedBits {
         };
     }
 
-    /// The same in the size of an instruction's operands.
+    /// The bits in the size of an instruction's operands.
     pub(crate) fn operand_bits(&self, sf: u8, n: u8) -> UndefinedValue {
         let value = self.register(n);
         if value.bits == 0 {

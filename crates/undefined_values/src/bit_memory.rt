@@ -70,7 +70,7 @@ impl BitMemory {
         UndefinedValue::of(bits, low.origin_or(high))
     }
 
-    /// The same within a word.
+    /// Does so within a word.
     #[inline]
     fn load_in_word(&self, addr: u64, bytes: u8) -> UndefinedValue {
         match self.page(addr) {
@@ -93,7 +93,7 @@ impl BitMemory {
         self.store_in_word(next, bytes.saturating_sub(within), high)
     }
 
-    /// The same within a word.
+    /// Does so within a word.
     #[inline]
     fn store_in_word(
         &mut self,
@@ -125,7 +125,7 @@ impl BitMemory {
         Ok(())
     }
 
-    /// The same within a page, of whole words, or within a word.
+    /// Does so within a page, of whole words, or within a word.
     fn fill_piece(
         &mut self,
         start: u64,

@@ -30,7 +30,7 @@ impl BitOperand {
         self.value | self.undefined
     }
 
-    /// The same with each bit inverted, in the bits of a mask.
+    /// The rule with each bit inverted, in the bits of a mask.
     pub fn inverted(self, mask: u64) -> BitOperand {
         BitOperand {
             value: !self.value & mask,

@@ -94,7 +94,7 @@ impl Comparison {
     }
 }
 
-/// The same of a result of ANDS, after which C and V are 0.
+/// The flags of a result of ANDS, after which C and V are 0.
 fn is_test_undefined(tested: BitOperand, sign: u64, test: u8) -> bool {
     match test {
         0 => tested.may_be_zero(),
