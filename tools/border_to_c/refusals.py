@@ -73,9 +73,10 @@ def code_text(tables: Tables, found: list[tuple[Refusals, Variants]]) -> str:
         f"ghost use Rattle.tombolopan_c.specs.RefusalCodes.{{{', '.join(names)}}};\n"
         for names in in_pairs([it.definition for it, _ in found]))
     uses = "".join(sorted(f"use {it.through}::{it.enum};\n" for it, _ in found))
-    constants = [constant_of(name) for _, variants in found for name, inner in variants if not inner]
-    return (f"// {HEAD}//! The numbers of refusals.\n\nghost use Rattle.std.specs.Prelude.{{◌≡◌}};\n"
-            f"{ghosts}\n{use_of_codes(constants)}{uses}"
+    plain = [name for _, variants in found for name, inner in variants if not inner]
+    return (f"// {HEAD}//! The numbers of refusals.\n\n"
+            "ghost use Rattle.std.specs.Prelude.{◌≡◌};\n"
+            f"{ghosts}\n{use_of_codes([constant_of(name) for name in plain])}{uses}"
             + "".join(function(tables, it, variants) for it, variants in found))
 
 
