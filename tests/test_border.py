@@ -122,7 +122,8 @@ def test_arguments_of_another_width(name: str) -> None:
     places = [(border.file_with(f"fn {name}("), f"fn {name}("), (RUST, f"    fn {name}("),
               (HEADER, f"\nuint32_t {name}(")]
     if name not in ("tb_version", "tb_build_info", "tb_memory_init", "tb_alone", "tb_step",
-                    "tb_store_tags", "tb_heap_calls", "tb_heap_replay", "tb_run_traced", "tb_machine_acts",
+                    "tb_store_tags", "tb_heap_calls", "tb_heap_replay", "tb_run_traced",
+                    "tb_machine_acts",
                     "tb_machine_pages", "tb_heap_pages", "tb_heap_live", "tb_fuzz_new",
                     "tb_fuzz_run", "tb_fuzz_run_exact", "tb_fuzz_free"):
         for path, begin in places:

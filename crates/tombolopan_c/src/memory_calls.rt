@@ -1,6 +1,7 @@
 //! The exports that access a memory's bytes and tags.
 
-ghost use Rattle.std.specs.Prelude.{◌≡◌, ◌<◌, ◌==◌, length, if◌then◌else◌, is_none, nat_lt};
+ghost use Rattle.std.specs.Prelude.{◌≡◌, ◌<◌, ◌==◌, length, if◌then◌else◌, is_none};
+ghost use Rattle.std.specs.Prelude.{nat_lt};
 ghost use Rattle.a64_bits.specs.Addresses.{plain};
 ghost use Rattle.mte_tags.specs.Memory.{tag_at, with_granules};
 ghost use Rattle.mte_tags.specs.Accesses.{read_fault, read_bytes, after_read, write_fault};
@@ -160,10 +161,12 @@ pub extern "C" fn tb_store_tags(
 ) -> u32
     ensures code { result
         ≡ tags_code store.now.tag
-        (tags_fault (lent_memory (state_of state.old) pages.old) store.now.addr store.now.granules) }
+        (tags_fault (lent_memory (state_of state.old) pages.old)
+        store.now.addr store.now.granules) }
     ensures fault { fault.new
         ≡ tags_report store.now.tag
-        (tags_fault (lent_memory (state_of state.old) pages.old) store.now.addr store.now.granules) }
+        (tags_fault (lent_memory (state_of state.old) pages.old)
+        store.now.addr store.now.granules) }
     ensures memory { lent_memory (state_of state.new) pages.new
         ≡ (if result == OK
         then with_granules (lent_memory (state_of state.old) pages.old) (plain store.now.addr)
