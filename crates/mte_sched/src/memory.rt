@@ -20,7 +20,7 @@ use a64_run::NoEdges;
 use common::MAX_PAGES;
 use mte_elf::Plan;
 use mte_frames::{FramePool, Quota};
-use mte_space::{RememberedPages, Space, Tenancy, join_lookups, pages_of_a_space, unmap_all};
+use mte_space::{RememberedPages, Space, Tenancy, pages_of_a_space, unmap_all};
 use mte_tags::{TagMode, TagState};
 use mte_tenant::{Admission, charge, fill, slice_with_edges};
 use mte_translate::{Table, Tlb};
@@ -147,7 +147,8 @@ fn fill_memory(
         pool,
         &mut memory.table,
         &mut memory.quota,
-        join_lookups(tlb, &mut memory.remembered),
+        tlb,
+        &mut memory.remembered,
         &mut memory.state,
         Tenancy {
             asid,
@@ -197,7 +198,8 @@ impl Live {
             pool,
             &mut self.memory.table,
             &mut self.memory.quota,
-            join_lookups(&mut caches.tlb, &mut self.memory.remembered),
+            &mut caches.tlb,
+            &mut self.memory.remembered,
             &mut self.memory.state,
             Tenancy {
                 asid,

@@ -12,4 +12,4 @@ mod writing;
 pub use clearing::unmap_all;
 pub use laws::{other_tenants_stay, pages_of_a_space, written_frames_are_pages};
 pub use remembered::RememberedPages;
-pub use space::{Lookups, Space, Tenancy, join_lookups};
+pub use space::{Space, Tenancy};

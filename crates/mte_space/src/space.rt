@@ -26,23 +26,6 @@ pub struct Tenancy {
     pub pages: usize,
 }
 
-/// Where translations of a tenant's addresses are remembered.
-#[derive(Drop)]
-pub struct Lookups<'a> {
-    /// The translation lookaside buffer, which tenants share.
-    pub tlb: &'a mut Tlb,
-    /// The pages of the tenant's last accesses.
-    pub remembered: &'a mut RememberedPages,
-}
-
-/// Both places where translations are remembered.
-pub fn join_lookups<'a>(tlb: &'a mut Tlb, remembered: &'a mut RememberedPages) -> Lookups<'a>
-    ensures tlb { result.tlb ≡ tlb.entry }
-    ensures remembered { result.remembered ≡ remembered.entry }
-{
-    Lookups { tlb, remembered }
-}
-
 /// A tenant's memory: the pages that its table maps, in frames of a pool that it shares with other
 /// tenants, under its quota. Translations of its ASID are remembered in a translation lookaside
 /// buffer, which it shares too, and where its last accesses found their pages is its own.
@@ -73,7 +56,8 @@ impl<'a> Space<'a> {
         pool: &'a mut FramePool,
         table: &'a mut Table,
         quota: &'a mut Quota,
-        lookups: Lookups<'a>,
+        tlb: &'a mut Tlb,
+        remembered: &'a mut RememberedPages,
         state: &'a mut TagState,
         tenant: Tenancy,
     ) -> Space<'a>
@@ -81,23 +65,22 @@ impl<'a> Space<'a> {
         requires most { table.old.len ≤ tenant.pages }
         requires once { MapsOnce (pages_of pool.old table.old.frame) }
         requires frames { HasFrames pool.old quota.old table.old tenant.pages }
-        requires cached { IsCached (pages_of pool.old table.old.frame) tenant.asid lookups.tlb.now }
-        requires remembered { IsRemembered (pages_of pool.old table.old.frame)
-            lookups.remembered.now }
+        requires cached { IsCached (pages_of pool.old table.old.frame) tenant.asid tlb.old }
+        requires remembered { IsRemembered (pages_of pool.old table.old.frame) remembered.old }
         ensures memory { memory_of result
             ≡ space_memory pool.old table.old tenant.pages state.old }
-        ensures over { IsOver result pool.entry table.entry quota.entry lookups.entry.tlb
-            state.entry lookups.entry.remembered tenant.asid tenant.pages }
+        ensures over { IsOver result pool.entry table.entry quota.entry tlb.entry state.entry
+            remembered.entry tenant.asid tenant.pages }
     {
         Space {
             pool,
             table,
             quota,
-            tlb: lookups.tlb,
+            tlb,
             state,
             asid: tenant.asid,
             limit: tenant.pages,
-            remembered: lookups.remembered,
+            remembered,
         }
     }
 

@@ -41,6 +41,7 @@ impl Lone {
             ≡ start_of admission.now.id (start_in admission.now)) }
         ensures accepted { OnOk result
             (refusal_alone admission.now.id (start_in admission.now) ≡ None) }
+        ensures bounds { OnOk result (is_bad admission.now.terms ≡ false) }
         ensures refused { IfErr result (λ o. IfRefused o (λ e.
             refusal_alone admission.now.id (start_in admission.now) ≡ Some e)) }
         ensures memory { IsErrOf result Obstacle.OutOfMemory

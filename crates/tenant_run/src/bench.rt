@@ -58,6 +58,7 @@ impl TenantBench {
 
     /// A tenant at its first instruction, or why it is refused. Only `OutOfMemory`, where an
     /// allocation failed, can come instead of the refusals from `Image` on.
+    #[tactic(auto, unfolding(mte_tenant::specs::Ledger::admission_refusal))]
     pub fn new(
         alloc: Global,
         admission: &Admission<'_>,

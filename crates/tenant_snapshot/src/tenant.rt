@@ -42,6 +42,7 @@ impl SnapshotTenant {
     /// A tenant at its first instruction, which is its snapshot too, or why it is refused. Only
     /// `OutOfMemory`, where an allocation failed, can come instead of the refusals from `Image`
     /// on.
+    #[tactic(auto, unfolding(mte_tenant::specs::Ledger::admission_refusal))]
     pub fn new(
         alloc: Global,
         admission: &Admission<'_>,
