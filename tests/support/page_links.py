@@ -22,8 +22,8 @@ SUFFIXES = (".antt", ".c", ".edit", ".forms", ".h", ".md", ".py", ".rows", ".rs"
 # A word of capitals alone in a path is the reader's.
 READERS = re.compile(r"(?:^|/)[A-Z][A-Z_]*(?=[./]|$)(?!\.md$)")
 # Files of others that pages name.
-FOREIGN = {**dict.fromkeys(("chunk.h", "combined.h", "local_cache.h", "secondary.h",
-                            "size_class_map.h"), "Scudo"),
+FOREIGN = {**dict.fromkeys(("chunk.h", "combined.h", "local_cache.h", "primary64.h",
+                            "secondary.h", "size_class_map.h"), "Scudo"),
            "THEOREMS.md": "a package, by tools/deb.sh"}
 # The page of what changed names files as they were called then.
 HISTORY = "CHANGELOG.md"
