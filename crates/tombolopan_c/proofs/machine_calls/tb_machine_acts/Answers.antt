@@ -9,9 +9,9 @@ returns-clause-acted c = elim c.match-new.branch [
   | in-Ok w ↦
       let start : machine_of w.in-Ok.machine.parts w.in-Ok.machine.memory ≡ lent_machine c.args.terms.now = search rules in
       record {
-        answer = Ok (machine_of w.make_all.new.self.parts w.make_all.new.self.memory);
-        is = (search rules, λ d. rw (sym start) (w.make_all.ensures.machine d));
-        answers = λ k d l. rw w.acts-is (rw (sym start) (w.make_all.ensures.answers k d l));
+        answer = Ok (machine_of w.make_acts.new.lone.parts w.make_acts.new.lone.memory);
+        is = (search rules, λ d. rw (sym start) (w.make_acts.ensures.machine d));
+        answers = λ k d l. rw w.acts-is (rw (sym start) (w.make_acts.ensures.answers k d l));
         regs = search rules;
         buffers = search rules;
         told = search rules;
