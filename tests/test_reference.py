@@ -9,6 +9,7 @@ import os
 import pathlib
 import random
 from collections.abc import Callable, Iterable
+from typing import Optional
 
 import pytest
 
@@ -200,11 +201,21 @@ def test_drawn_rules(runner: Runner) -> None:
         assert len(names) == 2 * len(ROWS_OF_RULES), names
 
 
-@pytest.mark.xfail(strict=True, reason="--check=provenance judges no STZG")
-def test_cleared_granules(runner: Runner) -> None:
-    """STZG of a chunk's last granule writes past its size."""
-    words = flat(call(MALLOC, 40), copy(19, 0), word("st_g", opc=1, mode=2, imm9=2, rn=19, rt=19))
-    assert runner.check(words, "provenance").name == "Overflow"
+@pytest.mark.parametrize(("size", "opc", "granule", "found"), [
+    (40, 1, 2, "Overflow"), (40, 1, 1, None), (40, 3, 1, "Overflow"), (48, 3, 1, None),
+    (40, 1, 3, "Overflow"), (40, 1, -1, "Underflow"), (40, 0, 2, None),
+])
+def test_cleared_granules(runner: Runner, size: int, opc: int, granule: int,
+                          found: Optional[str]) -> None:
+    """STZG and STZ2G of a granule that ends past a chunk's size write past it, as they do before
+    its first; STG writes no bytes."""
+    words = flat(call(MALLOC, size), copy(19, 0),
+                 word("st_g", opc=opc, mode=2, imm9=granule, rn=19, rt=19))
+    moments, _ = runner.trace(words)
+    possible, certain, _ = first_findings(moments)
+    assert not possible and (certain and certain.name) == found
+    verdict = runner.check(words, "provenance")
+    assert compare.differs_of_pointers(verdict, possible, certain) is None
 
 
 FAULTS = {
