@@ -10,9 +10,11 @@ import sys
 import checking
 import pytest
 
+from tests.support.cache import tenant_library
 from tests.support.instructions import call, program
 from tests.support.once import make_once
 from tests.support.places import EXAMPLES, ROOT
+from tests.support.programs import WARNINGS, compiled
 from tests.support.running import Ran, run, succeed
 from tests.support.samples import FLAGS
 from tests.support.tools import need
@@ -174,6 +176,24 @@ def test_lost_chunks(alone: pathlib.Path, tmp_path: pathlib.Path, build: str) ->
     lost = "lost at the end: 1 chunk, 24 bytes; by these alone was led to 1 chunk, 24 bytes"
     assert told.status == 0 and f"mte_run: {lost}" in told.errors.splitlines()
     assert "  1 chunk, 24 bytes, the first by call 1" in told.errors.splitlines()
+
+
+@pytest.mark.parametrize("compiler", ("clang", "gcc"))
+@pytest.mark.parametrize("level", ("-O0", "-O2"))
+def test_lost_chunks_of_a_stack(
+    alone: pathlib.Path, tmp_path: pathlib.Path, compiler: str, level: str
+) -> None:
+    """Two chunks that lead to one another, over the C library, whose stack is a chunk: what the
+    function has left that made them, below SP, leads to none. Nor does it where SP is below it
+    again, while undefined values are checked."""
+    need(BUILDS[compiler + level][0])
+    library, source = tenant_library(), SOURCES / "lost_cycle.c"
+    lost = "lost at the end: 1 chunk, 32 bytes; by these alone was led to 1 chunk, 32 bytes"
+    for live, kinds in ((0, "leaks"), (0, ""), (1, "")):
+        path = tmp_path / f"cycle{live}.elf"
+        compiled(library, source, compiler, level, path, (*WARNINGS, f"-DLIVE={live}"))
+        told = check(alone, path, kinds=kinds)
+        assert told.status == 0 and f"mte_run: {lost}\n" in told.errors, (live, kinds, told.errors)
 
 
 @pytest.mark.parametrize("build", sorted(BUILDS))

@@ -7,14 +7,17 @@ TOMBOLOPAN_DRAWN is how many programs of each kind are drawn, from seed 0 on.
 
 import os
 import pathlib
+import random
 from collections.abc import Callable, Iterable
+from typing import Optional
 
 import pytest
 
-from tests.reference import compare, rules
+from tests.reference import compare
 from tests.reference.compare import Outcome
 from tests.reference.definedness import first_uses
 from tests.reference.drawing import word
+from tests.reference.numbers import ALL
 from tests.reference.provenance import first_findings
 from tests.reference.runs import Runner
 from tests.support.instructions import SERVICE, Words, add, call, copy, load, move, store
@@ -87,7 +90,7 @@ def test_wrong_pointers(runner: Runner) -> None:
         assert not rarely(found.ends, WRONG)
 
 
-# ---- where mte_run says more or less than it could (docs/CHECKING.md, Limits)
+# ---- rules that drawn programs seldom need
 
 
 def operand(register: int, value: int, undefined: int) -> list[int]:
@@ -116,53 +119,103 @@ def if_bit(bit: int) -> int:
     return word("test_branch", b5=bit >> 5, b40=bit & 31, imm14=1, rt=4)
 
 
-# What differs, and a program that shows it.
-UNLIKE: tuple[tuple[str, list[int]], ...] = (
-    (rules.FLAGS_OF_A_SUM, flat(FRESH, operand(1, 0x1000, 0x100), word(
+# A rule, and a program that ends with a use of what it leaves undefined, or defined.
+RULES: tuple[tuple[str, list[int]], ...] = (
+    ("sum-with-0", flat(FRESH, operand(1, 0x1000, 0x100), word(
         "add_sub_imm", sf=1, s=1, rn=1, rd=31), IF_EQUAL)),
-    (rules.FLAGS_OF_A_SUM, flat(FRESH, operand(1, 0x1000, 0x100), operand(2, 0x10, 0x20), word(
+    ("sum-of-two", flat(FRESH, operand(1, 0x1000, 0x100), operand(2, 0x10, 0x20), word(
         "add_sub_shift", sf=1, s=1, rm=2, rn=1, rd=31), IF_EQUAL)),
-    (rules.SUBP, flat(FRESH, operand(1, 0x1000, 0x100), word("sub_p", rm=9, rn=1, rd=4),
-                      if_bit(0))),
-    (rules.SUBP, flat(FRESH, operand(1, 0x1000, 0x100), move(2, 0x10),
-                      word("sub_p", s=1, rm=2, rn=1, rd=4), IF_EQUAL)),
-    (rules.COUNTS, flat(FRESH, operand(1, 0, 16), word("one_source", sf=1, opcode=4, rn=1, rd=4),
-                        if_bit(2))),
-    (rules.COUNTS, flat(FRESH, operand(1, 0, 16), word("one_source", sf=1, opcode=5, rn=1, rd=4),
-                        if_bit(6))),
-    (rules.CCMP, flat(FRESH, operand(1, 0, 1), move(2, 0), operand(4, 0x1000, 0x100), COMPARE,
-                      word("cond_cmp", sf=1, op=1, i=1, rm=3, rn=4, nzcv=0), IF_EQUAL)),
-    (rules.TAGS, flat(FRESH, operand(1, 0, 1 << 57), word("ldg", imm9=0, rn=9, rt=1),
-                      word("log_shift", sf=1, opc=1, rm=1, rn=31, rd=4), if_bit(57))),
-    (rules.TAGS, flat(FRESH, operand(1, 0, 1 << 57), word("irg", rm=31, rn=1, rd=4), if_bit(57))),
-    (rules.GMI, flat(FRESH, operand(2, 0, 4), word("gmi", rm=2, rn=9, rd=4), if_bit(2))),
+    ("subp", flat(FRESH, operand(1, 0x1000, 0x100), word("sub_p", rm=9, rn=1, rd=4), if_bit(0))),
+    ("subps", flat(FRESH, operand(1, 0x1000, 0x100), move(2, 0x10),
+                   word("sub_p", s=1, rm=2, rn=1, rd=4), IF_EQUAL)),
+    ("clz", flat(FRESH, operand(1, 0, 16), word("one_source", sf=1, opcode=4, rn=1, rd=4),
+                 if_bit(2))),
+    ("cls", flat(FRESH, operand(1, 0, 16), word("one_source", sf=1, opcode=5, rn=1, rd=4),
+                 if_bit(6))),
+    ("ccmp", flat(FRESH, operand(1, 0, 1), move(2, 0), operand(4, 0x1000, 0x100), COMPARE,
+                  word("cond_cmp", sf=1, op=1, i=1, rm=3, rn=4, nzcv=0), IF_EQUAL)),
+    ("ldg", flat(FRESH, operand(1, 0, 1 << 57), word("ldg", imm9=0, rn=9, rt=1), copy(4, 1),
+                 if_bit(57))),
+    ("irg", flat(FRESH, operand(1, 0, 1 << 57), word("irg", rm=31, rn=1, rd=4), if_bit(57))),
+    ("gmi", flat(FRESH, operand(2, 0, 4), word("gmi", rm=2, rn=9, rd=4), if_bit(2))),
+    ("addg", flat(FRESH, operand(1, 16, 16), word("add_g", uimm6=1, rn=1, rd=4), if_bit(5))),
 )
+# Rows of which each is drawn with operands that have undefined bits, and fields of each.
+ROWS_OF_RULES: tuple[tuple[str, dict[str, tuple[int, ...]]], ...] = (
+    ("add_sub_shift", {"sf": (0, 1), "s": (1,), "rm": (2,), "rd": (4,)}),
+    ("add_sub_imm", {"sf": (0, 1), "s": (1,), "imm12": (0, 1, 4095), "rd": (4,)}),
+    ("cond_cmp", {"sf": (0, 1), "op": (0, 1), "i": (0, 1), "rm": (0, 2, 2, 31),
+                  "cond": tuple(range(14)), "nzcv": tuple(range(16))}),
+    ("sub_p", {"s": (0, 1), "rm": (2,), "rd": (4,)}),
+    ("one_source", {"sf": (0, 1), "opcode": (4, 5), "rd": (4,)}),
+    ("irg", {"rm": (2, 31), "rd": (4,)}),
+    ("gmi", {"rm": (2,), "rd": (4,)}),
+    ("add_g", {"op": (0, 1), "uimm6": (0, 1, 63), "rd": (4,)}),
+)
+# Bits of results that are tested more often than others.
+LOW_BITS, TAG_BITS, CONDITIONS = range(8), range(54, 62), 14
 
 
-@pytest.mark.parametrize(("name", "words"), UNLIKE, ids=[
-    "sum-with-0", "sum-of-two", "subp", "subps", "clz", "cls", "ccmp", "ldg", "irg", "gmi"])
-@pytest.mark.xfail(strict=True, reason="more is undefined than must be, or (GMI) less")
-def test_differences(runner: Runner, name: str, words: list[int]) -> None:
-    """Bits that do not depend on undefined ones are counted as undefined, or (GMI) the other way
-    round."""
-    moments, _ = runner.trace(words)
-    possible, certain, _ = first_uses(moments, rules.DIFFERENCES - {name})
-    assert compare.differs(runner.check(words, "undefined"), possible, certain) is None
+def drawn_operand(source: random.Random, register: int) -> list[int]:
+    """A register, most often with a few undefined bits, of the lowest, the highest or all."""
+    value = source.choice((0, 1, 1 << 31, 1 << 63, ALL, source.getrandbits(64)))
+    bits, at = source.choice(((0, 0), (1, 0), (3, 2), (8, 28), (6, 56), (2, 62), (64, 0)))
+    undefined = source.getrandbits(bits) << at if bits else 0
+    return operand(register, value, undefined)
 
 
-@pytest.mark.parametrize(("name", "words"), UNLIKE)
-def test_differences_are_known(runner: Runner, name: str, words: list[int]) -> None:
-    """What differs is what the reference allows."""
+def drawn_rule(seed: int) -> list[int]:
+    """A program of one of these rows and a branch by its result or by its flags."""
+    source = random.Random(seed)
+    row, fields = ROWS_OF_RULES[seed % len(ROWS_OF_RULES)]
+    drawn = {name: source.choice(values) for name, values in fields.items()}
+    ends = [if_bit(source.choice((*LOW_BITS, *TAG_BITS, source.randrange(64))))]
+    ends.append(word("branch_cond", imm19=1, cond=source.randrange(CONDITIONS)))
+    is_of_flags = row == "cond_cmp" or bool(drawn.get("s")) and source.random() < 0.8
+    compared = [*drawn_operand(source, 3), word("add_sub_imm", sf=1, op=1, s=1, rn=3, rd=31)]
+    return flat(FRESH, drawn_operand(source, 1), drawn_operand(source, 2), compared,
+                word(row, rn=1, **drawn), ends[is_of_flags])
+
+
+@pytest.mark.parametrize("words", [words for _, words in RULES], ids=[name for name, _ in RULES])
+def test_rules(runner: Runner, words: list[int]) -> None:
+    """Bits and flags are undefined only where they depend on undefined bits."""
     moments, _ = runner.trace(words)
     possible, certain, _ = first_uses(moments)
     assert compare.differs(runner.check(words, "undefined"), possible, certain) is None
 
 
-@pytest.mark.xfail(strict=True, reason="--check=provenance judges no STZG")
-def test_cleared_granules(runner: Runner) -> None:
-    """STZG of a chunk's last granule writes past its size."""
-    words = flat(call(MALLOC, 40), copy(19, 0), word("st_g", opc=1, mode=2, imm9=2, rn=19, rt=19))
-    assert runner.check(words, "provenance").name == "Overflow"
+def test_drawn_rules(runner: Runner) -> None:
+    """As much for drawn operands and fields of these rows."""
+    names, found = set(), []
+    for seed in range(2 * DRAWN):
+        words = drawn_rule(seed)
+        moments, _ = runner.trace(words)
+        possible, certain, _ = first_uses(moments)
+        verdict = runner.check(words, "undefined")
+        names.add((seed % len(ROWS_OF_RULES), verdict.name))
+        differs = compare.differs(verdict, possible, certain)
+        found += [f"seed {seed}: {differs}: {verdict}, {certain}"] if differs else []
+    assert not found, "\n".join(found)
+    if DRAWN >= 200:
+        assert len(names) == 2 * len(ROWS_OF_RULES), names
+
+
+@pytest.mark.parametrize(("size", "opc", "granule", "found"), [
+    (40, 1, 2, "Overflow"), (40, 1, 1, None), (40, 3, 1, "Overflow"), (48, 3, 1, None),
+    (40, 1, 3, "Overflow"), (40, 1, -1, "Underflow"), (40, 0, 2, None),
+])
+def test_cleared_granules(runner: Runner, size: int, opc: int, granule: int,
+                          found: Optional[str]) -> None:
+    """STZG and STZ2G of a granule that ends past a chunk's size write past it, as they do before
+    its first; STG writes no bytes."""
+    words = flat(call(MALLOC, size), copy(19, 0),
+                 word("st_g", opc=opc, mode=2, imm9=granule, rn=19, rt=19))
+    moments, _ = runner.trace(words)
+    possible, certain, _ = first_findings(moments)
+    assert not possible and (certain and certain.name) == found
+    verdict = runner.check(words, "provenance")
+    assert compare.differs_of_pointers(verdict, possible, certain) is None
 
 
 FAULTS = {

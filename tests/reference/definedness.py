@@ -15,7 +15,7 @@ from tests.reference.decode import SP, Instruction, sign_extended
 from tests.reference.known import Known, Origins
 from tests.reference.moments import ALL, PLAIN, STACK_END, Moment, Service
 from tests.reference.numbers import is_equal_open, mask_of
-from tests.reference.rules import DIFFERENCES, RULES, TAG, Registers
+from tests.reference.rules import RULES, TAG, Registers
 
 STACK = range(STACK_END - 0x4000, STACK_END)
 EXIT, WRITE, READ, MALLOC, FREE, CALLOC, REALLOC, MEMALIGN, USABLE_SIZE = range(9)
@@ -38,8 +38,8 @@ class Use:
 class Definedness(Registers):
     """The undefined bits of the registers, the flags and the memory."""
 
-    def __init__(self, allowed: frozenset[str] = DIFFERENCES) -> None:
-        super().__init__(allowed)
+    def __init__(self) -> None:
+        super().__init__()
         # The stack is undefined as soon as SP has moved over it.
         self.memory = BitMemory()
         self.sizes: dict[int, int] = {}
@@ -207,10 +207,10 @@ class Definedness(Registers):
 
 
 def first_uses(
-    all_moments: Iterable[Moment], allowed: frozenset[str] = DIFFERENCES
+    all_moments: Iterable[Moment],
 ) -> tuple[list[Use], Optional[Use], Definedness]:
     """The uses that may be reported before the first that has to be, and that one."""
-    state, possible = Definedness(allowed), list[Use]()
+    state, possible = Definedness(), list[Use]()
     for moment in all_moments:
         for use in state.follow(moment):
             if use.is_certain:

@@ -128,6 +128,10 @@ class Provenance:
                                    access.is_load)
                 if found:
                     yield found
+        elif (places := accesses.cleared(moment)) and not accesses.is_by_stack(it):
+            found = self.judge(moment, self.registers[it["rn"]], places.start, len(places), False)
+            if found:
+                yield found
         elif moment.service and moment.service.number in (WRITE, READ):
             found = self.judge(moment, self.registers[0], moment.service.x0,
                                moment.service.result or 0, False)

@@ -14,24 +14,10 @@ TAG = 15 << 56
 LOW = (1 << 56) - 1
 
 
-# Limits of the page in which `mte_run` says more or less than it could. Each has a test that is
-# expected to fail.
-# Drawn programs may meet it.
-FLAGS_OF_A_SUM = "the flags of a sum with 0, with the least number or with undefined bits"
-SUBP = "a difference of pointers (SUBP) and its flags"
-COUNTS = "bits of CLZ and CLS"
-CCMP = "the flags of CCMP by an undefined condition, of undefined operands"
-GMI = "a mask with the tag of a pointer (GMI)"
-TAGS = "the tag that IRG and LDG give a pointer"
-DIFFERENCES = frozenset({FLAGS_OF_A_SUM, SUBP, COUNTS, CCMP, GMI, TAGS})
-
-
 class Registers:
-    """The undefined bits of the registers (31 is SP) and of the flags. Limits of `mte_run` may be
-    allowed."""
+    """The undefined bits of the registers (31 is SP) and of the flags."""
 
-    def __init__(self, allowed: frozenset[str] = DIFFERENCES) -> None:
-        self.allowed = allowed
+    def __init__(self) -> None:
         self.registers = [Known(0)] * 31 + [Known(STACK_END)]
         self.flags = Flags()
         # How often each rule was needed for bits that were not defined.
@@ -61,14 +47,9 @@ class Registers:
             self.rules[f"{it.row} by an undefined condition"] += 1
 
 
-def flags_of_sum(state: Registers, it: Instruction, x: Known, y: Known) -> Flags:
+def flags_of_sum(it: Instruction, x: Known, y: Known) -> Flags:
     """Those of ADDS and CMN, or of SUBS and CMP, where y is inverted."""
-    bits = it.bits
-    flags = conditions.of_sum(x, y, Known(it["op"]), bits, bool(it["op"]))
-    is_special = y.may or y.value in (0, 1 << bits - 1)
-    if not it["op"] and is_special and FLAGS_OF_A_SUM in state.allowed:
-        return conditions.widened(flags, x, y)
-    return flags
+    return conditions.of_sum(x, y, Known(it["op"]), it.bits, bool(it["op"]))
 
 
 def sum_or_difference(state: Registers, it: Instruction, x: Known, y: Known) -> Known:
@@ -78,7 +59,7 @@ def sum_or_difference(state: Registers, it: Instruction, x: Known, y: Known) -> 
         y = y.inverted(bits)
     carry = Known(it["op"])
     if it["s"]:
-        state.flags = flags_of_sum(state, it, x, y)
+        state.flags = flags_of_sum(it, x, y)
     return known.total(x, y, carry, bits)
 
 
@@ -207,11 +188,8 @@ def cond_cmp(state: Registers, moment: Moment, it: Instruction) -> None:
     if it["op"]:
         y = y.inverted(it.bits)
     x = state.read(it["rn"], it.bits)
-    compared, before = flags_of_sum(state, it, x, y), state.flags
-    state.flags = conditions.chosen(it["cond"], before, compared, it["nzcv"])
-    is_open = before.is_open(it["cond"]) or before.may_be_open(it["cond"])
-    if is_open and CCMP in state.allowed:
-        state.flags = conditions.widened(state.flags, x, y)
+    compared = flags_of_sum(it, x, y)
+    state.flags = conditions.chosen(it["cond"], state.flags, compared, it["nzcv"])
 
 
 def cond_sel(state: Registers, moment: Moment, it: Instruction) -> None:
@@ -228,11 +206,7 @@ def two_source(state: Registers, moment: Moment, it: Instruction) -> None:
 
 def one_source(state: Registers, moment: Moment, it: Instruction) -> None:
     """Reversals and counts."""
-    x = state.read(it["rn"], it.bits)
-    found = results.by_one(it, x)
-    if it["opcode"] > 3 and found.may and COUNTS in state.allowed:
-        found = known.combined(found.value, found.must, 127, x)
-    state.set(it["rd"], found)
+    state.set(it["rd"], results.by_one(it, state.read(it["rn"], it.bits)))
 
 
 def mul_add(state: Registers, moment: Moment, it: Instruction) -> None:
@@ -271,18 +245,13 @@ def sub_p(state: Registers, moment: Moment, it: Instruction) -> None:
     y = y.inverted(64)
     if it["s"]:
         state.flags = conditions.of_sum(x, y, Known(1), 64, True)
-    found = known.total(x, y, Known(1), 64)
-    if SUBP in state.allowed and known.any_of(x, y):
-        state.flags = conditions.widened(state.flags, x, y) if it["s"] else state.flags
-        found = known.combined(found.value, found.must, ALL, x, y)
-    state.set(it["rd"], found)
+    state.set(it["rd"], known.total(x, y, Known(1), 64))
 
 
 def irg(state: Registers, moment: Moment, it: Instruction) -> None:
     """Another tag in a pointer."""
     x, y = state.base(it["rn"]), state.read(it["rm"])
-    kept = x.may if TAGS in state.allowed else x.may & ~TAG
-    may = kept | (TAG if y.may else 0)
+    may = x.may & ~TAG | (TAG if y.may else 0)
     state.registers[it["rd"]] = known.combined(
         moment.after[it["rd"]], x.must & ~TAG, may, x, y)
 
@@ -290,17 +259,16 @@ def irg(state: Registers, moment: Moment, it: Instruction) -> None:
 def gmi(state: Registers, moment: Moment, it: Instruction) -> None:
     """A mask with the tag of a pointer."""
     x, y = state.base(it["rn"]), state.read(it["rm"])
-    may = y.may | (0xFFFF if x.may & TAG else 0)
     given = 0xFFFF if x.may & TAG else 1 << (x.value >> 56 & 15)
-    must = 0 if GMI in state.allowed else y.must & ~given
-    state.set(it["rd"], known.combined(moment.after[it["rd"]], must, may, x, y))
+    may = y.may | 0xFFFF if x.may & TAG else y.may & ~given
+    state.set(it["rd"], known.combined(moment.after[it["rd"]], y.must & ~given, may, x, y))
 
 
 def ldg(state: Registers, moment: Moment, it: Instruction) -> None:
     """The tag of a granule, in a pointer."""
     old = state.read(it["rt"])
-    may = old.may if TAGS in state.allowed else old.may & ~TAG
-    state.set(it["rt"], known.combined(moment.after[it["rt"]], old.must & ~TAG, may, old))
+    state.set(it["rt"], known.combined(moment.after[it["rt"]], old.must & ~TAG, old.may & ~TAG,
+                                       old))
 
 
 Rule = Callable[[Registers, Moment, Instruction], None]

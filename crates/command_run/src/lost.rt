@@ -2,7 +2,7 @@
 
 use a64_bits::plain;
 use common::{IMAGE_END, PAGE_SIZE, STACK_END, STACK_START};
-use mte_flat::{Flat, MappedPage};
+use mte_flat::Flat;
 use mte_svc::TenantParts;
 use mte_tags::Attrs;
 use mte_tenant::Status;
@@ -24,40 +24,36 @@ pub fn lost_chunks(
     if !is_exit || observer.finding().is_some() || !checker.kinds().leaks {
         return Ok(Vec::new(alloc));
     }
-    let roots = root_ranges(alloc, parts.regs.sp, memory)?;
     let shadow = checker.shadow();
+    let mut roots = image_ranges(alloc, memory)?;
+    checker.enter_stack_words(first_stack(parts.regs.sp), &mut roots)?;
+    if let Some(range) = shadow.stack_words(parts.regs.sp) {
+        checker.enter_stack_words(range, &mut roots)?;
+    }
     let table = ReachTable::of(alloc, shadow, &parts.regs, roots.as_slice(), memory)?;
     table.lost(alloc, shadow)
 }
 
-/// The writable pages of the image, and those of the stack from SP on.
-fn root_ranges(alloc: Global, sp: u64, memory: &Flat) -> Result<Vec<RootRange>, AllocError> {
+/// The writable pages of the image, whose words are the tenant's own variables.
+fn image_ranges(alloc: Global, memory: &Flat) -> Result<Vec<RootRange>, AllocError> {
     let mut roots = Vec::new(alloc);
     let pages = memory.mapped_pages(alloc)?;
     for page in &pages {
-        if let Some(range) = root_range(page, plain(sp)) {
-            roots.push(range)?;
+        let start = page.number.saturating_mul(PAGE_SIZE);
+        let end = start.saturating_add(PAGE_SIZE);
+        if page.attrs.contains(Attrs::WRITE) && end <= IMAGE_END {
+            roots.push(RootRange { start, end })?;
         }
     }
     Ok(roots)
 }
 
-/// The part of a page whose words are the tenant's own variables.
-fn root_range(page: &MappedPage, sp: u64) -> Option<RootRange> {
-    let start = page.number.saturating_mul(PAGE_SIZE);
-    let end = start.saturating_add(PAGE_SIZE);
-    if !page.attrs.contains(Attrs::WRITE) {
-        None
-    } else if end <= IMAGE_END {
-        Some(RootRange { start, end })
-    } else if start >= STACK_START && STACK_START <= sp && sp <= STACK_END {
-        Some(RootRange {
-            start: start.max(sp),
-            end,
-        })
-    } else if start >= STACK_START {
-        Some(RootRange { start, end })
-    } else {
-        None
+/// The stack that the tenant started with: from SP on, where that is in it, else all of it.
+fn first_stack(sp: u64) -> RootRange {
+    let addr = plain(sp);
+    let is_in_stack = STACK_START <= addr && addr <= STACK_END;
+    RootRange {
+        start: if is_in_stack { addr } else { STACK_START },
+        end: STACK_END,
     }
 }

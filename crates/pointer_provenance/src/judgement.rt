@@ -2,9 +2,10 @@
 
 use crate::chunk_table::TracedChunk;
 use crate::shadow::{Shadow, is_in_heap};
-use a64_access::{AccessForm, AddressingMode};
+use a64_access::{AccessForm, AccessKind, AddressingMode};
 use a64_bits::plain;
 use a64_instr::fields::RegisterOffset;
+use a64_registers::Regs;
 use common::PAGE_SIZE;
 use shadow_memory::{AccessedBytes, HeapFunction, OriginKind, PointerOrigin, Sign, Step};
 use std::alloc::AllocError;
@@ -54,8 +55,11 @@ impl Shadow {
         step: &Step<'_>,
         is_completed: bool,
     ) -> Result<Option<Misuse>, AllocError> {
-        let (Some(form), Some(access)) = (&step.form, &step.access) else {
+        let Some(form) = &step.form else {
             return Ok(None);
+        };
+        let Some(access) = &step.access else {
+            return self.judge_zeros(form, step.before, is_completed);
         };
         let origin = self.address_origin(form)?;
         if origin == PointerOrigin::STACK || !(is_completed || origin.chunk().is_some()) {
@@ -66,6 +70,29 @@ impl Shadow {
             return Ok(found);
         }
         Ok(self.judge_bytes(origin, access.bytes.next()))
+    }
+
+    /// The misuse by an instruction that stores zeros with tags: by all bytes of its granules.
+    fn judge_zeros(
+        &mut self,
+        form: &AccessForm,
+        regs: &Regs,
+        is_completed: bool,
+    ) -> Result<Option<Misuse>, AllocError> {
+        if !matches!(form.kind, AccessKind::StoreZeros) {
+            return Ok(None);
+        }
+        let origin = self.address_origin(form)?;
+        if origin == PointerOrigin::STACK || !(is_completed || origin.chunk().is_some()) {
+            return Ok(None);
+        }
+        let zeros = AccessedBytes {
+            addr: form.addr(regs),
+            count: form.len(),
+            is_write: true,
+            is_register: false,
+        };
+        Ok(self.judge_bytes(origin, zeros))
     }
 
     /// Where the pointer points by which an instruction accesses memory.

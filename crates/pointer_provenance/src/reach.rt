@@ -48,9 +48,27 @@ pub struct LostChunk {
     pub is_indirect: bool,
 }
 
+impl Shadow {
+    /// The words of the live chunk that the stack is in, if it is in one: from SP on, where that is
+    /// in the chunk, else all.
+    pub fn stack_words(&self, sp: u64) -> Option<RootRange> {
+        let chunk = self.chunks.get(self.stack?)?;
+        if !chunk.is_live {
+            return None;
+        }
+        let (start, end, addr) = (chunk.start(), chunk.end(), plain(sp));
+        let is_in_chunk = start <= addr && addr <= end;
+        Some(RootRange {
+            start: if is_in_chunk { addr } else { start },
+            end,
+        })
+    }
+}
+
 impl ReachTable {
     /// How the chunks of a tenant are reached that ended, from its registers and the words of
-    /// ranges.
+    /// ranges. The chunk that its stack is in is reached, but none of its words is looked at that
+    /// is in no range: those below SP are of functions that have returned.
     pub fn of<M: Tagged>(
         alloc: Global,
         shadow: &Shadow,
@@ -62,8 +80,8 @@ impl ReachTable {
             states: vec![in alloc; Reach::Nothing; shadow.chunks.len()]?,
             waiting: Vec::new(alloc),
         };
+        table.enter_stack(shadow);
         table.enter_registers(shadow, regs)?;
-        table.enter_stack(shadow, regs.sp, memory)?;
         for range in roots {
             table.scan(shadow, range, Reach::Reachable, memory)?;
         }
@@ -111,28 +129,14 @@ impl ReachTable {
         Ok(())
     }
 
-    /// Enters the chunk that the stack is in, if it is in one, and what its words from SP on point
-    /// into.
-    fn enter_stack<M: Tagged>(
-        &mut self,
-        shadow: &Shadow,
-        sp: u64,
-        memory: &mut M,
-    ) -> Result<(), AllocError> {
+    /// Enters the chunk that the stack is in, if it is in one, so that its words do not wait.
+    fn enter_stack(&mut self, shadow: &Shadow) {
         let Some(index) = shadow.stack else {
-            return Ok(());
+            return;
         };
         if let Some(state) = self.states.get_mut(index) {
             *state = Reach::Reachable;
         }
-        let Some(chunk) = shadow.chunks.get(index) else {
-            return Ok(());
-        };
-        let range = RootRange {
-            start: plain(sp).max(chunk.start()),
-            end: chunk.end(),
-        };
-        self.scan(shadow, &range, Reach::Reachable, memory)
     }
 
     /// Enters that a chunk is lost, and those that it leads to.

@@ -10,6 +10,7 @@ mod exact;
 mod families;
 mod jump;
 mod quick_check;
+mod stack_words;
 mod terms;
 mod violation;
 

@@ -1,13 +1,15 @@
 //! The rules for undefined bits of instructions that choose by a condition, or take a carry.
 
-use crate::register_rules::{SumOperands, mask};
+use crate::register_rules::{SumOperands, flags_set_by, mask};
 use crate::state::UndefinedBits;
-use a64_bits::{Flags, add_with_carry};
+use a64_bits::Flags;
 use a64_instr::Instr;
 use a64_registers::conditions::condition_holds;
-use a64_registers::operands::{inverted, size_of_operands, truncate};
+use a64_registers::operands::truncate;
 use shadow_memory::Step;
-use undefined_values::{BitOperand, FlagState, UndefinedValue, difference, from_lowest, sum};
+use undefined_values::{
+    BitOperand, FlagState, SetFlags, UndefinedOrigin, UndefinedValue, difference, from_lowest, sum,
+};
 
 /// The condition that the carry is set.
 const CARRY_SET: u8 = 2;
@@ -77,12 +79,7 @@ impl UndefinedBits {
             origin: self.register(rn).origin_or(other),
         };
         let state = match self.flags().undefined_origin(cond % 16) {
-            Some(origin) => match operands.flags() {
-                FlagState::Defined => {
-                    FlagState::Either(compared_flags(&operands), flags_of(nzcv), origin)
-                }
-                _ => FlagState::Undefined(origin),
-            },
+            Some(origin) => either(&operands, flags_of(nzcv), origin),
             None if condition_holds(step.before.flags, cond % 16) => operands.flags(),
             None => FlagState::Defined,
         };
@@ -142,16 +139,22 @@ fn altered(sf: u8, op: u8, o2: u8, y: BitOperand) -> BitOperand {
     }
 }
 
-/// The flags of a comparison of defined values.
-fn compared_flags(operands: &SumOperands) -> Flags {
-    let sf = operands.sf;
-    let (x, y) = (
-        truncate(sf, operands.x.value),
-        truncate(sf, operands.y.value),
-    );
-    let is_difference = operands.op == 1;
-    let y = if is_difference { inverted(sf, y) } else { y };
-    add_with_carry(x, y, is_difference, size_of_operands(sf)).flags
+/// The facts about flags that are those of a sum or a difference, or others.
+fn either(operands: &SumOperands, other: Flags, origin: UndefinedOrigin) -> FlagState {
+    let one = flags_set_by(operands);
+    let state = operands.flags();
+    if matches!(state, FlagState::Defined) {
+        return FlagState::Either(one, other, origin);
+    }
+    let open = state.undefined_flags();
+    let undefined = Flags {
+        n: open.n || one.n != other.n,
+        z: open.z || one.z != other.z,
+        c: open.c || one.c != other.c,
+        v: open.v || one.v != other.v,
+    };
+    let flags = other;
+    FlagState::Partly(SetFlags { flags, undefined }, origin)
 }
 
 /// The flags of a number of four bits.

@@ -13,6 +13,7 @@ mod quick;
 mod register_rules;
 mod services;
 mod state;
+mod tag_rules;
 
 pub use arithmetic_fault::{ArithmeticFault, ArithmeticKind};
 pub use judgement::{UndefinedUse, UseKind};

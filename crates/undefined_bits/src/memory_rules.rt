@@ -17,7 +17,7 @@ impl UndefinedBits {
         match &step.access {
             Some(access) if access.bytes.is_write => self.note_store(access)?,
             Some(access) => self.note_load(access, form.extension),
-            None => self.note_zeros(form, step.before)?,
+            None => self.note_tags(form, step.before)?,
         }
         Ok(true)
     }
@@ -58,11 +58,18 @@ impl UndefinedBits {
         extended_load(found, extension, count)
     }
 
+    /// Notes a load of a tag, or the zeros that are stored with tags.
+    fn note_tags(&mut self, form: &AccessForm, regs: &Regs) -> Result<(), AllocError> {
+        match form.kind {
+            AccessKind::LoadTag => self.note_loaded_tag(form.first),
+            AccessKind::StoreZeros => return self.note_zeros(form, regs),
+            _ => {}
+        }
+        Ok(())
+    }
+
     /// Notes the zeros that are stored with tags.
     fn note_zeros(&mut self, form: &AccessForm, regs: &Regs) -> Result<(), AllocError> {
-        if !matches!(form.kind, AccessKind::StoreZeros) {
-            return Ok(());
-        }
         let start = plain(form.addr(regs));
         let end = start.saturating_add(form.len());
         self.memory.fill(start, end, UndefinedValue::DEFINED)

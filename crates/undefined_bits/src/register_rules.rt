@@ -1,13 +1,15 @@
 //! The rules of instructions that work on registers for undefined bits.
 
 use crate::state::UndefinedBits;
-use a64_bits::{bit_masks, extract, move_field, reverse_bits, reverse_bytes};
+use a64_bits::{
+    Flags, add_with_carry, bit_masks, extract, move_field, reverse_bits, reverse_bytes,
+};
 use a64_instr::Instr;
-use a64_registers::operands::{extend, shift_by, size_of_operands, truncate};
+use a64_registers::operands::{extend, inverted, shift_by, size_of_operands, truncate};
 use shadow_memory::Step;
 use undefined_values::{
-    BitOperand, Comparison, FlagState, UndefinedOrigin, UndefinedValue, all_if, and, between,
-    difference, from_lowest, or, product, sum,
+    BitOperand, Comparison, FlagState, SetFlags, UndefinedOrigin, UndefinedValue, all_if, and,
+    difference, from_lowest, leading_signs, leading_zeros, or, product, sum, undefined_in_sum,
 };
 
 /// A sum or a difference of two values, and of what their undefined bits are a part.
@@ -37,7 +39,7 @@ impl SumOperands {
     }
 
     /// The facts about the flags that it sets. A sum with a number is a comparison with that
-    /// number's negative, unless it is 0 or has no negative.
+    /// number's negative, unless it is 0 or has no negative: of other sums each flag is known.
     pub(crate) fn flags(&self) -> FlagState {
         if self.x.undefined | self.y.undefined == 0 {
             return FlagState::Defined;
@@ -49,10 +51,18 @@ impl SumOperands {
         } else if is_number {
             BitOperand::defined(truncate(self.sf, self.y.value.wrapping_neg()))
         } else {
-            return FlagState::Undefined(self.origin);
+            return FlagState::Partly(self.flags_of_sum(), self.origin);
         };
         let x = self.x;
         FlagState::Compared(Comparison { x, y, sign }, self.origin)
+    }
+
+    /// The flags that a sum sets.
+    fn flags_of_sum(&self) -> SetFlags {
+        SetFlags {
+            flags: flags_set_by(self),
+            undefined: undefined_in_sum(self.x, self.y, sign_of(self.sf)),
+        }
     }
 }
 
@@ -306,8 +316,7 @@ impl UndefinedBits {
         self.set(rd, UndefinedValue::of(truncate(sf, bits), origin));
     }
 
-    /// Notes a reversal or a count of bits. A count is defined where the bits above the first that
-    /// ends it are.
+    /// Notes a reversal or a count of bits.
     fn note_one_source(&mut self, step: &Step<'_>) {
         let Instr::OneSource { sf, opcode, rn, rd } = *step.instr else {
             return;
@@ -320,8 +329,8 @@ impl UndefinedBits {
             1 => reverse_bytes(truncate(sf, x.undefined), 2, size),
             2 => reverse_bytes(truncate(sf, x.undefined), 4, size),
             3 if sf == 1 => reverse_bytes(x.undefined, 8, 64),
-            4 => count_bits(x, size),
-            _ => 0x7f,
+            4 => leading_zeros(x, size),
+            _ => leading_signs(x, size),
         };
         self.set(
             rd,
@@ -366,35 +375,31 @@ impl UndefinedBits {
         self.set(rd, UndefinedValue::of(truncate(sf, bits), origin));
     }
 
-    /// Notes other instructions: those for pointers keep what the pointer has, and the rest leave
-    /// what is defined.
+    /// Notes other instructions: some for pointers, and the rest leave what is defined.
     fn note_other(&mut self, step: &Step<'_>) {
         match *step.instr {
-            Instr::AddG { rn, rd, .. } | Instr::Irg { rn, rd, .. } => {
-                let value = self.register(rn);
-                self.set(rd, value);
+            Instr::AddG { .. } | Instr::Irg { .. } | Instr::Gmi { .. } | Instr::SubP { .. } => {
+                self.note_pointers(step)
             }
-            Instr::SubP { s, rm, rn, rd } => {
-                let (x, y) = (self.register(rn), self.register(rm));
-                let value = UndefinedValue::of(all_if(x.bits | y.bits), x.origin_or(y));
-                self.set(rd, value);
-                if s == 1 {
-                    self.set_flags(if value.is_defined() {
-                        FlagState::Defined
-                    } else {
-                        FlagState::Undefined(value.origin)
-                    });
-                }
-            }
-            Instr::Adr { rd, .. } | Instr::Gmi { rd, .. } => {
-                self.set(rd, UndefinedValue::DEFINED);
-            }
+            Instr::Adr { rd, .. } => self.set(rd, UndefinedValue::DEFINED),
             Instr::Branch { op: 1, .. } | Instr::BranchReg { opc: 1, .. } => {
                 self.set(30, UndefinedValue::DEFINED);
             }
             _ => {}
         }
     }
+}
+
+/// The flags that a sum or a difference sets, of the values that there happen to be.
+pub(crate) fn flags_set_by(operands: &SumOperands) -> Flags {
+    let sf = operands.sf;
+    let (x, y) = (
+        truncate(sf, operands.x.value),
+        truncate(sf, operands.y.value),
+    );
+    let is_difference = operands.op == 1;
+    let y = if is_difference { inverted(sf, y) } else { y };
+    add_with_carry(x, y, is_difference, size_of_operands(sf)).flags
 }
 
 /// The sign bit of operands.
@@ -449,14 +454,6 @@ fn extended(sf: u8, operand: BitOperand, option: u8, left: u8) -> BitOperand {
     let value = extend(option % 8, operand.value).wrapping_shl(left);
     let undefined = extend(option % 8, operand.undefined).wrapping_shl(left);
     truncate_operand(sf, BitOperand { value, undefined })
-}
-
-/// The undefined bits of a count of leading zeros.
-fn count_bits(x: BitOperand, size: u32) -> u64 {
-    let more = u64::from(x.least().leading_zeros());
-    let fewer = u64::from(x.greatest().leading_zeros());
-    let above = u64::from(64u32.saturating_sub(size));
-    between(more.saturating_sub(above), fewer.saturating_sub(above))
 }
 
 /// The mask that a logical immediate encodes.

@@ -79,6 +79,11 @@ impl UndefinedBits {
         }
     }
 
+    /// Whether no bit of the word at a plain address was given a value.
+    pub fn has_no_value(&self, addr: u64) -> bool {
+        self.memory.load(addr, 8).bits == u64::MAX
+    }
+
     /// The state of the flags.
     pub(crate) fn flags(&self) -> FlagState {
         if self.undefined & RegisterUse::FLAGS == 0 {

@@ -39,7 +39,7 @@ impl BitOperand {
     }
 
     /// Whether it is 0 and defined.
-    fn is_zero(self) -> bool {
+    pub(crate) fn is_zero(self) -> bool {
         self.value | self.undefined == 0
     }
 
@@ -84,16 +84,6 @@ pub fn product(x: BitOperand, y: BitOperand) -> u64 {
 /// All bits from the lowest that is set on.
 pub fn from_lowest(bits: u64) -> u64 {
     bits | bits.wrapping_neg()
-}
-
-/// The undefined bits of a number that lies between two, both included: those up to the highest in
-/// which they differ.
-pub fn between(one: u64, other: u64) -> u64 {
-    let zeros = (one ^ other).leading_zeros();
-    if zeros >= 64 {
-        return 0;
-    }
-    u64::MAX.wrapping_shr(zeros)
 }
 
 /// All 64 bits where some are set.

@@ -7,9 +7,11 @@ mod bit_memory;
 mod bit_page;
 mod bit_rules;
 mod condition;
+mod counts;
 mod origin;
 
 pub use bit_memory::BitMemory;
-pub use bit_rules::{BitOperand, all_if, and, between, difference, from_lowest, or, product, sum};
-pub use condition::{Comparison, FlagState};
+pub use bit_rules::{BitOperand, all_if, and, difference, from_lowest, or, product, sum};
+pub use condition::{Comparison, FlagState, SetFlags, undefined_in_sum};
+pub use counts::{leading_signs, leading_zeros};
 pub use origin::{UndefinedOrigin, UndefinedPlace, UndefinedValue};
