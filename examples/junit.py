@@ -16,6 +16,9 @@ import tempfile
 import time
 import xml.etree.ElementTree as xml
 
+sys.path.insert(0, str(pathlib.Path(__file__).resolve().parent))
+from command_line import Parser  # noqa: E402
+
 
 def plain(text: bytes) -> str:
     """What a document may have: printable characters of ASCII and newlines, others as \\xHH."""
@@ -44,8 +47,7 @@ def add_case(suite: xml.Element, program: str, options: list[str], image: str) -
 
 
 def main() -> int:
-    form = argparse.RawDescriptionHelpFormatter
-    parser = argparse.ArgumentParser(description=__doc__, formatter_class=form)
+    parser = Parser(__doc__)
     parser.add_argument("--run", default="mte_run")
     parser.add_argument("--option", action="append", default=[])
     parser.add_argument("image", nargs="+")

@@ -14,6 +14,9 @@ import re
 import subprocess
 import sys
 
+sys.path.insert(0, str(pathlib.Path(__file__).resolve().parents[1]))
+from command_line import Parser  # noqa: E402
+
 # The exit statuses by which mte_run tells of a crash are those of signals.
 SIGNAL = 128
 STACK = re.compile(r"\s+(allocated|freed) by call")
@@ -46,7 +49,7 @@ def places(report: str) -> dict[str, list[str]]:
 
 def main() -> None:
     """The command line."""
-    parser = argparse.ArgumentParser(usage=__doc__)
+    parser = Parser(__doc__)
     parser.add_argument("image", type=pathlib.Path)
     parser.add_argument("crash", nargs="+", type=pathlib.Path)
     parser.add_argument("--times", type=int, default=1000)
