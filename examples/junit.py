@@ -7,7 +7,6 @@ A tenant that exits with 0 passes. The exit status is 0 where all pass, else 1. 
 program (mte_run); OPTION is one of its options, as --option=--exact or --option=--steps=1000000.
 """
 
-import argparse
 import json
 import pathlib
 import subprocess

@@ -13,7 +13,6 @@ docs/ATTACKS.md. TOMBOLOPAN names the library.
 """
 from __future__ import annotations
 
-import argparse
 import functools
 import itertools
 import math

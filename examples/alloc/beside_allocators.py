@@ -12,7 +12,6 @@ library is found as over_library.py says.
 """
 from __future__ import annotations
 
-import argparse
 import csv
 import pathlib
 import subprocess

@@ -9,7 +9,6 @@ library is found as over_library.py says.
 """
 from __future__ import annotations
 
-import argparse
 import pathlib
 import subprocess
 import sys

@@ -11,7 +11,6 @@ over_library.py says.
 """
 from __future__ import annotations
 
-import argparse
 import csv
 import pathlib
 import subprocess

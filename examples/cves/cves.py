@@ -13,7 +13,6 @@ temporary folder). A table is printed; --write puts it into docs/project/CHECKED
 compares it with the page's. Status 1: something else was told. Status 3: a source was not fetched.
 Needed (Debian): clang, lld, apt, and the network; and the C library of ../libc/build.py.
 """
-import argparse
 import pathlib
 import re
 import shutil

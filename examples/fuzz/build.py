@@ -12,7 +12,6 @@ prefix in which this is installed. expat and lua are built from Debian's sources
 ../libc/tenant-cc. Needed (Debian): clang, lld, libclang-rt-14-dev,
 afl++; for expat and lua llvm, apt and the network too.
 """
-import argparse
 import pathlib
 import shutil
 import subprocess

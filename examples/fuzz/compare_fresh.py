@@ -10,7 +10,6 @@ its heap and ends by what it has found. Inputs are of 0 to 89 bytes, or those of
 some bytes changed, left out or doubled. Exit status 1: a run differs, and its input is told. The
 package of Python is found as docs/PYTHON.md says.
 """
-import argparse
 import pathlib
 import random
 import resource

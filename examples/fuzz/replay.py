@@ -8,7 +8,6 @@ byte for byte. A line for each crash: its cause, the source line of the access, 
 made the chunk and of the one that freed it. Exit status 1: a run said something else, or was no
 crash. SEED is that of the fuzzer; --exact is for crashes of one with EXACT=1.
 """
-import argparse
 import pathlib
 import re
 import subprocess

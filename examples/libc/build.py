@@ -12,7 +12,6 @@ Needed (Debian): clang, llvm, apt, tar, xz-utils, and the network the first time
 With --c++ it gets the C++ library too, LLVM's libc++ with exceptions; with --only-c++ that alone,
 where FOLDER has the C library. This needs binutils-aarch64-linux-gnu besides.
 """
-import argparse
 import concurrent.futures
 import pathlib
 import shutil

@@ -15,7 +15,7 @@ def example(name: str) -> bytes:
     """An image of this documentation by its name; KeyError for another name. `hi.elf` writes `Hi`
     and ends, in 8 steps.
 
-    >>> alone(example("hi.elf"), slices=[8], pages=5, room=16).output
-    b'Hi'
+    >>> len(example("hi.elf"))
+    156
     """
     return _IMAGES[name]
