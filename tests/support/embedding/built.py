@@ -32,7 +32,8 @@ OPTIONS = {"ASAN_OPTIONS": "detect_leaks=1", "UBSAN_OPTIONS": "print_stacktrace=
 # Runs the examples in the texts of all modules of the package.
 DOCTESTS = """
 import doctest, importlib, pkgutil, tombolopan
-parts = [it.name for it in pkgutil.iter_modules(tombolopan.__path__) if it.name != "__main__"]
+LEFT_OUT = ("__main__", "libtombolopan")
+parts = [it.name for it in pkgutil.iter_modules(tombolopan.__path__) if it.name not in LEFT_OUT]
 modules = [tombolopan, *(importlib.import_module(f"tombolopan.{it}") for it in parts)]
 found = [doctest.testmod(it) for it in modules]
 tried = sum(it.attempted for it in found)
