@@ -22,12 +22,12 @@ class NotCompiled(Exception):
 
 def prefix() -> pathlib.Path:
     """The folder with `include`: of this checkout, or the prefix in which it is installed."""
-    return TOP if (TOP / "crates.txt").exists() else TOP.parents[1]
+    return TOP if (TOP / "include").is_dir() else TOP.parents[1]
 
 
 def archive() -> pathlib.Path:
     """The static library of this checkout or prefix, which may not be there."""
-    if (TOP / "crates.txt").exists():
+    if prefix() == TOP:
         return TOP / "crates" / "tombolopan_c" / "out" / "libtombolopan_c.a"
     lib = prefix() / "lib"
     return next(iter(sorted(lib.glob(f"*/{INSTALLED}"))), lib / INSTALLED)

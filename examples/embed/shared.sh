@@ -7,7 +7,7 @@
 # Needed to link: cc, and the toolchain's rt.
 set -euo pipefail
 here=$(cd "$(dirname "$0")" && pwd)
-# shellcheck source-path=SCRIPTDIR/..
+# shellcheck source=examples/command_line.sh
 source "$here/../command_line.sh"
 show_help "$0" "$@"
 refuse_options 2 "$@"

@@ -11,7 +11,7 @@
 # than out for what is built.
 set -euo pipefail
 here=$(cd "$(dirname "$0")" && pwd)
-# shellcheck source-path=SCRIPTDIR/..
+# shellcheck source=examples/command_line.sh
 source "$here/../command_line.sh"
 show_help "$0" "$@"
 refuse_options 1000 "$@"

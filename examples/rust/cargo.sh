@@ -9,7 +9,7 @@
 # /usr/bin/cargo, TENANT_ALONE another mte_run; RUSTC, TENANT_LIBRARY and TENANT_OUT are build.sh's.
 set -euo pipefail
 here=$(cd "$(dirname "${BASH_SOURCE[0]}")" && pwd)
-# shellcheck source-path=SCRIPTDIR/..
+# shellcheck source=examples/command_line.sh
 source "$here/../command_line.sh"
 show_help "$0" "$@"
 [[ ${1:-} != -* ]] || refuse "a command of cargo comes first, not $1"
