@@ -10,6 +10,8 @@ import struct
 import sys
 from collections.abc import Sequence
 
+import command_line
+
 ENTRY = 0x10000
 READ_EXECUTE, READ_WRITE = 5, 6
 
@@ -33,14 +35,13 @@ def image(words: Sequence[int], data: Sequence[tuple[int, int]] = ()) -> bytes:
 
 
 def main() -> None:
-    if len(sys.argv) < 3:
-        sys.exit(__doc__)
+    path, *listed = command_line.read_words(__doc__, 2)
     try:
-        words = [int(word, 16) for word in sys.argv[2:]]
+        words = [int(word, 16) for word in listed]
         body = image(words)
     except (ValueError, struct.error):
         sys.exit("build_image.py: a WORD isn't 8 hexadecimal digits")
-    with open(sys.argv[1], "wb") as out:
+    with open(path, "wb") as out:
         out.write(body)
 
 

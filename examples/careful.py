@@ -21,6 +21,7 @@ from typing import Optional, Union
 
 sys.path.insert(0, str(pathlib.Path(__file__).resolve().parent))
 import build_image  # noqa: E402
+import command_line  # noqa: E402
 
 Words = list[int]
 Argument = Union[int, list[int], None]  # a number, or a register in a list
@@ -223,10 +224,9 @@ def run(path: str, folder: str, seed: int, is_written: bool) -> list[str]:
 
 
 def main() -> None:
-    is_written = sys.argv[1:2] == ["--written"]
-    words = sys.argv[1 + is_written:]
-    if not words or words[0].startswith("-"):
-        sys.exit(__doc__)
+    words = command_line.read_words(__doc__, 1, 4, ["--written"])
+    is_written = words[0] == "--written"
+    words = [word for word in words if word != "--written"]
     count, first, jobs = [int(word) for word in words[1:]] + [1000, 1, 1][len(words) - 1:]
     path = os.path.abspath(words[0])
     failed = 0

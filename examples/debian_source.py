@@ -18,6 +18,8 @@ import tempfile
 from collections.abc import Sequence
 from typing import Union
 
+import command_line
+
 SECONDS = 900
 
 
@@ -104,10 +106,9 @@ def fetch(where: Union[str, pathlib.Path], package: str,
 
 
 def main() -> None:
-    if len(sys.argv) < 3:
-        sys.exit(__doc__)
+    folder, package, *parts = command_line.read_words(__doc__, 2)
     try:
-        fetch(sys.argv[1], sys.argv[2], sys.argv[3:])
+        fetch(folder, package, parts)
     except NotFetched as error:
         sys.exit(f"debian_source.py: {error}")
 

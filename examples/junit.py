@@ -7,7 +7,6 @@ A tenant that exits with 0 passes. The exit status is 0 where all pass, else 1. 
 program (mte_run); OPTION is one of its options, as --option=--exact or --option=--steps=1000000.
 """
 
-import argparse
 import json
 import pathlib
 import subprocess
@@ -15,6 +14,9 @@ import sys
 import tempfile
 import time
 import xml.etree.ElementTree as xml
+
+sys.path.insert(0, str(pathlib.Path(__file__).resolve().parent))
+from command_line import Parser  # noqa: E402
 
 
 def plain(text: bytes) -> str:
@@ -44,8 +46,7 @@ def add_case(suite: xml.Element, program: str, options: list[str], image: str) -
 
 
 def main() -> int:
-    form = argparse.RawDescriptionHelpFormatter
-    parser = argparse.ArgumentParser(description=__doc__, formatter_class=form)
+    parser = Parser(__doc__)
     parser.add_argument("--run", default="mte_run")
     parser.add_argument("--option", action="append", default=[])
     parser.add_argument("image", nargs="+")

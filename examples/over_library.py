@@ -9,6 +9,10 @@ from collections.abc import Sequence
 
 TOP = pathlib.Path(__file__).resolve().parents[1]
 SONAME = "libtombolopan.so.2"
+# The static library of a prefix, which has the heap that the one of a checkout lacks.
+INSTALLED = "libtombolopan.a"
+ARCHIVE_MAKER = ("tools/build.sh [--unproved] --only libtombolopan_c.a makes it, "
+                 "Debian's libtombolopan-dev has it")
 FLAGS = ("-O3", "-std=c11", "-Wall", "-Wextra")
 
 
@@ -16,14 +20,29 @@ class NotCompiled(Exception):
     """A program was not compiled, with the reason."""
 
 
+def prefix() -> pathlib.Path:
+    """The folder with `include`: of this checkout, or the prefix in which it is installed."""
+    return TOP if (TOP / "include").is_dir() else TOP.parents[1]
+
+
+def archive() -> pathlib.Path:
+    """The static library of this checkout or prefix, which may not be there."""
+    if prefix() == TOP:
+        return TOP / "crates" / "tombolopan_c" / "out" / "libtombolopan_c.a"
+    lib = prefix() / "lib"
+    return next(iter(sorted(lib.glob(f"*/{INSTALLED}"))), lib / INSTALLED)
+
+
 def library() -> pathlib.Path | None:
-    """The shared object that TOMBOLOPAN names, else that of this checkout; none where it is the
-    system's."""
+    """The shared object that TOMBOLOPAN names, else that of this checkout or prefix; none where it
+    is the system's."""
     named = os.environ.get("TOMBOLOPAN")
-    path = pathlib.Path(named) if named else TOP / "examples" / "embed" / "libtombolopan.so"
-    if named and not path.exists():
-        raise NotCompiled(f"{path} is not there (examples/embed/shared.sh makes it)")
-    return path.resolve() if path.exists() else None
+    if named and not pathlib.Path(named).exists():
+        raise NotCompiled(f"{named} is not there (examples/embed/shared.sh makes it)")
+    near = TOP / "examples" / "embed" / "libtombolopan.so"
+    installed = prefix() / "lib" / "libtombolopan.so"
+    found = [pathlib.Path(named)] if named else [it for it in (near, installed) if it.exists()]
+    return found[0].resolve() if found else None
 
 
 def compile_program(
@@ -37,7 +56,7 @@ def compile_program(
         near = folder / SONAME
         if not near.exists():
             near.symlink_to(found)
-    words = [*shlex.split(os.environ.get("CC", "cc")), *FLAGS, f"-I{TOP / 'include'}", *more]
+    words = [*shlex.split(os.environ.get("CC", "cc")), *FLAGS, f"-I{prefix() / 'include'}", *more]
     try:
         subprocess.run([*words, "-o", str(program), str(source), *link], check=True)
     except (OSError, subprocess.CalledProcessError) as error:

@@ -97,7 +97,7 @@ def test_a_difference_is_reported(
     """A model that is not the heap, and a theory that is not met."""
     folder = tmp_path / "examples" / "alloc"
     folder.mkdir(parents=True)
-    for name in ("embed", "page_part.py"):
+    for name in ("embed", "page_part.py", "command_line.py"):
         (tmp_path / "examples" / name).symlink_to(EXAMPLES / name)
     for path in [ALLOC / "attacks.py", *ALLOC.glob("tag_*.py")]:
         (folder / path.name).write_text(path.read_text(encoding="utf-8"), encoding="utf-8")

@@ -241,9 +241,9 @@ def test_words_that_the_host_lacks_are_named(
 
 
 @pytest.mark.parametrize("words, said", [
-    (["--compiler=icc", "a.c"], "--compiler is clang or gcc, not icc"),
-    (["--stack=1048577", "a.c"], "--stack is at most 1048576, not 1048577"),
-    (["--stack=big", "a.c"], "--stack is at most 1048576, not big"),
+    (["--compiler=icc", "a.c"], "--compiler is clang or gcc, not icc (--help)"),
+    (["--stack=1048577", "a.c"], "--stack is at most 1048576, not 1048577 (--help)"),
+    (["--stack=big", "a.c"], "--stack is at most 1048576, not big (--help)"),
 ])
 def test_options_of_the_driver_that_are_refused(
     library: pathlib.Path, words: list[str], said: str

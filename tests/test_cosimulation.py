@@ -84,7 +84,7 @@ def test_both_fault(shared: pathlib.Path, tmp_path: pathlib.Path) -> None:
 
 
 @pytest.mark.parametrize("words, said", [
-    ([], "usage: "), (["none"], "none is not there"), ([sys.executable], "is no static program"),
+    ([], "(--help)"), (["none"], "none is not there"), ([sys.executable], "is no static program"),
     (["--plant", "1", "w3", "none"], "--plant needs a number and x0 to x30"),
 ])
 def test_words_that_are_refused(shared: pathlib.Path, words: list[str], said: str) -> None:

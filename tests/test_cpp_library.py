@@ -258,9 +258,10 @@ def test_c_and_cxx_are_linked_together(
 def test_the_other_compiler_and_too_large_a_stack_are_refused(library: pathlib.Path) -> None:
     """A line and status 2."""
     need("aarch64-linux-gnu-gcc")
-    is_refused(tenant_cxx(library, "--compiler=gcc", "a.cpp"), "the C++ library is clang's alone")
+    is_refused(tenant_cxx(library, "--compiler=gcc", "a.cpp"),
+               "the C++ library is clang's alone (--help)")
     is_refused(tenant_cxx(library, "--stack=1048577", "a.cpp"),
-               "--stack is at most 1048576, not 1048577")
+               "--stack is at most 1048576, not 1048577 (--help)")
 
 
 def test_a_library_that_is_not_there(library: pathlib.Path, tmp_path: pathlib.Path) -> None:

@@ -11,7 +11,7 @@ import pytest
 from tests.support.embedding import heaps, machines, memory, runs, sessions, tenants
 from tests.support.embedding import watching
 from tests.support.embedding.built import COMPILERS, DRIVERS, EMBED, Program, in_c, in_python
-from tests.support.embedding.built import program
+from tests.support.embedding.built import DOCTESTS, program
 from tests.support.embedding.folders import make, words_of
 from tests.support.embedding.lines import ALL, Line, line
 from tests.support.embedding.words import SIZES, assembled
@@ -204,17 +204,6 @@ def test_sessions_of_eight_threads(shared: pathlib.Path, folders: list[pathlib.P
     ran = started(it, *map(str, folders))
     count = 8 * len(folders)
     assert (ran.status, ran.output) == (0, f"8 threads: {count} of {count} as wanted\n"), ran.errors
-
-
-# Runs the examples in the texts of all modules of the package.
-DOCTESTS = """
-import doctest, importlib, pkgutil, tombolopan
-parts = [it.name for it in pkgutil.iter_modules(tombolopan.__path__) if it.name != "__main__"]
-modules = [tombolopan, *(importlib.import_module(f"tombolopan.{it}") for it in parts)]
-found = [doctest.testmod(it) for it in modules]
-tried = sum(it.attempted for it in found)
-print(f"{tried - sum(it.failed for it in found)} of {tried}")
-"""
 
 
 def test_the_examples_of_the_python_module(shared: pathlib.Path) -> None:

@@ -115,7 +115,8 @@ def test_a_file_has_the_sum_of_the_repository(
         text = path.read_text(encoding="utf-8")
         (other / path.name).write_text(text.replace("below(1008)", "below(1007)"))
     (other / "sums.txt").write_text("\n".join(lines) + "\n")
-    (tmp_path / "examples" / "over_library.py").symlink_to(EXAMPLES / "over_library.py")
+    for name in ("over_library.py", "command_line.py"):
+        (tmp_path / "examples" / name).symlink_to(EXAMPLES / name)
     (tmp_path / "isa").symlink_to(ROOT / "isa")
     ran = run([sys.executable, other / "golden_file.py", "860", "1", tmp_path / "other"],
               extra={"TOMBOLOPAN": str(shared_object(shared))})
@@ -359,7 +360,8 @@ def test_a_release_without_its_steps(shared: pathlib.Path, tmp_path: pathlib.Pat
     copy = tmp_path / "copy"
     for folder in ("tools/packing", "examples/golden", "examples/embed", "include", "isa"):
         shutil.copytree(ROOT / folder, copy / folder)
-    for name in ("tools/golden_release.py", "examples/over_library.py", "VERSION"):
+    for name in ("tools/golden_release.py", "examples/over_library.py",
+                 "examples/command_line.py", "VERSION"):
         shutil.copy(ROOT / name, copy / name)
     maker = copy / "examples" / "golden" / "make_golden.c"
     maker.write_text(maker.read_text().replace("below(1008)", "below(1007)"))

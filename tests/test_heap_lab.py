@@ -188,7 +188,8 @@ def test_a_wrong_guess_is_told(
     for path in [*ALLOC.glob("*.h"), ALLOC / "replay.c", ALLOC / "replay.py"]:
         text = path.read_text(encoding="utf-8")
         (folder / path.name).write_text(text.replace(right, wrong), encoding="utf-8")
-    (tmp_path / "examples" / "over_library.py").symlink_to(EXAMPLES / "over_library.py")
+    for name in ("over_library.py", "command_line.py"):
+        (tmp_path / "examples" / name).symlink_to(EXAMPLES / name)
     (tmp_path / "include").symlink_to(ALLOC.parents[1] / "include")
     lines = [f"malloc 24 = {at:#x}" for at in range(0x1000, 0x1000 + 130 * 16, 16)]
     lines += ["free 0x1000", "free 0x1010", "free 0x1020", "malloc 24 = 0x1020"]

@@ -142,5 +142,5 @@ def test_an_area_is_as_large_as_it_is_wanted(
 def test_areas_that_are_refused(library: pathlib.Path, size: str) -> None:
     """A line and status 2."""
     need("clang")
-    said = f"--large-blocks is 1052672 to 14680064, not {size}"
+    said = f"--large-blocks is 1052672 to 14680064, not {size} (--help)"
     is_refused(tenant_cc(library, f"--large-blocks={size}", "a.c"), said)

@@ -9,10 +9,10 @@ import sys
 import pytest
 
 from tests.support import library
-from tests.support.embedding.built import EMBED, in_python
+from tests.support.embedding.built import DOCTESTS, EMBED, in_python
 from tests.support.expected import compare
 from tests.support.growth import MEASURED
-from tests.support.places import ROOT
+from tests.support.places import EXAMPLES, ROOT
 from tests.support.running import Ran, Word, run, succeed
 from tests.support.tools import give_up, need
 
@@ -458,6 +458,27 @@ def test_the_wheel_is_installed(wheel: pathlib.Path, tmp_path: pathlib.Path) -> 
     wanted = f"breakpoint 1, x0 is 42\n{tmp_path}/tombolopan/libtombolopan.so\n"
     assert ran == Ran(0, wanted.encode(), b"")
     assert (tmp_path / "tombolopan" / "py.typed").exists()
+
+
+def test_its_examples_need_no_checkout(wheel: pathlib.Path, tmp_path: pathlib.Path) -> None:
+    """Installed by pip into an environment of its own, each example in the package's texts is
+    right, and an image is that of the checkout's examples."""
+    need_pip()
+    place = tmp_path / "venv"
+    made = run([sys.executable, "-m", "venv", "--without-pip", place])
+    if made.status:
+        give_up(f"no environment is made: {made.errors.strip()[-300:]} (Debian: python3-venv)")
+    python = place / "bin" / "python"
+    found = succeed([python, "-c", "import sysconfig; print(sysconfig.get_path('purelib'))"])
+    succeed([sys.executable, "-m", "pip", "install", "-q", "--no-index", "--target",
+             found.output.strip(), wheel])
+    bare: list[Word] = ["env", "-i", "PATH=/usr/bin:/bin", f"HOME={tmp_path}", python, "-B", "-c"]
+    ran = run([*bare, f"{DOCTESTS}print(tombolopan.__file__)"], cwd=tmp_path)
+    told_of = re.fullmatch(rf"(\d+) of (\d+)\n{place}/.*/tombolopan/__init__.py\n", ran.output)
+    assert ran.status == 0 and told_of, ran.output[-3000:] + ran.errors
+    assert told_of[1] == told_of[2] and int(told_of[1]) >= 80
+    told_image = "import sys, tombolopan; sys.stdout.buffer.write(tombolopan.example('hi.elf'))"
+    assert run([*bare, told_image], cwd=tmp_path).out == (EXAMPLES / "hi.elf").read_bytes()
 
 
 def test_the_wheel_is_a_function_of_its_sources(

@@ -6,6 +6,7 @@ import pathlib
 import re
 import shlex
 import shutil
+import stat
 import subprocess
 import sys
 import tomllib
@@ -16,7 +17,7 @@ from tests.support.cache import cache_folder, tenant_library
 from tests.support.checkout import make_stub
 from tests.support.places import EXAMPLES, ROOT, TESTS
 from tests.support.programs import TENANT_CC, native, run_as_tenant, tenant_cc
-from tests.support.running import HANG, run, succeed
+from tests.support.running import HANG, Ran, run, succeed
 from tests.support.tenant_tools import TENANT_RUN, built, tenant_args, tenant_run
 from tests.support.tools import give_up, need
 
@@ -115,7 +116,7 @@ def test_files_that_are_refused(tmp_path: pathlib.Path, library: pathlib.Path) -
         (["--file", f"a={large}", "--file", f"a/b={large}"],
          f"{image}: /a is a file and a folder"),
         (["--file", f"a={large}"], f"{image}: there is no room for 17,"),
-        (["--env"], "--env needs a value"),
+        (["--env"], "--env needs a value (--help)"),
     ]:
         ran = tenant_args(str(image), *words)
         assert ran.status == 2 and ran.errors.startswith(f"tenant-args: {why}")
@@ -279,6 +280,56 @@ def test_links_lead_nowhere_else(
             ran = tenant_run(alone, "--out-files", option, str(image), f"{here}/{name}", cwd=here)
             assert (ran.status, ran.out) == (0, b"out")
     assert [path.read_text() for path in other.iterdir()] == ["kept"]
+
+
+@pytest.mark.parametrize("kind", ["new", "file", "mode", "linked twice", "link", "link up"])
+def test_written_files_take_the_place_of_older_ones(
+    alone: pathlib.Path, library: pathlib.Path, tmp_path: pathlib.Path, kind: str
+) -> None:
+    """A file is put in its place by a rename: what had the older one keeps it as it was, the mode
+    stays, and a link within the folder leads to the new one. Nothing else is left."""
+    image, here = built(library, tmp_path, FORGER), tmp_path / "here"
+    (here / "below").mkdir(parents=True)
+    path = here / "below" / "file"
+    if kind != "new":
+        path.write_text("older")
+        path.chmod(0o751 if kind == "mode" else 0o644)
+    name, held = path, path.open() if path.exists() else None
+    if kind == "linked twice":
+        (tmp_path / "kept").hardlink_to(path)
+    if kind.startswith("link"):
+        name = here / "link"
+        name.symlink_to("below/file" if kind == "link" else "../here/below/file")
+    before = {each.name for each in here.rglob("*")}
+    ran = tenant_run(alone, "--out-files", str(image), str(name), cwd=here)
+    assert (ran.status, ran.out, ran.errors) == (0, b"out", "")
+    assert path.read_text() == "bad" and not path.is_symlink()
+    assert {each.name for each in here.rglob("*")} == before | {"file"}
+    assert stat.S_IMODE(path.stat().st_mode) == (0o751 if kind == "mode" else 0o644)
+    if held:
+        assert held.read() == "older"
+        held.close()
+    if kind == "linked twice":
+        assert (tmp_path / "kept").read_text() == "older"
+
+
+ODD = "\x1b[2J\x1b]0;name\x07\r\u202e\xe4"
+
+
+@pytest.mark.parametrize("option", ["--out-files", "--files", "--env", "--steps", "program"])
+def test_odd_names_are_written_by_their_numbers(
+    alone: pathlib.Path, library: pathlib.Path, tmp_path: pathlib.Path, option: str
+) -> None:
+    """No name that a tenant, a folder or a command line has brings a control character, or one
+    that is none of ASCII, to standard error."""
+    image, here = built(library, tmp_path, FORGER), tmp_path / "here"
+    here.mkdir()
+    (here / ODD).symlink_to("../program.elf")
+    words = {"--out-files": ["--out-files", str(image), f"/other/{ODD}"],
+             "--files": ["--files", ".", str(image), "x"], "--env": ["--env", ODD, str(image)],
+             "--steps": ["--steps", ODD, str(image), "x"], "program": [f"./{ODD}/none"]}
+    ran = tenant_run(alone, *words[option], cwd=here)
+    assert ran.errors and all(32 <= byte < 127 or byte == 10 for byte in ran.err), ran.err
 
 
 @pytest.mark.parametrize("name", ["input", "told"])
@@ -504,10 +555,12 @@ def test_closed_input_and_output(alone: pathlib.Path, ends: pathlib.Path) -> Non
 
 
 @pytest.mark.parametrize("words, status, said", [
-    (["--quick", "a"], 2, "there is no option --quick"),
-    (["--files", "none=there", "a"], 2, "--files needs a folder or NAME=PATH, not none=there"),
-    (["--steps"], 2, "--steps needs a value"),
+    ([], 2, "it needs a PROGRAM (--help)"),
+    (["--files", "none=there", "a"], 2,
+     "--files needs a folder or NAME=PATH, not none=there (--help)"),
+    (["--steps"], 2, "--steps needs a value (--help)"),
     (["none.elf"], 127, "none.elf: No such file or directory"),
+    (["."], 126, ".: Is a directory"),
     (["image"], 126, "image: it is no ELF64 file"),
 ])
 def test_commands_that_are_refused(
@@ -517,6 +570,42 @@ def test_commands_that_are_refused(
     (tmp_path / "image").write_bytes(b"no image")
     ran = tenant_run(alone, *words, cwd=tmp_path)
     assert (ran.status, ran.errors) == (status, f"tenant-run: {said}\n")
+
+
+def with_options(alone: pathlib.Path, options: str, *words: str) -> Ran:
+    """Runs tenant-run where the variable TENANT_OPTIONS has options."""
+    extra = {"TENANT_OPTIONS": options, "TENANT_ALONE": str(alone)}
+    return run([sys.executable, TENANT_RUN, *words], extra=extra)
+
+
+@pytest.mark.parametrize("options", [
+    ["--brief"], ["--option=--check"], ["--steps", "9"], ["--env=A=two words", "--brief"], [],
+])
+def test_options_of_the_environment(
+    alone: pathlib.Path, ends: pathlib.Path, options: list[str]
+) -> None:
+    """Those of TENANT_OPTIONS are read as if they were in front of those of the command line."""
+    for word in ("double", "free", "exit"):
+        words = ["--steps=200000", str(ends), word, "1"]
+        ran = with_options(alone, shlex.join(options), *words)
+        assert ran == tenant_run(alone, *options, *words)
+        last = with_options(alone, "--steps=9", *options, *words)
+        assert last == ran
+
+
+@pytest.mark.parametrize("options, said", [
+    ("--brief other.elf", "TENANT_OPTIONS has other.elf, which is no option"),
+    ("--", "TENANT_OPTIONS has --, which is no option"),
+    ("--quick", "there is no option --quick"),
+    ("--steps", "--steps needs a value"),
+    ("--env 'A=b", "TENANT_OPTIONS is not split into words: No closing quotation"),
+])
+def test_options_of_the_environment_that_are_refused(
+    alone: pathlib.Path, options: str, said: str
+) -> None:
+    """A line and status 2, whatever the command line has."""
+    ran = with_options(alone, options, "program.elf")
+    assert (ran.status, ran.out, ran.errors) == (2, b"", f"tenant-run: {said} (--help)\n")
 
 
 def test_ctest_runs_tenants(
@@ -534,8 +623,11 @@ def test_ctest_runs_tenants(
     words = [f"-D{name}={value}" for name, value in settings.items()]
     succeed(["cmake", *words, source], cwd=tmp_path, extra=extra)
     succeed(["make", "test-version", "test-reader"], cwd=tmp_path, extra=extra)
-    ran = succeed(["ctest"], cwd=tmp_path, extra=extra)
-    assert "100% tests passed, 0 tests failed out of 2" in ran.output
+    for options in ("", "--option=--check"):
+        ran = succeed(["ctest"], cwd=tmp_path, extra={**extra, "TENANT_OPTIONS": options})
+        assert "100% tests passed, 0 tests failed out of 2" in ran.output
+    ran = run(["ctest"], cwd=tmp_path, extra={**extra, "TENANT_OPTIONS": "--steps=9"})
+    assert "0% tests passed, 2 tests failed out of 2" in ran.output
     assert b"Tombolopan" in next(tmp_path.rglob("test-reader")).read_bytes()
 
 

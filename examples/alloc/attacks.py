@@ -13,7 +13,6 @@ docs/ATTACKS.md. TOMBOLOPAN names the library.
 """
 from __future__ import annotations
 
-import argparse
 import functools
 import itertools
 import math
@@ -27,6 +26,7 @@ HERE = pathlib.Path(__file__).resolve().parent
 sys.path[:0] = [str(HERE.parent / "embed"), str(HERE.parent)]
 import tag_theory as theory  # noqa: E402
 import tombolopan as tb  # noqa: E402
+from command_line import Parser  # noqa: E402
 from page_part import write_part  # noqa: E402
 from tag_model import ModelHeap, Numbers, address_of, tag_of, with_tag  # noqa: E402
 
@@ -268,8 +268,7 @@ def line_of(row: Row, cells: list[Cell]) -> str:
 
 def main() -> int:
     """Reads the command line."""
-    form = argparse.RawDescriptionHelpFormatter
-    parser = argparse.ArgumentParser(description=__doc__, formatter_class=form)
+    parser = Parser(__doc__)
     parser.add_argument("--seeds", type=int, default=SEEDS)
     parser.add_argument("--write", action="store_true")
     options = parser.parse_args()

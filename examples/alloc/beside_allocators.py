@@ -12,7 +12,6 @@ library is found as over_library.py says.
 """
 from __future__ import annotations
 
-import argparse
 import csv
 import pathlib
 import subprocess
@@ -21,6 +20,7 @@ import tempfile
 
 HERE = pathlib.Path(__file__).resolve().parent
 sys.path.insert(0, str(HERE.parent))
+from command_line import Parser  # noqa: E402
 from over_library import NotCompiled, compile_program  # noqa: E402
 from page_part import write_part  # noqa: E402
 from scudo_library import NoScudo, archives, link_words, with_options  # noqa: E402
@@ -89,8 +89,7 @@ def table(found: dict[str, list[Row]]) -> str:
 
 def main() -> int:
     """Reads the command line."""
-    form = argparse.RawDescriptionHelpFormatter
-    parser = argparse.ArgumentParser(description=__doc__, formatter_class=form)
+    parser = Parser(__doc__)
     parser.add_argument("trace", type=pathlib.Path, metavar="TRACE")
     parser.add_argument("--rows", type=int, default=4)
     parser.add_argument("--write", action="store_true")

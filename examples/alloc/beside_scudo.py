@@ -10,11 +10,14 @@ where a row is not as this file says: the same in both, or not.
 """
 from __future__ import annotations
 
+import pathlib
 import sys
 from collections.abc import Callable
 from dataclasses import dataclass
 
-from scudo_facts import MISTAKES, Facts, facts_of_ours, facts_of_scudo
+sys.path.insert(0, str(pathlib.Path(__file__).resolve().parent.parent))
+import command_line  # noqa: E402
+from scudo_facts import MISTAKES, Facts, facts_of_ours, facts_of_scudo  # noqa: E402
 
 
 @dataclass(frozen=True)
@@ -141,9 +144,7 @@ def cells_of(row: Row, theirs: Facts, ours: Facts) -> tuple[str, str, bool]:
 
 def main() -> int:
     """Measures both, and writes the tables: of what is the same, and of the rest."""
-    if len(sys.argv) != 1:
-        print(__doc__, file=sys.stderr)
-        return 2
+    command_line.read_words(__doc__, 0, 0)
     theirs, ours = facts_of_scudo(), facts_of_ours()
     same = "| What | Both |\n|---|---|\n"
     other = "| What | LLVM's Scudo | The profile |\n|---|---|---|\n"

@@ -9,7 +9,6 @@ library is found as over_library.py says.
 """
 from __future__ import annotations
 
-import argparse
 import pathlib
 import subprocess
 import sys
@@ -17,6 +16,7 @@ import tempfile
 
 HERE = pathlib.Path(__file__).resolve().parent
 sys.path.insert(0, str(HERE.parent))
+from command_line import Parser  # noqa: E402
 from over_library import NotCompiled, compile_program  # noqa: E402
 from page_part import write_part  # noqa: E402
 
@@ -96,8 +96,7 @@ def table(counts: Counts, states: int) -> str:
 
 def main() -> int:
     """Reads the command line."""
-    form = argparse.RawDescriptionHelpFormatter
-    parser = argparse.ArgumentParser(description=__doc__, formatter_class=form)
+    parser = Parser(__doc__)
     parser.add_argument("--states", type=int, default=STATES)
     parser.add_argument("--write", action="store_true")
     options = parser.parse_args()

@@ -19,6 +19,7 @@ from dataclasses import dataclass, field
 from html import escape
 
 sys.path.insert(0, str(pathlib.Path(__file__).resolve().parents[1]))
+import command_line  # noqa: E402
 from page_part import part_of  # noqa: E402
 
 PAGE = pathlib.Path(__file__).resolve().parents[2] / "docs" / "ATTACKS.md"
@@ -179,15 +180,14 @@ def draw_margins(rows: list[tuple[str, float]]) -> Drawing:
 
 def main() -> int:
     """Reads the command line."""
-    words = sys.argv[1:]
+    words = command_line.read_words(__doc__, 2, 3)
     try:
         if len(words) == 3 and words[0] == "replay":
             draw_replay(read_statistics(pathlib.Path(words[1]))).write(pathlib.Path(words[2]))
         elif len(words) == 2 and words[0] == "margins":
             draw_margins(read_margins()).write(pathlib.Path(words[1]))
         else:
-            print(__doc__, file=sys.stderr)
-            return 2
+            command_line.refuse("pictures.py", f"{words[0]} with {len(words) - 1} files")
     except (OSError, WrongForm) as error:
         print(f"pictures.py: {error}", file=sys.stderr)
         return 2

@@ -11,7 +11,6 @@ over_library.py says.
 """
 from __future__ import annotations
 
-import argparse
 import csv
 import pathlib
 import subprocess
@@ -20,6 +19,7 @@ import tempfile
 
 HERE = pathlib.Path(__file__).resolve().parent
 sys.path.insert(0, str(HERE.parent))
+from command_line import Parser  # noqa: E402
 from over_library import NotCompiled, compile_program  # noqa: E402
 
 
@@ -38,8 +38,7 @@ def joined(ours: dict[str, str], native: dict[str, str]) -> dict[str, str]:
 
 def main() -> int:
     """Reads the command line."""
-    form = argparse.RawDescriptionHelpFormatter
-    parser = argparse.ArgumentParser(description=__doc__, formatter_class=form)
+    parser = Parser(__doc__)
     parser.add_argument("trace", type=pathlib.Path, metavar="TRACE")
     for name, usual in (("every", 1000), ("seed", 1), ("pages", 4096)):
         parser.add_argument(f"--{name}", type=int, default=usual)

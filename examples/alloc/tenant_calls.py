@@ -12,10 +12,14 @@ a line has one of another form.
 """
 from __future__ import annotations
 
+import pathlib
 import re
 import sys
 from collections.abc import Iterable, Iterator
 from typing import Optional
+
+sys.path.insert(0, str(pathlib.Path(__file__).resolve().parent.parent))
+import command_line  # noqa: E402
 
 FIRST_LINE = "tombolopan heap calls 1\n"
 # How many arguments a call has; usable_size is none of a trace.
@@ -68,10 +72,7 @@ def read_calls(lines: Iterable[str]) -> Iterator[str]:
 
 def main() -> int:
     """Reads the command line."""
-    words = sys.argv[1:]
-    if len(words) > 1 or any(it.startswith("-") for it in words):
-        print(__doc__, file=sys.stderr)
-        return 2
+    words = command_line.read_words(__doc__, 0, 1)
     try:
         if words:
             with open(words[0], encoding="utf-8", errors="replace") as file:

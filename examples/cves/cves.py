@@ -13,7 +13,6 @@ temporary folder). A table is printed; --write puts it into docs/project/CHECKED
 compares it with the page's. Status 1: something else was told. Status 3: a source was not fetched.
 Needed (Debian): clang, lld, apt, and the network; and the C library of ../libc/build.py.
 """
-import argparse
 import pathlib
 import re
 import shutil
@@ -29,6 +28,7 @@ HERE = pathlib.Path(__file__).resolve().parent
 ROOT = HERE.parents[1]
 sys.path.insert(0, str(HERE.parent))
 import debian_source  # noqa: E402
+from command_line import Parser  # noqa: E402
 
 PAGE = ROOT / "docs" / "project" / "CHECKED.md"
 TENANT_CC = HERE.parent / "libc" / "tenant-cc"
@@ -165,7 +165,7 @@ def page_table(text: str) -> str:
 
 
 def main() -> None:
-    reader = argparse.ArgumentParser()
+    reader = Parser(__doc__)
     reader.add_argument("--run", type=pathlib.Path, default=ROOT / "crates/mte_run/out/mte_run")
     reader.add_argument("--work", type=pathlib.Path)
     reader.add_argument("--only", default="")

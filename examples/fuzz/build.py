@@ -7,11 +7,11 @@
 FOLDER gets NAME.elf of each tenant, the programs libfuzzer and afl, and for each tenant a corpus
 and a dictionary. Without --tenant it is cards, without --fuzzer each one whose compiler is there.
 N (4096) is how many counts of edges they have, a power of two up to 65536.
-LIBRARY is crates/tombolopan_c/out/libtombolopan_c.a, which tools/build.sh makes. expat and lua are
-built from Debian's sources by ../libc/tenant-cc. Needed (Debian): clang, lld, libclang-rt-14-dev,
+LIBRARY is crates/tombolopan_c/out/libtombolopan_c.a, which tools/build.sh makes, or that of the
+prefix in which this is installed. expat and lua are built from Debian's sources by
+../libc/tenant-cc. Needed (Debian): clang, lld, libclang-rt-14-dev,
 afl++; for expat and lua llvm, apt and the network too.
 """
-import argparse
 import pathlib
 import shutil
 import subprocess
@@ -20,11 +20,14 @@ from collections.abc import Sequence
 from typing import NoReturn
 
 HERE = pathlib.Path(__file__).resolve().parent
-ROOT = HERE.parents[1]
 sys.path.insert(0, str(HERE.parent))
 import debian_source  # noqa: E402
+import over_library  # noqa: E402
+from command_line import Parser  # noqa: E402
 
-LIBRARY = ROOT / "crates/tombolopan_c/out/libtombolopan_c.a"
+LIBRARY = over_library.archive()
+# What is wanted of this machine in any case, with the Debian packages that have it.
+TOOLS = {"clang": "clang", "ld.lld": "lld"}
 TENANT_CC = HERE.parent / "libc/tenant-cc"
 BARE = ["clang", "--target=aarch64-linux-gnu", "-fuse-ld=lld", "-ffreestanding", "-nostdlib",
         "-static", "-mgeneral-regs-only"]
@@ -81,7 +84,7 @@ def source(folder: pathlib.Path, package: str) -> pathlib.Path:
 def expat(folder: pathlib.Path) -> None:
     """Expat's parser."""
     lib = source(folder, "expat") / "expat/lib"
-    flags: Words = [f"-I{HERE}/../../tools/speed/real", f"-I{lib}"]
+    flags: Words = [f"-I{HERE}", f"-I{lib}"]
     tenant(folder, "expat", flags, [lib / f"{it}.c" for it in EXPAT])
 
 
@@ -113,15 +116,17 @@ def afl(folder: pathlib.Path, flags: Words, linked: Words) -> None:
 FUZZERS = {"libfuzzer": (libfuzzer, "clang"), "afl": (afl, "afl-clang-fast")}
 
 
-def heap() -> pathlib.Path:
-    """The archive by which the library calls malloc and free."""
+def heap(library: pathlib.Path) -> list[pathlib.Path]:
+    """The archive by which the library calls malloc and free; none where the library has it."""
+    if library.name == over_library.INSTALLED:
+        return []
     page = subprocess.run(["rt", "doc"], stdout=subprocess.PIPE, text=True, check=True).stdout
-    return pathlib.Path(page.splitlines()[0]).resolve().parent / "c/liblibc_c.a"
+    return [pathlib.Path(page.splitlines()[0]).resolve().parent / "c/liblibc_c.a"]
 
 
 def main() -> None:
     """The command line."""
-    parser = argparse.ArgumentParser(usage=__doc__)
+    parser = Parser(__doc__)
     parser.add_argument("folder", type=pathlib.Path)
     parser.add_argument("--library", type=pathlib.Path, default=LIBRARY)
     parser.add_argument("--tenant", action="append", choices=TENANTS)
@@ -129,15 +134,18 @@ def main() -> None:
     parser.add_argument("--counts", type=int, default=4096)
     wanted = parser.parse_args()
     if not wanted.library.is_file():
-        leave(f"{wanted.library} is not there: tools/build.sh [--unproved] --only "
-              "libtombolopan_c.a")
+        leave(f"{wanted.library} is not there: {over_library.ARCHIVE_MAKER}")
+    for tool, package in TOOLS.items():
+        if not shutil.which(tool):
+            leave(f"{tool} is not there (Debian: {package})")
     folder = wanted.folder.resolve()
     folder.mkdir(parents=True, exist_ok=True)
     for name in wanted.tenant or ["cards"]:
         TENANTS[name](folder)
         shutil.copytree(HERE / "corpus" / name, folder / f"{name}.corpus", dirs_exist_ok=True)
         shutil.copyfile(HERE / f"{name}.dict", folder / f"{name}.dict")
-    flags, linked = [f"-I{ROOT}/include", f"-DCOUNTS={wanted.counts}"], [wanted.library, heap()]
+    flags = [f"-I{over_library.prefix()}/include", f"-DCOUNTS={wanted.counts}"]
+    linked = [wanted.library, *heap(wanted.library)]
     for name in wanted.fuzzer or [it for it, (_, tool) in FUZZERS.items() if shutil.which(tool)]:
         FUZZERS[name][0](folder, flags, linked)
 

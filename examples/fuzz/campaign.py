@@ -24,6 +24,9 @@ from collections.abc import Iterator
 
 import replay
 
+sys.path.insert(0, str(pathlib.Path(__file__).resolve().parents[1]))
+from command_line import Parser  # noqa: E402
+
 # What the C library of tenants is made of, and the calls of services: no place of a bug.
 NO_PLACE = re.compile(r"(tenant\.h|heap\.c|services\.c|ends\.c):")
 LONGEST = 4096
@@ -131,7 +134,7 @@ FUZZERS = {"libfuzzer": libfuzzer, "afl": afl}
 
 def main() -> None:
     """The command line."""
-    parser = argparse.ArgumentParser(usage=__doc__)
+    parser = Parser(__doc__)
     parser.add_argument("folder", type=pathlib.Path)
     parser.add_argument("tenant")
     parser.add_argument("--fuzzer", choices=FUZZERS, default="libfuzzer")

@@ -10,7 +10,6 @@ its heap and ends by what it has found. Inputs are of 0 to 89 bytes, or those of
 some bytes changed, left out or doubled. Exit status 1: a run differs, and its input is told. The
 package of Python is found as docs/PYTHON.md says.
 """
-import argparse
 import pathlib
 import random
 import resource
@@ -18,7 +17,10 @@ import sys
 import time
 from collections.abc import Iterator
 
-from tombolopan import Fuzz, FuzzRun, Tenant, alone
+HERE = pathlib.Path(__file__).resolve().parent
+sys.path[:0] = [str(HERE.parent / "embed"), str(HERE.parent)]
+from command_line import Parser  # noqa: E402
+from tombolopan import Fuzz, FuzzRun, Tenant, alone  # noqa: E402
 
 SETUP, SLICE = 1 << 20, 1 << 20
 # Growth of the process that is none, in KiB: what the first runs take is not counted.
@@ -65,7 +67,7 @@ def assert_alike(kept: FuzzRun, fresh: Tenant, where: str) -> None:
 
 def main() -> None:
     """The command line."""
-    parser = argparse.ArgumentParser(usage=__doc__)
+    parser = Parser(__doc__)
     parser.add_argument("image", type=pathlib.Path)
     parser.add_argument("count", type=int)
     parser.add_argument("seed", nargs="?", type=int, default=1)

@@ -8,11 +8,13 @@ byte for byte. A line for each crash: its cause, the source line of the access, 
 made the chunk and of the one that freed it. Exit status 1: a run said something else, or was no
 crash. SEED is that of the fuzzer; --exact is for crashes of one with EXACT=1.
 """
-import argparse
 import pathlib
 import re
 import subprocess
 import sys
+
+sys.path.insert(0, str(pathlib.Path(__file__).resolve().parents[1]))
+from command_line import Parser  # noqa: E402
 
 # The exit statuses by which mte_run tells of a crash are those of signals.
 SIGNAL = 128
@@ -46,7 +48,7 @@ def places(report: str) -> dict[str, list[str]]:
 
 def main() -> None:
     """The command line."""
-    parser = argparse.ArgumentParser(usage=__doc__)
+    parser = Parser(__doc__)
     parser.add_argument("image", type=pathlib.Path)
     parser.add_argument("crash", nargs="+", type=pathlib.Path)
     parser.add_argument("--times", type=int, default=1000)

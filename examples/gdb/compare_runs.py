@@ -20,6 +20,7 @@ import tempfile
 from collections.abc import Sequence
 
 sys.path.insert(0, str(pathlib.Path(__file__).resolve().parent.parent))
+import command_line  # noqa: E402
 from build_image import ENTRY, image  # noqa: E402
 from packets import Front  # noqa: E402
 
@@ -208,10 +209,9 @@ def kept_image(seed: int, number: int, path: str) -> str:
 
 def main() -> int:
     """The command line."""
-    if len(sys.argv) < 4:
-        sys.exit(__doc__)
-    program_path, count, seed = sys.argv[1], int(sys.argv[2]), int(sys.argv[3])
-    images, draw = sys.argv[4:], random.Random(seed)
+    program_path, counted, seeded, *images = command_line.read_words(__doc__, 3)
+    count, seed = int(counted), int(seeded)
+    draw = random.Random(seed)
     kinds: collections.Counter[str] = collections.Counter()
     with tempfile.TemporaryDirectory() as work:
         for number in range(len(images) + count):

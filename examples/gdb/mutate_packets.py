@@ -15,7 +15,9 @@ import sys
 from collections.abc import Sequence
 from typing import Optional
 
-from packets import frame
+sys.path.insert(0, str(pathlib.Path(__file__).resolve().parent.parent))
+import command_line  # noqa: E402
+from packets import frame  # noqa: E402
 
 SMAPS, OTHER = (path.encode().hex().encode() for path in ("/proc/1/smaps", "/etc/passwd"))
 SENT = [
@@ -102,9 +104,8 @@ def kind_of(words: Sequence[str], stream: bytes, wanted: Optional[int]) -> str:
 
 def main() -> int:
     """The command line."""
-    if len(sys.argv) < 5:
-        sys.exit(__doc__)
-    program, count, seed, images = sys.argv[1], int(sys.argv[2]), int(sys.argv[3]), sys.argv[4:]
+    program, counted, seeded, *images = command_line.read_words(__doc__, 4)
+    count, seed = int(counted), int(seeded)
     draw = random.Random(seed)
     kinds: collections.Counter[str] = collections.Counter()
     for number in range(count):

@@ -203,4 +203,4 @@ def compare(steps: Iterator[Step], tally: Tally) -> None:
 
 
 if __name__ == "__main__":
-    compare_file(sys.argv[1:], __doc__, compare)
+    compare_file(__doc__, compare)

@@ -29,8 +29,9 @@ import time
 from dataclasses import dataclass, field
 
 HERE = pathlib.Path(__file__).resolve().parent
-sys.path.insert(0, str(HERE.parent / "embed"))
+sys.path[:0] = [str(HERE.parent / "embed"), str(HERE.parent)]
 import tombolopan as tb  # noqa: E402
+from command_line import Parser  # noqa: E402
 
 PAGE, PLAIN, SECONDS, EVERY = 4096, (1 << 56) - 1, 20, 1000
 # What the stub reads at once at most.
@@ -308,8 +309,7 @@ def run(pair: Pair, steps: int) -> int:
 
 def arguments() -> argparse.Namespace:
     """Reads the command line."""
-    form = argparse.RawDescriptionHelpFormatter
-    parser = argparse.ArgumentParser(description=__doc__, formatter_class=form)
+    parser = Parser(__doc__)
     parser.add_argument("--steps", type=int, default=100000)
     parser.add_argument("--cpu", default="max")
     parser.add_argument("--take-over", action="store_true")

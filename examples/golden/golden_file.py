@@ -19,6 +19,7 @@ import tempfile
 
 HERE = pathlib.Path(__file__).resolve().parent
 sys.path.insert(0, str(HERE.parent))
+import command_line  # noqa: E402
 from over_library import NotCompiled, compile_program  # noqa: E402
 
 SUMS, ROWS = HERE / "sums.txt", HERE.parents[1] / "isa" / "a64.rows"
@@ -68,11 +69,11 @@ def tell_sum(count: int, seed: int, path: pathlib.Path) -> int:
 
 def main() -> int:
     """Reads the command line."""
-    words, is_counted = sys.argv[1:], sys.argv[1:2] == ["--count"]
+    words = command_line.read_words(__doc__, 2, 3, ["--count"])
+    is_counted = words[0] == "--count"
     numbers = words[1:] if is_counted else words[:2]
     if len(words) != 3 or not all(it.isdecimal() for it in numbers):
-        print(__doc__, file=sys.stderr)
-        return 2
+        command_line.refuse("golden_file.py", "COUNT and SEED are numbers, and FILE follows")
     given = [str(ROWS), *numbers]
     try:
         if is_counted:

@@ -12,6 +12,9 @@ from collections.abc import Callable, Iterator
 from dataclasses import dataclass, field
 from typing import Any
 
+sys.path.insert(0, str(pathlib.Path(__file__).resolve().parent.parent))
+import command_line  # noqa: E402
+
 FORMAT = "tombolopan golden steps 1"
 # What is mapped: the first page's address, how many pages, and READ, WRITE, EXEC, TAGGED.
 MAP = ((0x100000, 2, "RX"), (0x110000, 1, "R"), (0x120000, 2, "RWT"), (0x122000, 1, "R"),
@@ -188,12 +191,11 @@ class Tally:
         return 1 if differ else 0
 
 
-def compare_file(words: list[str], usage: str | None,
-                 compare: Callable[[Iterator[Step], Tally], None]) -> None:
+def compare_file(usage: str | None, compare: Callable[[Iterator[Step], Tally], None]) -> None:
     """The command line of a consumer: FILE, and how many differences are shown."""
-    if not 1 <= len(words) <= 2 or (len(words) == 2 and not words[1].isdecimal()):
-        print(usage, file=sys.stderr)
-        sys.exit(2)
+    words = command_line.read_words(usage, 1, 2)
+    if len(words) == 2 and not words[1].isdecimal():
+        command_line.refuse(pathlib.Path(sys.argv[0]).name, f"SHOWN is a number, not {words[1]}")
     path = pathlib.Path(words[0])
     if not path.is_file():
         print(f"{path}: no such file", file=sys.stderr)

@@ -18,7 +18,8 @@ from collections.abc import Iterator
 from typing import Any
 
 HERE = pathlib.Path(__file__).resolve().parent
-sys.path.insert(0, str(HERE.parent / "embed"))
+sys.path[:0] = [str(HERE.parent / "embed"), str(HERE.parent)]
+import command_line  # noqa: E402
 from golden_rows import Row, read_rows, row_of  # noqa: E402
 from golden_steps import CODE, FORMAT, MAP, page_attrs  # noqa: E402
 import tombolopan as tb  # noqa: E402
@@ -221,10 +222,10 @@ def steps(count: int, seed: int) -> Iterator[dict[str, Any]]:
 
 def main() -> None:
     """Reads the command line."""
-    if len(sys.argv) != 3 or not all(it.isdecimal() for it in sys.argv[1:]):
-        print(__doc__, file=sys.stderr)
-        sys.exit(2)
-    count, seed = int(sys.argv[1]), int(sys.argv[2])
+    words = command_line.read_words(__doc__, 2, 2)
+    if not all(it.isdecimal() for it in words):
+        command_line.refuse("make_golden.py", "COUNT and SEED are numbers")
+    count, seed = map(int, words)
     build = dict(line.split(":", 1) for line in tb.build_info().splitlines()[1:] if ":" in line)
     head = {"format": FORMAT, "count": count, "seed": seed,
             "library": {name: it.strip() for name, it in build.items()},

@@ -12,7 +12,6 @@ Needed (Debian): clang, llvm, apt, tar, xz-utils, and the network the first time
 With --c++ it gets the C++ library too, LLVM's libc++ with exceptions; with --only-c++ that alone,
 where FOLDER has the C library. This needs binutils-aarch64-linux-gnu besides.
 """
-import argparse
 import concurrent.futures
 import pathlib
 import shutil
@@ -23,6 +22,7 @@ HERE = pathlib.Path(__file__).resolve().parent
 sys.path[:0] = [str(HERE), str(HERE.parent)]
 import cxx_library  # noqa: E402
 import debian_source  # noqa: E402
+from command_line import Parser  # noqa: E402
 
 CLANG = [
     "clang", "--target=aarch64-linux-gnu", "-mgeneral-regs-only", "-Xclang", "-mlong-double-64",
@@ -205,8 +205,7 @@ def build_cxx(out, sources, jobs):
 
 
 def arguments():
-    form = argparse.RawDescriptionHelpFormatter
-    parser = argparse.ArgumentParser(description=__doc__, formatter_class=form)
+    parser = Parser(__doc__)
     parser.add_argument("--out", type=pathlib.Path, default=HERE / "out")
     parser.add_argument("--sources", type=pathlib.Path)
     parser.add_argument("--jobs", type=int, default=2)

@@ -14,7 +14,9 @@ import pathlib
 import struct
 import sys
 
-sys.path.insert(0, str(pathlib.Path(__file__).resolve().parents[2] / "tools"))
+HERE = pathlib.Path(__file__).resolve().parent
+sys.path[:0] = [str(HERE.parents[1] / "tools"), str(HERE.parent)]
+import command_line  # noqa: E402
 from a64 import table  # noqa: E402
 
 # ELF64: a section's flag and type, a symbol's type, and the number of AArch64.
@@ -118,10 +120,9 @@ def describe(path):
 
 
 def main():
-    if len(sys.argv) < 2:
-        sys.exit(__doc__)
+    paths = command_line.read_words(__doc__, 1)
     has_words = False
-    for path in sys.argv[1:]:
+    for path in paths:
         try:
             lines = describe(path)
         except (OSError, NoProgram, struct.error) as error:

@@ -7,9 +7,13 @@ A session admits 1 to 20 tenants and gives them slices of 1 to 4 steps in turns.
 `Hi` by its 5th step and exits by its 8th.
 """
 import os
+import pathlib
 import random
 import shutil
 import sys
+
+sys.path.insert(0, str(pathlib.Path(__file__).resolve().parent.parent))
+import command_line  # noqa: E402
 
 PAGES = 5
 STEPS = 8
@@ -46,9 +50,10 @@ def write_files(folder: str, files: dict[str, str]) -> None:
 
 
 def main() -> None:
-    if len(sys.argv) != 3 or not sys.argv[2].isdigit():
-        sys.exit(__doc__)
-    folder, count = sys.argv[1], int(sys.argv[2])
+    folder, text = command_line.read_words(__doc__, 2, 2)
+    if not text.isdigit():
+        command_line.refuse("make_sessions.py", f"COUNT is a number, not {text}")
+    count = int(text)
     if os.path.isdir(folder) and os.listdir(folder):
         sys.exit(f"make_sessions.py: {folder} is not empty")
     image = os.path.join(os.path.dirname(os.path.abspath(__file__)), "..", "hi.elf")

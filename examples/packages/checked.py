@@ -36,6 +36,7 @@ HERE = pathlib.Path(__file__).resolve().parent
 sys.path[:0] = [str(HERE), str(HERE.parent)]
 import compilers  # noqa: E402
 import packages  # noqa: E402
+from command_line import Parser  # noqa: E402
 from page_part import write_part  # noqa: E402
 
 PAGE = HERE.parents[1] / "docs" / "project" / "CHECKED.md"
@@ -332,8 +333,7 @@ def faults_of(kept: list[dict[str, Any]]) -> str:
 
 
 def arguments() -> argparse.Namespace:
-    form = argparse.RawDescriptionHelpFormatter
-    parser = argparse.ArgumentParser(description=__doc__, formatter_class=form)
+    parser = Parser(__doc__)
     listed = functools.partial(str.split, sep=",")
     parser.add_argument("kind", nargs="?", choices=TITLES)
     parser.add_argument("--every", type=int, default=1)

@@ -33,6 +33,7 @@ HERE = pathlib.Path(__file__).resolve().parent
 sys.path[:0] = [str(HERE), str(HERE.parent)]
 import debian_source  # noqa: E402
 import packages  # noqa: E402
+from command_line import Parser  # noqa: E402
 from page_part import write_part  # noqa: E402
 
 TENANT_CC = HERE.parent / "libc" / "tenant-cc"
@@ -208,8 +209,7 @@ def keep(path: pathlib.Path, kind: str, found: list[Finding]) -> None:
 
 
 def arguments() -> argparse.Namespace:
-    form = argparse.RawDescriptionHelpFormatter
-    parser = argparse.ArgumentParser(description=__doc__, formatter_class=form)
+    parser = Parser(__doc__)
     parser.add_argument("kind", nargs="?", choices=TITLES)
     parser.add_argument("--count", type=int, default=100)
     parser.add_argument("--first", type=int, default=1)

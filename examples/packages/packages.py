@@ -37,6 +37,7 @@ HERE = pathlib.Path(__file__).resolve().parent
 LIBC = HERE.parent / "libc"
 sys.path.insert(0, str(HERE.parent))
 import debian_source  # noqa: E402
+from command_line import Parser  # noqa: E402
 from page_part import write_part  # noqa: E402
 
 PAGE = HERE.parents[1] / "docs" / "project" / "PACKAGES.md"
@@ -284,8 +285,7 @@ def place_of(options: argparse.Namespace) -> Place:
 
 
 def arguments() -> argparse.Namespace:
-    form = argparse.RawDescriptionHelpFormatter
-    parser = argparse.ArgumentParser(description=__doc__, formatter_class=form)
+    parser = Parser(__doc__)
     parser.add_argument("--only", default="")
     add_common(parser)
     return parser.parse_args()

@@ -29,6 +29,7 @@ HERE = pathlib.Path(__file__).resolve().parent
 sys.path[:0] = [str(HERE), str(HERE.parent)]
 import debian_source  # noqa: E402
 import packages  # noqa: E402
+from command_line import Parser  # noqa: E402
 from page_part import write_part  # noqa: E402
 
 SCRIPT = "examples/packages/suites.py"
@@ -206,8 +207,7 @@ def fetch_all(place: packages.Place, suites: list[Suite]) -> None:
 
 
 def arguments() -> argparse.Namespace:
-    form = argparse.RawDescriptionHelpFormatter
-    parser = argparse.ArgumentParser(description=__doc__, formatter_class=form)
+    parser = Parser(__doc__)
     parser.add_argument("--only", default="")
     packages.add_common(parser)
     return parser.parse_args()

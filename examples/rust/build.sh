@@ -1,6 +1,6 @@
 #!/usr/bin/env bash
 # Builds tenants in Rust: the crates core and alloc from Debian's rust-src, once, then tenant.rs and
-# each PROGRAM (NAME.rs), as out/NAME.elf.
+# each PROGRAM (NAME.rs, from where it is run or of this folder), as out/NAME.elf.
 #     build.sh [PROGRAM...]
 # The target is aarch64-unknown-none-softfloat. Its core is not among Debian's packages, so it is
 # built from its source, for which the compiler has to allow itself what is unstable
@@ -11,6 +11,10 @@
 # than out for what is built.
 set -euo pipefail
 here=$(cd "$(dirname "$0")" && pwd)
+# shellcheck source=examples/command_line.sh
+source "$here/../command_line.sh"
+show_help "$0" "$@"
+refuse_options 1000 "$@"
 rustc=${RUSTC:-/usr/bin/rustc}
 library=$(realpath -m "${TENANT_LIBRARY:-$here/../libc/out}")/lib/libc.a
 out=$(realpath -m "${TENANT_OUT:-$here/out}")
@@ -46,9 +50,14 @@ if [[ ! -f $out/liballoc.rlib ]]; then
     crate compiler_builtins "${kept[@]}" "$out/nothing.rs"
     crate alloc "${kept[@]}" "$source/alloc/src/lib.rs"
 fi
+programs=()
+for program in "$@"; do
+    [[ ! -e $program ]] || program=$(realpath "$program")
+    programs+=("$program")
+done
 cd "$here"
 crate tenant -C debuginfo=2 tenant.rs
-for program in "$@"; do
+for program in "${programs[@]}"; do
     image=$out/$(basename "$program" .rs).elf
     "$rustc" --crate-type bin "${flags[@]}" -C debuginfo=2 -C linker=ld.lld \
         -C linker-flavor=ld.lld -C link-args="--gc-sections -z norelro $library" \

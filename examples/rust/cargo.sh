@@ -9,6 +9,10 @@
 # /usr/bin/cargo, TENANT_ALONE another mte_run; RUSTC, TENANT_LIBRARY and TENANT_OUT are build.sh's.
 set -euo pipefail
 here=$(cd "$(dirname "${BASH_SOURCE[0]}")" && pwd)
+# shellcheck source=examples/command_line.sh
+source "$here/../command_line.sh"
+show_help "$0" "$@"
+[[ ${1:-} != -* ]] || refuse "a command of cargo comes first, not $1"
 target=aarch64-unknown-none-softfloat
 cargo=${CARGO:-/usr/bin/cargo}
 alone=${TENANT_ALONE:-$here/../../crates/mte_run/out/mte_run}

@@ -22,6 +22,7 @@ import shutil
 import sys
 import time
 from collections.abc import Callable, Sequence
+from typing import NoReturn
 
 from batch import runs
 from batch.answers import Answer
@@ -69,10 +70,19 @@ def between(low: float, high: float) -> Callable[[str], float]:
     return read
 
 
+class Parser(argparse.ArgumentParser):
+    """A parser whose complaint is one line, which names --help."""
+
+    def error(self, message: str) -> NoReturn:
+        """Ends for a wrong command line."""
+        print(f"{self.prog}: {message} (--help)", file=sys.stderr)
+        sys.exit(2)
+
+
 def parse(words: Sequence[str] | None) -> argparse.Namespace:
     """The command line."""
     form = argparse.RawDescriptionHelpFormatter
-    parser = argparse.ArgumentParser(prog="batch", description=__doc__, formatter_class=form)
+    parser = Parser(prog="batch", description=__doc__, formatter_class=form)
     add = parser.add_argument
     add("sessions", type=pathlib.Path, help="a folder or a table")
     add("--jobs", type=positive, default=os.cpu_count() or 1, help="how many run at once")

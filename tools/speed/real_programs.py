@@ -35,7 +35,8 @@ from commands import SLICE, Command, instructions, leave, need_tools, run_tool, 
 
 HERE = pathlib.Path(__file__).resolve().parent
 REAL = HERE / "real"
-sys.path.insert(0, str(HERE.parents[1] / "examples"))
+EXAMPLES = HERE.parents[1] / "examples"
+sys.path.insert(0, str(EXAMPLES))
 import debian_source  # noqa: E402
 
 TOOLS = {**scudo.TOOLS, "ld.lld": "lld", "valgrind": "valgrind"}
@@ -168,7 +169,7 @@ class Builder:
         folder = self.folder[name] / program.folder
         files = [folder / f"{file}.c" for file in program.files] + [REAL / f"{name}_run.c"]
         flags = [flag.replace(FOLDER, str(folder)) for flag in program.flags]
-        return files, [*flags, f"-I{folder}", f"-I{REAL}"]
+        return files, [*flags, f"-I{folder}", f"-I{REAL}", f"-I{EXAMPLES / 'fuzz'}"]
 
     def tenant(self, name: str) -> Path:
         files, flags = self.parts(name)

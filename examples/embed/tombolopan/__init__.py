@@ -113,8 +113,6 @@ heap abort 0x4 None
 """
 from __future__ import annotations
 
-import pathlib
-
 from .abi import (
     ABORT, ACCESS_READ, ACCESS_READ_TAG, ACCESS_WRITE, ACCESS_WRITE_TAG, ALIGNMENT, ALREADY_FREE,
     ALREADY_MAPPED, BAD_ARGUMENT, BAD_HEADERS, BAD_NUMBER, BAD_RESERVATION, BREAKPOINT, CALLOC,
@@ -134,6 +132,7 @@ from .enums import (
     Trespass, fault_kind_name, heap_abort_name, refusal_name, script_fault_name, tenant_status_name,
     text, trespass_name,
 )
+from .examples import example
 from .faults import Fault, MappingError, Refused, ScriptError
 from .fuzzing import Fuzz, FuzzFinding, FuzzRun
 from .heaps import HeapAnswer, heap_calls
@@ -173,8 +172,3 @@ __all__ = [
 for _it in (Fault, MappingError, Refused, ScriptError, Memory, Region, Regs, Session, Answer,
             FuzzFinding, FuzzRun, LiveChunk, Block, Instruction, TracedAccess):
     _it.__module__ = __name__
-
-
-def example(name: str) -> bytes:
-    """A file of this repository's examples."""
-    return (pathlib.Path(__file__).resolve().parents[2] / name).read_bytes()

@@ -370,8 +370,9 @@ def _library_name() -> str:
     """The library that TOMBOLOPAN names, else that of a wheel, of a checkout or of a prefix, else
     what the system has."""
     here = pathlib.Path(__file__).resolve().parent
-    near = [here / "libtombolopan.so", here.with_name("libtombolopan.so"),
-            here.parents[2] / "lib" / "libtombolopan.so"]
+    near = [here / "libtombolopan.so", here.with_name("libtombolopan.so")]
+    near += [it.parents[1] / "lib" / "libtombolopan.so" for it in here.parents
+             if it.parts[-2:] == ("share", "tombolopan")]
     found = next((str(it) for it in near if it.exists()), None)
     return os.environ.get("TOMBOLOPAN") or found or f"libtombolopan.so.{VERSION}"
 

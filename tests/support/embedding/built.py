@@ -29,6 +29,17 @@ COMPILERS = {
 # What a sanitizer finds ends the program; a leak is found too.
 OPTIONS = {"ASAN_OPTIONS": "detect_leaks=1", "UBSAN_OPTIONS": "print_stacktrace=1"}
 
+# Runs the examples in the texts of all modules of the package.
+DOCTESTS = """
+import doctest, importlib, pkgutil, tombolopan
+LEFT_OUT = ("__main__", "libtombolopan")
+parts = [it.name for it in pkgutil.iter_modules(tombolopan.__path__) if it.name not in LEFT_OUT]
+modules = [tombolopan, *(importlib.import_module(f"tombolopan.{it}") for it in parts)]
+found = [doctest.testmod(it) for it in modules]
+tried = sum(it.attempted for it in found)
+print(f"{tried - sum(it.failed for it in found)} of {tried}")
+"""
+
 
 @dataclass(frozen=True)
 class Program:
