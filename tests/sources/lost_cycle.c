@@ -30,6 +30,7 @@ __attribute__((noinline)) static void clear(void)
 __attribute__((noinline, noreturn)) static void leave(void)
 {
     volatile char room[2000];
+    __asm__ volatile("" : : "r"(room) : "memory");
     room[0] = 0;
     clear();
     _Exit(room[0]);
