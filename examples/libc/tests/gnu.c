@@ -83,13 +83,20 @@ static void random_numbers(void)
             puts("never");
 }
 
+static void at_end(void)
+{
+    puts("exited");
+    fflush(stdout);
+    _Exit(0);
+}
+
 int main(void)
 {
+    atexit(at_end);
     errors();
     texts();
     arrays();
     random_numbers();
-    fflush(stdout);
     error(3, ENOENT, "the end");
-    return 0;
+    return 1;
 }

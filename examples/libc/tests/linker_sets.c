@@ -25,6 +25,6 @@ int main(void)
         sum += it->run(7);
         letters += it->name[0];
     }
-    printf("%d %d\n", sum, letters);
-    return count;
+    printf("%d %d %d\n", count, sum, letters);
+    return 0;
 }

@@ -97,7 +97,7 @@ static void to_pool(void *pool, void *chunk)
 static _Noreturn void no_memory(void)
 {
     puts("no memory");
-    exit(4);
+    exit(0);
 }
 
 static void *none(size_t size)
@@ -120,5 +120,5 @@ int main(void)
     printf("%d %d\n", pool.made > 5, pool.made == pool.dropped);
     obstack_alloc_failed_handler = no_memory;
     obstack_specify_allocation(&stack, 0, 0, none, free);
-    return 0;
+    return 1;
 }
