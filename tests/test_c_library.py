@@ -169,6 +169,28 @@ def test_arguments_are_those_of_the_driver(
     assert (ran.out, ran.status, said) == (wanted, wanted.count(b"["), "")
 
 
+DRAWN = """
+#include <stdio.h>
+#include <stdlib.h>
+int main(void)
+{
+    for (int i = 0; i < 4; i++)
+        printf("%u %u\\n", (unsigned)arc4random(), (unsigned)arc4random_uniform(1000));
+    return 0;
+}
+"""
+
+
+def test_random_numbers_are_those_of_each_run(
+    alone: pathlib.Path, library: pathlib.Path, tmp_path: pathlib.Path
+) -> None:
+    """Whatever the seed of the tags, since a run is a function of its bytes."""
+    image, _ = linked(library, tmp_path, DRAWN)
+    ran = [run_as_tenant(alone, image, "--seed", str(seed)) for seed in (1, 2, 77)]
+    assert {it.status for it in ran} == {0} and len({it.out for it in ran}) == 1
+    assert len(set(ran[0].out.split())) == 8
+
+
 DEEP = """
 #include <string.h>
 static int depth(int left)

@@ -40,11 +40,18 @@ LEFT_OUT = {
     "internal/vdso.c", "mq/mq_notify.c", "process/system.c", "process/vfork.c",
     "setjmp/longjmp.c", "setjmp/setjmp.c", "signal/restore.c", "signal/sigsetjmp.c",
     "stdio/__stdout_write.c", "temp/__randname.c", "thread/__set_thread_area.c",
-    "thread/__unmapself.c", "thread/clone.c", "thread/pthread_cancel.c",
-    "thread/pthread_create.c", "thread/syscall_cp.c", "thread/thrd_create.c",
-    "thread/thrd_exit.c", "time/timer_create.c",
+    "thread/__timedwait.c", "thread/__unmapself.c", "thread/__wait.c", "thread/clone.c",
+    "thread/pthread_cancel.c", "thread/pthread_create.c", "thread/syscall_cp.c",
+    "time/timer_create.c",
 }
 FOLDERS_LEFT_OUT = {"aio", "ldso", "malloc"}
+# What is compiled of these folders; dlopen and its relatives fail, as in musl's static programs.
+NOT_LEFT_OUT = {
+    "malloc/reallocarray.c", "ldso/__dlsym.c", "ldso/dladdr.c", "ldso/dlclose.c",
+    "ldso/dlerror.c", "ldso/dlinfo.c", "ldso/dlopen.c", "ldso/dlsym.c",
+}
+# Headers of musl that end with more of ours, include/bits/NAME_more.h.
+WITH_MORE = ("stdlib", "string")
 # What each tenant begins with, and what --large-blocks has in the place of heap.c: no members.
 APART = ("start", "large_blocks")
 # Where musl sees a GNU compiler these read a word at once, up to seven bytes past the end of a
@@ -104,6 +111,9 @@ def make_headers(musl, out):
     again = [line.replace("__NR_", "SYS_") for line in numbers.split("\n") if "__NR_" in line]
     (include / "bits/syscall.h").write_text(numbers + "\n".join(again) + "\n")
     shutil.copytree(HERE / "include", include, dirs_exist_ok=True)
+    for name in WITH_MORE:
+        with (include / f"{name}.h").open("a") as header:
+            header.write(f"\n#include <bits/{name}_more.h>\n")
     shutil.copy(HERE.parent / "c/tenant.h", include / "tenant.h")
     for left in include.rglob("*.in"):
         left.unlink()
@@ -125,7 +135,9 @@ def musl_units(musl, include, work):
     words += [f"-ffile-prefix-map={include.parent}=tenant/out"]
     for file in sorted((musl / "src").glob("*/*.c")):
         name = file.relative_to(musl / "src")
-        if str(name) not in LEFT_OUT and name.parts[0] not in FOLDERS_LEFT_OUT:
+        if str(name) in LEFT_OUT:
+            continue
+        if name.parts[0] not in FOLDERS_LEFT_OUT or str(name) in NOT_LEFT_OUT:
             own = ["-U__GNUC__"] if str(name) in BYTE_BY_BYTE else []
             if str(name) in WITH_FILES:
                 own += ["-include", str(HERE / "arch/with_files.h")]
