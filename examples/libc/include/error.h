@@ -6,8 +6,8 @@
 extern "C" {
 #endif
 
-/* Writes "PROGRAM: MESSAGE: TEXT OF THE NUMBER" to standard error, without the text where the number
-   is 0; then exits with the status, if it is not 0. */
+/* Writes "PROGRAM: MESSAGE: TEXT OF THE NUMBER" to standard error, without the text where the
+   number is 0; then exits with the status, if it is not 0. */
 void error(int status, int number, const char *form, ...)
     __attribute__((__format__(__printf__, 3, 4)));
 void error_at_line(int status, int number, const char *file, unsigned line, const char *form, ...)

@@ -1,4 +1,4 @@
-/* What <error.h> has: a message on standard error, and the end of the program if it is asked for. */
+/* What <error.h> has: messages on standard error, after which the program may end. */
 #define _GNU_SOURCE
 #include <errno.h>
 #include <error.h>

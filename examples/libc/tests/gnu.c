@@ -77,7 +77,8 @@ static void random_numbers(void)
     for (int at = 0; at < 64; at += 21)
         has_bits &= at == 0 || memcmp(bytes + at, bytes + at - 21, 20) != 0;
     printf("%d %d %d %d", is_even, all == UINT32_MAX, differ > 5990, has_bits);
-    printf(" %d %d %d\n", bytes[0], bytes[63], (int)(arc4random_uniform(0) + arc4random_uniform(1)));
+    uint32_t none = arc4random_uniform(0) + arc4random_uniform(1);
+    printf(" %d %d %d\n", bytes[0], bytes[63], (int)none);
     for (int i = 0; i < 1000; i++)
         if (arc4random_uniform(0x80000001) > 0x80000000)
             puts("never");

@@ -122,7 +122,8 @@ static void join(void)
     TAILQ_CONCAT(&tail, &other, tail);
     STAILQ_CONCAT(&simple_tail, &more);
     STAILQ_REMOVE_HEAD(&simple_tail, simple_tail);
-    printf("%d %d %d\n", TAILQ_EMPTY(&other), STAILQ_EMPTY(&more), TAILQ_LAST(&tail, tails)->number);
+    it = TAILQ_LAST(&tail, tails);
+    printf("%d %d %d\n", TAILQ_EMPTY(&other), STAILQ_EMPTY(&more), it->number);
     show();
     TAILQ_FOREACH_REVERSE_SAFE(it, &tail, tails, tail, next) {
         TAILQ_REMOVE(&tail, it, tail);

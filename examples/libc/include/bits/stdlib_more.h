@@ -1,4 +1,4 @@
-/* What <stdlib.h> has besides, as GNU's C library does (../../src/gnu.c, ../../src/arc4random.c). */
+/* What <stdlib.h> has besides, as GNU's C library does (../../src/gnu.c and arc4random.c). */
 #ifndef _BITS_STDLIB_MORE_H
 #define _BITS_STDLIB_MORE_H
 #if defined(_GNU_SOURCE) || defined(_BSD_SOURCE)
