@@ -211,7 +211,7 @@ def test_what_a_proof_does_not_notice(what: str) -> None:
     ("crates/mte_svc/src/calls.rt", "KEPT_CALLS: usize = 64", "KEPT_CALLS: usize = 32"),
     ("crates/mte_tags/src/fault.rt", '"SpAlignment"', '"StackAlignment"'),
     ("crates/mte_session/src/status.rt", 'b"running"', 'b"runs"'),
-    ("examples/embed/shared.sh", r"libtombolopan\.so\.2", "libtombolopan.so.3"),
+    ("examples/embed/shared.sh", r"soname,libtombolopan\.so\.2", "soname,libtombolopan.so.3"),
     (HEADER, r'return "svc"', 'return "an SVC"'),
     (RUST, r'TB_SVC => "svc"', 'TB_SVC => "an SVC"'),
     (PYTHON, r'SVC: "svc"', 'SVC: "an SVC"'),
