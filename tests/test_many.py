@@ -103,7 +103,7 @@ def test_usage(tmp_path: pathlib.Path) -> None:
     (tmp_path / "file").touch()
     ran = run([sys.executable, MANY / "make_sessions.py", tmp_path, "3"])
     assert (ran.status, ran.errors) == (1, f"make_sessions.py: {tmp_path} is not empty\n")
-    assert run([sys.executable, MANY / "make_sessions.py", tmp_path]).status == 1
+    assert run([sys.executable, MANY / "make_sessions.py", tmp_path]).status == 2
 
 
 @pytest.fixture
