@@ -43,7 +43,8 @@ def test_a_row_that_is_not_so_is_told(shared: pathlib.Path, tmp_path: pathlib.Pa
     need_scudo()
     folder = tmp_path / "examples" / "alloc"
     folder.mkdir(parents=True)
-    (tmp_path / "examples" / "embed").symlink_to(EXAMPLES / "embed")
+    for name in ("embed", "command_line.py"):
+        (tmp_path / "examples" / name).symlink_to(EXAMPLES / name)
     for path in SCRIPT.parent.glob("*.*"):
         text = path.read_text(encoding="utf-8").replace("malloc(size)", "malloc(size + 16)")
         (folder / path.name).write_text(text, encoding="utf-8")

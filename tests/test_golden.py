@@ -361,7 +361,7 @@ def test_a_release_without_its_steps(shared: pathlib.Path, tmp_path: pathlib.Pat
     for folder in ("tools/packing", "examples/golden", "examples/embed", "include", "isa"):
         shutil.copytree(ROOT / folder, copy / folder)
     for name in ("tools/golden_release.py", "examples/over_library.py",
-                 "examples/command_line.py", "VERSION"):
+                 "examples/command_line.py", "examples/command_line.sh", "VERSION"):
         shutil.copy(ROOT / name, copy / name)
     maker = copy / "examples" / "golden" / "make_golden.c"
     maker.write_text(maker.read_text().replace("below(1008)", "below(1007)"))
