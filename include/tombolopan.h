@@ -329,7 +329,7 @@ typedef struct tb_fuzz_finding {
     uint64_t size;    /* how many bytes were accessed */
     uint32_t kind;    /* tb_trespass; 0 where there was none */
     uint32_t write;   /* 1 where the bytes were written, else 0 */
-    uint32_t missed;  /* 1 where memory for a chunk was refused, and nothing judged from there on */
+    uint32_t missed;  /* 1 where memory was refused, and nothing judged from there on */
     uint32_t unused;  /* 0 */
 } tb_fuzz_finding;
 

@@ -69,7 +69,7 @@ fi
 # What needs no program takes seconds, and comes first: written files, the border to C, what
 # theorems reach, the list of crates, the sentences and numbers of pages, style.
 first=(tests/test_style.py tests/test_border.py tests/test_isa.py tests/test_cause_words.py
-    tests/test_believe.py tests/test_crates.py tests/test_page_words.py)
+    tests/test_options.py tests/test_believe.py tests/test_crates.py tests/test_page_words.py)
 run_cases first "${first[@]}"
 save
 "$python" tools/gate_cost.py rt ci | tee "$logs/proofs"

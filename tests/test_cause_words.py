@@ -64,7 +64,6 @@ def test_names_are_given_once() -> None:
     (causes.KINDS, "frees: false", "frees: true"),
     (causes.CHECKING, "a second free, ", ""),
     (causes.MTE_RUN, "`wild-jump`, ", ""),
-    (causes.MTE_RUN, "`places` or `arithmetic`", "or `places`"),
     (causes.MTE_RUN, "<!-- Written by tools/causes.py: rules -->", ""),
     *((it["file"], f"    {it['rows'][-1][0]},", "    Another,")
       for it in (*DATA["violation"], *DATA["words"])),

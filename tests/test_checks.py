@@ -6,7 +6,9 @@ import pathlib
 import re
 import shutil
 import sys
+import tomllib
 
+import causes
 import checking
 import pytest
 
@@ -192,8 +194,8 @@ def test_lost_chunks_of_a_stack(
     for live in range(2):
         path = tmp_path / f"cycle{live}.elf"
         compiled(library, source, compiler, level, path, (*WARNINGS, f"-DLIVE={live}"))
-        told = check(alone, path)
-        assert told.status == 0 and f"mte_run: {lost}\n" in told.errors, (live, told.errors)
+        for told in (check(alone, path), run([alone, "--check=leaks", path])):
+            assert told.status == 0 and f"mte_run: {lost}\n" in told.errors, (live, told.errors)
 
 
 @pytest.mark.parametrize("build", sorted(BUILDS))
@@ -333,9 +335,11 @@ def test_kinds(alone: pathlib.Path, tmp_path: pathlib.Path) -> None:
         errors = run([alone, f"--check={two}", path]).errors
         said = "Cause: [check]" in errors or "lost at the end" in errors
         assert said == (kind != "undefined"), (kind, two, errors)
+    data = tomllib.loads((ROOT / causes.DATA).read_text(encoding="utf-8"))
+    kinds = ", ".join([*data["listed"], "all"])
     for wrong in ("leak", "leaks,", "Frees", "", "leaks, frees"):
         told = run([alone, f"--check={wrong}", cases["leaks"]])
-        assert told.status == 2 and "--check takes provenance, frees" in told.errors
+        assert told.status == 2 and f", with commas between them: {kinds}\n" in told.errors
 
 
 def test_statuses(alone: pathlib.Path, tmp_path: pathlib.Path) -> None:
@@ -343,7 +347,7 @@ def test_statuses(alone: pathlib.Path, tmp_path: pathlib.Path) -> None:
     far = image(tmp_path, "clang-O0", "pointer_bugs.c", "BUG=4")
     lost = image(tmp_path, "clang-O0", "pointer_bugs.c", "BUG=32")
     told = check(alone, far, "--check-status", "7", "--lost-status", "9")
-    assert told.status == 7 and told.errors.endswith("mte_run: ended by exact, status 7\n")
+    assert told.status == 7 and told.errors.endswith("mte_run: ended by check, status 7\n")
     told = check(alone, lost, "--check-status", "7", "--lost-status", "9")
     last = "mte_run: exited with 0 and has lost chunks, status 9\n"
     assert told.status == 9 and told.errors.endswith(last)

@@ -1,11 +1,19 @@
 """Fuzzing tenants: runs from a snapshot, beside tenants that start anew; crashes that replay; and a
 short campaign of each fuzzer."""
 
+import json
+import os
 import pathlib
+import random
 import re
+from collections.abc import Iterator
+from typing import Any
 
 import pytest
 
+from tests.reference import pointers, programs
+from tests.reference.provenance import first_findings
+from tests.reference.runs import INPUT, Runner
 from tests.support import fuzzers
 from tests.support.embedding.built import COMPILERS, DRIVERS, in_c, in_python, in_rust
 from tests.support.fuzzers import ENTER, FUZZ, NAME, PLANTED, card, field
@@ -14,11 +22,14 @@ from tests.support.instructions import call, move, program
 from tests.support.running import Word, run
 from tests.support.tools import give_up, need
 from tests.test_python_package import PACKAGE, told
+from tests.test_watched_runs import CASES, heap
 
 # malloc(24); yield; read(x0, 16); exit with the first byte that was read.
 IMAGE = program(*call(3, 24), 0xAA0003E9, *call(9), 0xAA0903E0, move(1, 16), move(8, 2), 0xD4000001,
                 0x39400120, move(8, 0), 0xD4000001)
 EXIT = 2
+# How many programs of each kind are drawn.
+DRAWN = int(os.environ.get("TOMBOLOPAN_DRAWN", "200")) // 8
 DONE = "print('done')\n"
 BEGIN = f"""
 import ctypes
@@ -295,6 +306,76 @@ for text, found in list(seen.values())[:3]:
         (tmp_path / "input").write_bytes(bytes.fromhex(text))
         report = run([alone, "--exact", "--input", tmp_path / "input", image]).errors
         assert all(re.search(rf"\b{word}\b", report) for word in words), (words, report)
+
+
+def drawn_images(runner: Runner) -> Iterator[bytes]:
+    """Programs whose accesses are right and wrong, and one for each rule of what is noted."""
+    for seed in range(DRAWN):
+        made = pointers.draw(seed)
+        moments, _ = runner.trace(made.words)
+        pointers.end(made, first_findings(moments)[2], moments[-1].after)
+        yield program(programs.draw(seed).words)
+        yield program(made.words)
+    for parts in CASES.values():
+        yield heap(*parts)
+
+
+def found_by_report(runner: Runner, image: bytes, asynchronous: bool) -> dict[str, Any]:
+    """An image, how many steps mte_run takes of it, and the access at which it ends, if it does."""
+    paths = [runner.folder / name for name in ("tenant.elf", "input", "told.json")]
+    paths[0].write_bytes(image)
+    paths[1].write_bytes(INPUT)
+    run([runner.alone, "--exact", "--pages", "64", "--slices", "1048576", "--json", paths[2],
+         *["--async"] * asynchronous, "--input", paths[1], paths[0]])
+    document = json.loads(paths[2].read_text())
+    status, found = document["status"], None
+    if status["kind"] == "exact":
+        found = [status["name"].lower(), document["steps"], status["bytes"], status["write"],
+                 *(int(status[name], 16) for name in ("pc", "address", "first"))]
+    return {"image": image.hex(), "asynchronous": asynchronous, "steps": document["steps"],
+            "found": found}
+
+
+def test_exact_runs_of_drawn_programs(shared: pathlib.Path, alone: pathlib.Path,
+                                      tmp_path: pathlib.Path) -> None:
+    """An exact run finds what `mte_run --exact` does, in both tag modes; by precise checks also for
+    any slices and a snapshot anywhere before it. Its end and its counts are those of a run that is
+    not exact."""
+    runner, source = Runner(alone, tmp_path), random.Random(7)
+    cases = []
+    for image in drawn_images(runner):
+        cases += [found_by_report(runner, image, it) for it in (False, True)]
+    for it in cases:
+        steps = it["steps"]
+        it["setups"] = [0] if it["asynchronous"] else [0, steps - 1, source.randrange(steps)]
+        it["cuts"] = [] if it["asynchronous"] else [source.choice((1, 7, 1000)) for _ in range(40)]
+    (tmp_path / "cases").write_text(json.dumps(cases))
+    assert told(shared, f"""
+import dataclasses, json, pathlib
+
+def check(fuzz, slices, wanted):
+    plain, counts = fuzz.run({INPUT!r}, slices), fuzz.counts
+    exact = fuzz.run({INPUT!r}, slices, exact=True)
+    assert fuzz.counts == counts
+    assert repr(dataclasses.replace(exact, finding=None)) == repr(plain)
+    it = exact.finding
+    found = it and [it.kind.name.replace("_", "").lower(), it.step, it.size, it.write, it.pc,
+                    it.address, it.pointer]
+    assert found == wanted, (slices, found, wanted)
+
+for it in json.loads(pathlib.Path({str(tmp_path / "cases")!r}).read_text()):
+    for setup in it["setups"]:
+        with Fuzz(bytes.fromhex(it["image"]), setup=[setup], pages=64, edges=65536,
+                  asynchronous=it["asynchronous"]) as fuzz:
+            assert fuzz.start.steps == setup
+            left = it["steps"] - setup
+            check(fuzz, it["cuts"] + [1 << 20], it["found"])
+            check(fuzz, [left], it["found"])
+            check(fuzz, [left - 1], None)
+            check(fuzz, [1 << 20], it["found"])
+""" + DONE) == "done\n"
+    found = [it["found"] for it in cases]
+    assert None in found and {"pastsize", "freed"} <= {it[0] for it in found if it}
 
 
 def test_fuzzers_by_exact_runs(shared: pathlib.Path, tmp_path: pathlib.Path) -> None:

@@ -3,6 +3,8 @@
 import os
 import pathlib
 import shlex
+import socket
+import subprocess
 
 import pytest
 
@@ -246,6 +248,34 @@ def test_most_events(host: pathlib.Path, folder: pathlib.Path) -> None:
     (folder / "script").write_text("# a comment\n" * 20000 + "stop 1\n" * 10000)
     assert_reports(run([host, *FRAMES, "script"], cwd=folder),
                    [f"refused {number} NotLive" for number in range(1, 10001)])
+
+
+def test_a_report_is_written_in_blocks(
+    host: pathlib.Path, alone: pathlib.Path, folder: pathlib.Path,
+) -> None:
+    """A report goes out by as few writes as it has blocks of 8192 bytes, and is the same."""
+    (folder / "many").write_text("stop 1\n" * 9000)
+    commands: list[list[Word]] = [
+        [host, "--frames", "1", "many"],
+        [alone, "--script", "many", "1", "--frames", "1", "hi.elf"],
+    ]
+    for words in commands:
+        pieces = pieces_of_output(words, folder)
+        whole = run(words, cwd=folder).out
+        assert b"".join(pieces) == whole != b""
+        assert len(pieces) <= len(whole) // 8192 + 1
+
+
+def pieces_of_output(words: list[Word], folder: pathlib.Path) -> list[bytes]:
+    """The bytes of each write to standard output."""
+    ours, theirs = socket.socketpair(socket.AF_UNIX, socket.SOCK_SEQPACKET)
+    with ours, theirs:
+        process = subprocess.Popen([os.fsdecode(it) for it in words], cwd=folder,
+                                   stdout=theirs.fileno(), stderr=subprocess.DEVNULL)
+        theirs.close()
+        pieces = list(iter(lambda: ours.recv(1 << 20), b""))
+        process.wait()
+    return pieces
 
 
 def test_known_numbers(host: pathlib.Path, folder: pathlib.Path) -> None:

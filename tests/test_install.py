@@ -294,7 +294,8 @@ def completed(moved: pathlib.Path, name: str, *words: str) -> set[str]:
 def test_completions(moved: pathlib.Path, name: str) -> None:
     """bash offers each option of the help; the files of zsh and fish have them too."""
     asked = "mte_run" if name == "mte_why" else name
-    told = TENANTS.get(name) or succeed([moved / "bin" / asked, "--help"]).output
+    word = "--help-all" if asked == "mte_run" else "--help"
+    told = TENANTS.get(name) or succeed([moved / "bin" / asked, word]).output
     options = set(re.findall(r"^ +(?:-\w, )?(--[\w+-]+)", told, re.M))
     assert name in TENANTS or len(options) >= 2
     assert {word.split("=")[0] for word in completed(moved, name, "--")} == options

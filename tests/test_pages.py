@@ -303,8 +303,9 @@ PROGRAMS = ("mte_host", "mte_run")
 def help_of(built: Built, program: str) -> str:
     """The help of a built program, or of a script of the repository."""
     if program in PROGRAMS:
-        path = built.host if program == "mte_host" else built.alone
-        return succeed([path, "--help"]).output
+        if program == "mte_host":
+            return succeed([built.host, "--help"]).output
+        return succeed([built.alone, "--help-all"]).output
     words: list[Word] = [] if program.endswith(".sh") else [sys.executable]
     return succeed([*words, ROOT / program, "--help"]).output
 
@@ -326,7 +327,7 @@ def test_options_of_the_report_page(built: Built) -> None:
     """The table of docs/MTE_RUN.md has the options of mte_run's help, and no other."""
     table = re.findall(r"^\| `(--[^|]*?)` \|", prose("docs/MTE_RUN.md").replace("`, `", " "), re.M)
     named = options_of(" ".join(table))
-    assert named == options_of(help_of(built, "mte_run")) - {"--help", "--version"}
+    assert named == options_of(help_of(built, "mte_run")) - {"--help", "--help-all", "--version"}
 
 
 def test_options_of_the_host_page(built: Built) -> None:

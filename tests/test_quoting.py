@@ -93,14 +93,18 @@ def test_words_that_are_no_text(
             assert ran.errors == f"{program.name}: an argument is not text\n"
 
 
-def test_fixed_lines(host: pathlib.Path, split: pathlib.Path, tmp_path: pathlib.Path) -> None:
-    """By docs/project/DECISIONS.md the lines of mte_host, and so those of mte_split, have a name as
-    it was given."""
+def test_names_of_parts(host: pathlib.Path, split: pathlib.Path, tmp_path: pathlib.Path) -> None:
+    """The lines of mte_host have a name as it was given, by docs/project/DECISIONS.md; those of
+    mte_split have it as mte_run does, as have refused words of a command line."""
     for chunk in CHUNKS:
         name = "x" + "".join(chunk).replace("/", "")
-        for program, words in ((host, [name]), (split, ["--list", name])):
-            ran = run([program, "--frames", "9", *words], cwd=tmp_path)
-            assert (ran.status, ran.errors) == (READ, f"{program.name}: cannot read {name}\n")
+        ran = run([host, "--frames", "9", name], cwd=tmp_path)
+        assert (ran.status, ran.errors) == (READ, f"mte_host: cannot read {name}\n")
+        ran = run([split, "--frames", "9", "--list", name], cwd=tmp_path)
+        assert (ran.status, ran.errors) == (READ, f"mte_split: cannot read {shown(name)}\n")
+        for words in (["--" + name], ["--frames", name, "--list", "x"]):
+            ran = run([split, *words], cwd=tmp_path)
+            assert ran.status == USAGE and asked(ran.out + ran.err) == [], words
 
 
 def test_names_of_symbols(alone: pathlib.Path, tmp_path: pathlib.Path) -> None:

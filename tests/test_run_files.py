@@ -4,6 +4,7 @@ import json
 import os
 import pathlib
 import re
+import shutil
 import subprocess
 import threading
 from typing import Optional
@@ -11,7 +12,7 @@ from typing import Optional
 import pytest
 
 from tests.support.expected import compare
-from tests.support.places import EXAMPLES, ROOT
+from tests.support.places import EXAMPLES, IMAGES, ROOT
 from tests.support.running import HANG, Ran, Word, run
 from tests.support.samples import tenant
 from tests.support.tools import need
@@ -19,6 +20,7 @@ from tests.support.tools import need
 HELLO = EXAMPLES / "hi.elf"
 USAGE, MEMORY, READ, WRITE = 2, 4, 5, 6
 FAULT, CUT = 129, 138
+OUTPUTS = ("--json", "--sarif", "--html", "--map", "--core", "--trace-file")
 SHARED = ("--json, --sarif, --html, --map, --core and --trace-file want different files, and none "
           "that is read")
 
@@ -44,8 +46,7 @@ def test_why_a_file_cannot_be_read(alone: pathlib.Path, tmp_path: pathlib.Path) 
             assert (ran.status, ran.errors) == (READ, f"mte_run: cannot read {name}{reason}\n")
 
 
-@pytest.mark.parametrize(
-    "option", ["--json", "--sarif", "--html", "--map", "--core", "--trace-file"])
+@pytest.mark.parametrize("option", OUTPUTS)
 def test_why_a_file_cannot_be_written(
     alone: pathlib.Path, tmp_path: pathlib.Path, option: str
 ) -> None:
@@ -55,6 +56,39 @@ def test_why_a_file_cannot_be_written(
         ran = run([alone, "--trace", "--steps", "1", option, name, HELLO])
         assert ran.status == WRITE
         assert ran.errors.splitlines()[-1] == f"mte_run: cannot write {name}{reason}"
+
+
+@pytest.mark.parametrize("option", OUTPUTS)
+def test_files_are_replaced_whole(
+    alone: pathlib.Path, tmp_path: pathlib.Path, option: str
+) -> None:
+    """A link to the image and another name of it are replaced, and the image stays. Where a file
+    cannot be written the report is the same, and nothing else is left in the folder."""
+    image, act = tmp_path / "image.elf", tmp_path / "act"
+    shutil.copy(IMAGES / "chunks.clang-O0.elf", image)
+    act.write_text("a")
+    more: list[Word] = ["--input", act, *(["--trace"] if option == "--trace-file" else [])]
+    before = image.read_bytes()
+    (tmp_path / "link").symlink_to("image.elf")
+    (tmp_path / "same").hardlink_to(image)
+    (tmp_path / "none").symlink_to("absent.elf")
+    there = {it.name for it in tmp_path.iterdir()}
+    wanted = run([alone, *more, option, tmp_path / "new", image])
+    (tmp_path / "new").unlink()
+    report = wanted.errors[:wanted.errors.rindex("mte_run: ended by")]
+    assert wanted.status == FAULT and "Cause" in report
+    for name in ("link", "same", "none"):
+        assert run([alone, *more, option, tmp_path / name, image]) == wanted
+        file = tmp_path / name
+        assert not file.is_symlink() and file.is_file() and file.read_bytes() != before
+        assert image.read_bytes() == before and not (tmp_path / "absent.elf").exists()
+    assert {it.name for it in tmp_path.iterdir()} == there
+    places: list[Word] = ["/dev/full", tmp_path / "absent" / "file"]
+    for place in places:
+        ran = run([alone, *more, option, place, image])
+        assert (ran.status, ran.out) == (WRITE, wanted.out)
+        assert option == "--trace-file" or ran.errors.startswith(report)
+    assert {it.name for it in tmp_path.iterdir()} == there and image.read_bytes() == before
 
 
 def test_a_trace_that_finds_no_room(alone: pathlib.Path) -> None:

@@ -108,8 +108,9 @@ def test_output_that_is_cut_is_told(
 
 # Command lines that are refused, or ask for no run.
 USAGES: tuple[list[str], ...] = (
-    [], ["--help"], ["-h"], ["--version"], ["-V"], ["--nonsense", HELLO], ["--vers"],
-    [HELLO, HELLO], ["--script", "a", "1", HELLO], ["--script", "a", "--frames", "9", HELLO],
+    [], ["--help"], ["-h"], ["--help-all"], ["--version"], ["-V"], ["--nonsense", HELLO],
+    ["--vers"], [HELLO, HELLO], ["--script", "a", "1", HELLO],
+    ["--script", "a", "--frames", "9", HELLO],
     ["--script", "a", "one", "--frames", "9", HELLO],
     ["--script", "a", "65536", "--frames", "9", HELLO],
     ["--script", "a", "1", "--frames", "0", HELLO],
@@ -136,7 +137,7 @@ def test_usage_is_as_stored(alone: pathlib.Path) -> None:
     told = ""
     for words in USAGES:
         ran = run_words(alone, *words)
-        is_help = words in (["--help"], ["-h"], ["--version"], ["-V"])
+        is_help = words in (["--help"], ["-h"], ["--help-all"], ["--version"], ["-V"])
         assert ran.status == (0 if is_help else USAGE), words
         assert bool(ran.out) == is_help and bool(ran.err) == (not is_help), words
         shown = " ".join(words).replace("\x1b", "\\x1b")

@@ -13,7 +13,7 @@ import random
 
 import pytest
 
-from tests.reference import pointers, programs
+from tests.reference import place_rules, pointers, programs, variables
 from tests.reference.drawing import word
 from tests.reference.provenance import first_findings
 from tests.reference.runs import Runner
@@ -21,12 +21,17 @@ from tests.support.instructions import (
     CODE, SERVICE, SP, ZERO, Words, add, call, copy, jump_not_equal, load, load_pair, move,
     program, store, store_pair, subtract_with_flags,
 )
-from tests.support.running import Word, run
+from tests.support.running import Word, run, succeed
+from tests.support.samples import FLAGS
+from tests.support.tools import need
 from tests.test_checks import (
-    ARITHMETIC, BUGS, IDIOMS, UNDEFINED, UNDEFINED_IDIOMS, image,
+    ARITHMETIC, BUGS, BUILDS, IDIOMS, PLACE_IDIOMS, PLACES, PLAIN_PLACES, UNDEFINED,
+    UNDEFINED_IDIOMS, image,
 )
 
 DRAWN = int(os.environ.get("TOMBOLOPAN_DRAWN", "200")) // 4
+# So many drawn programs that each build has all sources.
+MANY = 1_000
 NEVER = "18446744073709551615"
 EXIT, MALLOC, FREE = 0, 3, 4
 KEPT, HEAP_BYTES = 19, 24
@@ -45,6 +50,10 @@ CHECKED: list[list[str]] = [
     [ALL_KINDS, "--calls", "6", "--leaks"], [ALL_KINDS, "--exact"],
     [ALL_KINDS, "--last", "40", "--steps", "1500"], [ALL_KINDS, "--statistics"],
     ["--check=undefined,arithmetic", "--map", "text"], ["--check=all,places"],
+]
+PLACED: list[list[str]] = [
+    ["--check=places"], ["--check=all,places"], ["--check=places", "--last", "40", "--leaks"],
+    ["--check=all,places,arithmetic", "--exact"], ["--check=places,frees", "--steps", "1500"],
 ]
 SLICES: list[list[str]] = [
     [], ["--slices", "1,7,1000,1,1048576"], ["--async", "--slices", "999,1,1000000"],
@@ -121,6 +130,66 @@ def test_checked_frees(alone: pathlib.Path, tmp_path: pathlib.Path) -> None:
             words: list[Word] = ["--check=frees", "--input", tmp_path / "input", path]
             assert differs(alone, tmp_path, words) == ""
             assert (kind_of_end(tmp_path) == "check") == (pair // 3 != pair % 3)
+
+
+def cases_of_places() -> list[tuple[str, list[str]]]:
+    """The sources of wrong and of correct uses of variables, with what is defined for each."""
+    bugs = [("place_bugs.c", [f"BUG={bug}"]) for bug in sorted({**PLACES, **PLAIN_PLACES})]
+    idioms = [("place_idioms.c", [f"IDIOM={idiom}"]) for idiom in PLACE_IDIOMS]
+    jumps = [("place_idioms.c", ["IDIOM=27", f"PAST={past}"]) for past in (1, 40)]
+    objects: list[tuple[str, list[str]]] = [("place_idioms.cc", [])] * len(BUILDS)
+    return [*bugs, *idioms, *jumps, *objects]
+
+
+@pytest.mark.parametrize("build", sorted(BUILDS))
+def test_checked_places(alone: pathlib.Path, tmp_path: pathlib.Path, build: str) -> None:
+    """Wrong and correct uses of variables, by one of the builds each, or by all."""
+    (tmp_path / "input").write_bytes(b"y" * 100)
+    turn = sorted(BUILDS).index(build)
+    found = []
+    for number, (source, defined) in enumerate(cases_of_places()):
+        if DRAWN >= MANY or number % len(BUILDS) == turn:
+            path = image(tmp_path, build, source, *defined)
+            asked, slices = PLACED[number % len(PLACED)], SLICES[number % len(SLICES)]
+            found += [differs(alone, tmp_path, [*it, "--input", tmp_path / "input", path])
+                      for it in (PLACED[0], [*asked, *slices])]
+    assert [it for it in found if it] == []
+
+
+def images_of(source: pathlib.Path, build: str, text: str,
+              starts: list[str]) -> dict[str, pathlib.Path]:
+    """Images of one source that begin at different functions."""
+    need(BUILDS[build][0])
+    source.write_text(text)
+    path = source.with_suffix(".elf")
+    succeed([*BUILDS[build], *FLAGS, "-fno-omit-frame-pointer", "-mno-omit-leaf-frame-pointer",
+             f"-Wl,-e,{starts[0]}", "-o", path, source])
+    names = {name: int(addr, 16) for addr, _, name in
+             (line.split() for line in succeed(["llvm-nm", path]).output.splitlines())}
+    made = {}
+    for start in starts:
+        content = bytearray(path.read_bytes())
+        content[24:32] = names[start].to_bytes(8, "little")
+        made[start] = source.with_name(f"{start}.elf")
+        made[start].write_bytes(content)
+    return made
+
+
+@pytest.mark.parametrize("build", sorted(BUILDS))
+def test_drawn_variables(alone: pathlib.Path, tmp_path: pathlib.Path, build: str) -> None:
+    """Drawn functions with variables, whose uses of these are right and wrong."""
+    (tmp_path / "input").write_bytes(b"y" * 100)
+    found, ends = [], set()
+    seeds = range(DRAWN // 8)
+    starts = [variables.start(seed) for seed in seeds]
+    images = images_of(tmp_path / "drawn.c", build, variables.draw(seeds), starts)
+    for start, path in images.items():
+        source = random.Random(start)
+        words: list[Word] = [*source.choice(PLACED), *source.choice(SLICES)]
+        found.append(differs(alone, tmp_path, [*words, "--input", tmp_path / "input", path]))
+        ends.add(kind_of_end(tmp_path))
+    assert [it for it in found if it] == []
+    assert DRAWN < 50 or {"exit", "check"} <= ends, ends
 
 
 def test_drawn_programs(alone: pathlib.Path, tmp_path: pathlib.Path) -> None:
@@ -345,3 +414,14 @@ def test_rules(alone: pathlib.Path, tmp_path: pathlib.Path, name: str) -> None:
         assert differs(alone, tmp_path, [*asked, *slices, path]) == ""
         if asked == [ALL_KINDS]:
             assert (kind_of_end(tmp_path) == "check") == is_told
+
+def test_rules_of_places(alone: pathlib.Path, tmp_path: pathlib.Path) -> None:
+    """A program for each rule of places that is followed."""
+    rules = place_rules.RULES
+    starts = [place_rules.start(number) for number in range(len(rules))]
+    images = images_of(tmp_path / "rules.s", "clang-O0", place_rules.text_of_rules(), starts)
+    for number, (name, (is_told, _)) in enumerate(rules.items()):
+        path = images[place_rules.start(number)]
+        for asked in (PLACED[0], [*PLACED[1], *SLICES[number % len(SLICES)]]):
+            assert differs(alone, tmp_path, [*asked, path]) == ""
+            assert (kind_of_end(tmp_path) == "check") == is_told, name

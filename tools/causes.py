@@ -43,6 +43,12 @@ def quoted(text: str) -> str:
     return '"' + text.replace("\\", "\\\\").replace('"', '\\"') + '"'
 
 
+def folded(text: str) -> str:
+    """A text that is too long for a line, below the name that it is of."""
+    lines = textwrap.wrap(quoted(text), WIDTH - 8, break_on_hyphens=False)
+    return "\n    " + " \\\n     ".join(lines)
+
+
 def comment(text: str, indent: str = "    ") -> str:
     """A public comment."""
     lead = f"{indent}/// "
@@ -223,10 +229,16 @@ def listed(data: Data) -> list[Row]:
     return [kinds[name] for name in data["listed"]]
 
 
+# What the help of --check says before the kinds, and the fault of a word that is none.
+CHECK_HELP = "Ends it at the first wrong use of a pointer, a chunk or an undefined value"
+CHECK_FAULT = "--check takes these, with commas between them:"
+
+
 def kinds_file(data: Data) -> str:
     """The kinds of --check."""
     kinds = listed(data)
     names = [it["name"] for it in kinds]
+    shown = ", ".join([*names, "all"])
     parts = KINDS_FUNCTIONS.format(
         names="".join(f'            "{it}" => Some(CheckKind::{it.title()}),\n' for it in names),
         fields="".join(f"{comment(it['about'])}    pub {it['name']}: bool,\n" for it in kinds),
@@ -238,6 +250,10 @@ def kinds_file(data: Data) -> str:
         HEAD, "//! The kinds of what is checked.\n",
         "\n/// The names of all kinds.\n",
         f"pub(crate) const NAMES: &str = {quoted(', '.join(names))};\n",
+        "\n/// The help of `--check`.\n",
+        f"pub const CHECK_HELP: &str ={folded(f'{CHECK_HELP} [possible values: {shown}]')};\n",
+        "\n/// The fault of a word that is no kind.\n",
+        f"pub const CHECK_FAULT: &str ={folded(f'{CHECK_FAULT} {shown}')};\n",
         enum("CheckKind", "A kind of what is checked.",
              [(it["name"].title(), it["about"]) for it in kinds], "Clone, Copy, PartialEq, Eq"),
         parts])
@@ -291,7 +307,6 @@ def rules(data: Data) -> str:
 
 PARTS = [
     (CHECKING, "the kinds", kinds_table),
-    (MTE_RUN, "the kinds", kind_names),
     (MTE_RUN, "names of --exact", exact_names),
     (MTE_RUN, "names of --check", check_names),
     (MTE_RUN, "rules", rules),

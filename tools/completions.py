@@ -1,7 +1,7 @@
 #!/usr/bin/env python3
 """Writes what a shell completes for a program, by the options of its own help.
 
-    completions.py bash|zsh|fish NAME < HELP      HELP is what NAME --help prints
+    completions.py bash|zsh|fish NAME < HELP      HELP is what NAME --help prints, or --help-all
 """
 import re
 import sys

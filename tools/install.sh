@@ -189,9 +189,10 @@ put_libc() {
 # Manual pages and completions, of what each program says of itself and of the pages.
 put_texts() {
     local name call
-    for name in mte_host mte_split mte_run; do
+    for name in mte_host mte_split; do
         "$work/$name" --help >"$work/$name.help"
     done
+    "$work/mte_run" --help-all >"$work/mte_run.help"
     (cd "$stage/bin" && ./mte_why --help) >"$work/mte_why.help"
     for name in mte_host mte_split mte_run mte_why "${tenants[@]}"; do
         "$here/manual.py" program "$name" <"$work/$name.help" >"$work/$name.1"

@@ -148,10 +148,12 @@ def of_help(text: str) -> dict[str, str]:
         made["SYNOPSIS"] = f".B {escaped(found[1])}"
         about = rest[:found.start()].strip()
         made |= {"DESCRIPTION": roff.roff_of(about)} if about else {}
-    for title in ("Arguments", "Options"):
-        part = re.search(rf"^{title}:\n((?:[ ]+.*\n?)+)", rest, re.M)
-        if part:
-            made[title.upper()] = rows_of(part[1])
+    groups = dict(re.findall(r"^(\S.*):\n((?:[ ]+.*\n?)+)", rest, re.M))
+    if arguments := groups.pop("Arguments", ""):
+        made["ARGUMENTS"] = rows_of(arguments)
+    if general := groups.pop("Options", ""):
+        parts = [f".SS {escaped(title)}\n{rows_of(part)}" for title, part in groups.items()]
+        made["OPTIONS"] = "\n".join([rows_of(general), *parts])
     return made
 
 

@@ -1,16 +1,19 @@
 """A page in headless Chromium, by the DevTools protocol over a pipe: keys, values, errors."""
 
+import base64
 import json
 import os
 import pathlib
 import shutil
 import subprocess
+import time
 from types import TracebackType
 from typing import Any, Optional, Type
 
 import pytest
 
 NAME = "chromium"
+SECONDS = 120
 CODES = {"ArrowLeft": 37, "ArrowRight": 39, "Home": 36, "End": 35, "PageUp": 33, "PageDown": 34,
          "Tab": 9}
 FAILURES = ("Runtime.exceptionThrown", "Log.entryAdded")
@@ -82,10 +85,30 @@ class Browser:
             self.events.append(message)
 
     def value(self, expression: str) -> Any:
-        """The value of an expression of JavaScript."""
-        answer = self.call("Runtime.evaluate", expression=expression, returnByValue=True)
+        """The value of an expression of JavaScript, or of what it promises."""
+        answer = self.call("Runtime.evaluate", expression=expression, returnByValue=True,
+                           awaitPromise=True)
         assert "exceptionDetails" not in answer, answer
         return answer["result"].get("value")
+
+    def wait(self, expression: str, seconds: float = SECONDS) -> None:
+        """Waits until an expression is true."""
+        end = time.monotonic() + seconds
+        while not self.value(f"!!({expression})"):
+            assert time.monotonic() < end, f"waited in vain: {expression}"
+            time.sleep(0.05)
+
+    def drop(self, *files: pathlib.Path) -> None:
+        """Drops files on the page."""
+        data = {"items": [], "files": [str(it) for it in files], "dragOperationsMask": 1}
+        for kind in ("dragEnter", "dragOver", "drop"):
+            self.call("Input.dispatchDragEvent", type=kind, x=200, y=200, data=data)
+
+    def picture(self) -> bytes:
+        """The whole page as PNG."""
+        self.call("Emulation.setScrollbarsHidden", hidden=True)
+        answer = self.call("Page.captureScreenshot", format="png", captureBeyondViewport=True)
+        return base64.b64decode(answer["data"])
 
     def text(self, name: str) -> str:
         """The text of an element."""

@@ -3,6 +3,7 @@
 
     measure.py [--ir] [--qemu] [--unicorn] [--rounds N] HOST...
     measure.py --real [--ir] [--scudo] [--native] [--only NAME] [--work FOLDER] [--rounds N] HOST...
+    measure.py --watched [--ir] [--only NAME] [--work FOLDER] [--rounds N] HOST...
 
 Each HOST is a built mte_host. All of them run the same tenants in turns, N times (5), and each
 workload's line has the best user time of each in nanoseconds a step, the time of a start with a
@@ -21,6 +22,8 @@ steps.
 
 REAL
 
+WATCHED
+
 Needed (Debian): clang, lld; valgrind for `--ir`; qemu-user and gcc-aarch64-linux-gnu for `--qemu`;
 libunicorn-dev for `--unicorn`;
 for `--real` all of them, libc6-dev-arm64-cross, libc6-dev and what apt-get needs to fetch sources.
@@ -33,6 +36,7 @@ import tempfile
 from collections.abc import Sequence
 
 import real_programs
+import watched
 from commands import SLICE, Command, instructions, parse_hosts, run_tool, user_time
 
 HERE = pathlib.Path(__file__).resolve().parent
@@ -183,6 +187,7 @@ def measure_loops(options: argparse.Namespace, work: pathlib.Path) -> None:
 
 def arguments() -> argparse.Namespace:
     text = (__doc__ or "").replace("REAL\n", real_programs.__doc__ or "")
+    text = text.replace("WATCHED\n", watched.__doc__ or "")
     parser = argparse.ArgumentParser(description=text,
                                      formatter_class=argparse.RawDescriptionHelpFormatter)
     parser.add_argument("--ir", action="store_true")
@@ -190,6 +195,7 @@ def arguments() -> argparse.Namespace:
     parser.add_argument("--unicorn", action="store_true")
     parser.add_argument("--rounds", type=int, default=5)
     parser.add_argument("--real", action="store_true")
+    parser.add_argument("--watched", action="store_true")
     parser.add_argument("--scudo", action="store_true")
     parser.add_argument("--native", action="store_true")
     parser.add_argument("--only", choices=real_programs.PROGRAMS)
@@ -199,8 +205,13 @@ def arguments() -> argparse.Namespace:
 def main() -> None:
     options = arguments()
     with tempfile.TemporaryDirectory() as name:
-        measure = real_programs.measure if options.real else measure_loops
-        measure(options, pathlib.Path(name))
+        work = pathlib.Path(name)
+        if options.watched:
+            real_programs.measure(options, work, watched.measure_program)
+        elif options.real:
+            real_programs.measure(options, work, real_programs.measure_program)
+        else:
+            measure_loops(options, work)
 
 
 if __name__ == "__main__":

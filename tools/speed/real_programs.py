@@ -27,6 +27,7 @@ five minutes, with `--ir` two.
 import pathlib
 import sys
 from argparse import Namespace
+from collections.abc import Callable
 from pathlib import Path
 from typing import Optional
 
@@ -216,6 +217,10 @@ class Builder:
                 "AddressSanitizer": ["env", "ASAN_OPTIONS=detect_leaks=0", checked]}
 
 
+# Measures a program by its name; the objects are those of Scudo, where it is asked for.
+Measure = Callable[[str, Builder, list[Path], Namespace], None]
+
+
 def make_input(work: Path, name: str, run: Run) -> Path:
     """The input of a run: how many rounds, over how many bytes, and Lua's program."""
     text = (REAL / "program.lua").read_text() if name == "lua" else ""
@@ -298,9 +303,8 @@ def show(runs: Runs, best: Best, whole: Path, start: Path, steps: int) -> None:
         print(line, flush=True)
 
 
-def measure_program(name: str, builder: Builder, heap: list[Path], options: Namespace,
-                    work: Path) -> None:
-    image = builder.tenant(name)
+def measure_program(name: str, builder: Builder, heap: list[Path], options: Namespace) -> None:
+    image, work = builder.tenant(name), builder.work
     for host in options.hosts:
         found = count(host, work, image, name)
         print(f"{name}: {found:.2f} instructions a step, {host}", flush=True)
@@ -332,8 +336,8 @@ def fetch_sources(names: list[str], folder: Path) -> dict[str, Path]:
     return found
 
 
-def measure(options: Namespace, work: Path) -> None:
-    """The lines of all programs, or of one."""
+def measure(options: Namespace, work: Path, program: Measure) -> None:
+    """The lines of all programs, or of one, each as `program` measures it."""
     need_tools(TOOLS)
     folder = (options.work or work / "source").resolve()
     names = [options.only] if options.only else list(PROGRAMS)
@@ -346,4 +350,4 @@ def measure(options: Namespace, work: Path) -> None:
     print(f"{version(CLANG[0])}; {version('qemu-aarch64')}", flush=True)
     builder = Builder(libraries, sources, work)
     for name in sources:
-        measure_program(name, builder, heap, options, work)
+        program(name, builder, heap, options)

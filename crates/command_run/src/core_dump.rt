@@ -5,9 +5,8 @@ use mte_flat::Flat;
 use mte_tags::TagMode;
 use run_request::{RunRequest, read_course};
 use run_terms::{Failure, Replay};
-use std::fs::File;
 use std::io;
-use std::io::BufWriter;
+use tenant_run::WholeFile;
 
 /// Writes the core file of a tenant's end, where one is named.
 pub fn dump_core<'a>(
@@ -54,6 +53,7 @@ fn write_file(
     subject: &CoreSubject<'_>,
     memory: &mut Flat,
 ) -> io::Result<()> {
-    let mut out = BufWriter::new(rt.alloc(), File::create(rt, name)?)?;
-    write_core(rt.alloc(), &mut out, subject, memory)
+    let mut file = WholeFile::create(rt, name)?;
+    let written = write_core(rt.alloc(), &mut file, subject, memory);
+    file.conclude(rt, written)
 }

@@ -1,13 +1,12 @@
 //! The picture of the heap, in a file.
 
 use common::Printable;
-use either::Either;
 use mte_flat::Flat;
 use mte_report::{PictureForm, Report};
 use run_terms::{Failure, Options};
-use std::fs::File;
-use std::io::BufWriter;
+use std::io::{BufWriter, Write};
 use std::{fmt, io};
+use tenant_run::WholeFile;
 
 /// The name for which the heap is written as text, on standard error.
 const TEXT: &str = "text";
@@ -44,19 +43,24 @@ fn draw_file(
     if name == TEXT {
         return write_text(rt, report, title.as_str(), memory);
     }
-    let file = if name == "-" {
-        Either::Left(rt.stdout())
-    } else {
-        Either::Right(File::create(rt, name)?)
-    };
-    let mut out = BufWriter::new(rt.alloc(), file)?;
-    report.draw(
-        rt.alloc(),
-        &mut out,
-        title.as_str(),
-        PictureForm::Svg,
-        memory,
-    )
+    if name == "-" {
+        let mut out = BufWriter::new(rt.alloc(), rt.stdout())?;
+        return draw_into(rt, report, &mut out, title.as_str(), memory);
+    }
+    let mut file = WholeFile::create(rt, name)?;
+    let drawn = draw_into(rt, report, &mut file, title.as_str(), memory);
+    file.conclude(rt, drawn)
+}
+
+/// Draws the heap and its tags as a picture.
+fn draw_into<W: Write>(
+    rt: &HostRuntime,
+    report: &Report<'_>,
+    out: &mut W,
+    title: &str,
+    memory: &mut Flat,
+) -> io::Result<()> {
+    report.draw(rt.alloc(), out, title, PictureForm::Svg, memory)
 }
 
 /// Writes the heap and its tags as text, on standard error, under a title of characters that a

@@ -11,6 +11,7 @@ use run_request::{
     refuse_unadmitted,
 };
 use run_terms::{Failure, Replay};
+use std::io::BufWriter;
 use tenant_run::{LoneTenant, Observer, TenantBench, observer_of};
 
 /// Runs an image alone, writes its output and says why it ended; returns the exit status.
@@ -92,11 +93,13 @@ fn write_lines<'a>(
     bench: &TenantBench,
 ) -> Result<TagMode, Failure<'a>> {
     let log = &bench.parts.history;
-    let mut out = StreamSink(request.rt.stdout());
+    let rt = request.rt;
     if request.options.output.is_raw {
-        write_all(&mut out, log.output.as_slice())?;
+        write_all(&mut StreamSink(rt.stdout()), log.output.as_slice())?;
     } else {
+        let mut out = StreamSink(BufWriter::new(rt.alloc(), rt.stdout())?);
         write_report(log, &mut out)?;
+        out.finish()?;
     }
     mode_in(request, session.replay)
 }

@@ -18,10 +18,9 @@ use run_request::{Run, RunRequest};
 use run_terms::{Exactness, Failure, FileFault, Options, Suppressions};
 use shadow_memory::Full;
 use std::alloc::{AllocError, Global};
-use std::fs::File;
 use std::io;
 use std::io::{BufWriter, Write};
-use tenant_run::{LastLine, Observer, TenantBench, TenantEnding};
+use tenant_run::{LastLine, Observer, TenantBench, TenantEnding, WholeFile};
 
 /// Writes what happened to a tenant, and returns the exit status.
 pub fn tell_end<'a>(
@@ -30,24 +29,23 @@ pub fn tell_end<'a>(
     bench: TenantBench,
     observer: &mut Observer<'_>,
 ) -> Result<u8, Failure<'a>> {
+    let is_traced = observer.finish();
     end_watch(request, observer)?;
     let TenantBench {
         parts,
         mut memory,
         ..
     } = bench;
-    tell_parts(request, run, &parts, &mut memory, observer)
+    let status = tell_parts(request, run, &parts, &mut memory, observer)?;
+    if is_traced {
+        Ok(status)
+    } else {
+        Err(unwritten_lines(request.options))
+    }
 }
 
-/// Ends the lines of a trace, and says whether output was cut. A line or a chunk that is missing is
-/// a failure.
-fn end_watch<'a>(
-    request: &RunRequest<'a, '_>,
-    observer: &mut Observer<'_>,
-) -> Result<(), Failure<'a>> {
-    if !observer.finish() {
-        return Err(unwritten_lines(request.options));
-    }
+/// Says whether output was cut. A chunk that is missing is a failure.
+fn end_watch<'a>(request: &RunRequest<'a, '_>, observer: &Observer<'_>) -> Result<(), Failure<'a>> {
     if !observer.is_complete() {
         return Err(Failure::Memory);
     }
@@ -75,7 +73,6 @@ fn tell_parts<'a>(
         mode: run.mode,
         name: run.image.name,
     };
-    dump_core(request, &subject, memory)?;
     let reserved = reserved_pages(alloc, options, memory)?;
     let lost = lost_chunks(alloc, parts, observer, memory)?;
     let is_named = !lost.is_empty() || is_told(parts, observer, options);
@@ -95,7 +92,7 @@ fn tell_parts<'a>(
         statistics: observer.table(reserved),
         is_cut: observer.is_cut,
     };
-    tell(request, &report, lost.as_slice(), memory)
+    tell(request, &report, &subject, lost.as_slice(), memory)
 }
 
 /// The failure to note more of the tenant's pointers.
@@ -119,6 +116,7 @@ fn unwritten_lines(options: &Options) -> Failure<'_> {
 fn tell<'a>(
     request: &RunRequest<'a, '_>,
     report: &Report<'_>,
+    subject: &CoreSubject<'_>,
     lost: &[LostChunk],
     memory: &mut Flat,
 ) -> Result<u8, Failure<'a>> {
@@ -133,6 +131,7 @@ fn tell<'a>(
     let ending = ending_of(report, options);
     let status = status_of(report, options, ending, has_lost);
     write_files(rt, report, options, status, memory)?;
+    dump_core(request, subject, memory)?;
     tell_unseen(rt, report, options);
     tell_last_line(rt, report, ending, status);
     Ok(status)
@@ -276,12 +275,13 @@ fn write_document(
     name: &str,
     memory: &mut Flat,
 ) -> io::Result<()> {
-    let mut out = BufWriter::new(rt.alloc(), File::create(rt, name)?)?;
-    match form {
-        DocumentForm::Json => document.write_json(&mut out, memory),
-        DocumentForm::Sarif => document.write_sarif(&mut out, memory),
-        DocumentForm::Page => document.write_page(&mut out, memory),
-    }
+    let mut file = WholeFile::create(rt, name)?;
+    let written = match form {
+        DocumentForm::Json => document.write_json(&mut file, memory),
+        DocumentForm::Sarif => document.write_sarif(&mut file, memory),
+        DocumentForm::Page => document.write_page(&mut file, memory),
+    };
+    file.conclude(rt, written)
 }
 
 /// Writes what no tag finds, on standard error, of a tenant that exited and had chunks whose last
@@ -305,6 +305,9 @@ fn tell_last_line(rt: &HostRuntime, report: &Report<'_>, ending: TenantEnding, s
         ending,
         log,
         status,
+        finder: report
+            .finding
+            .map(|finding| finding.wrong.violation.finder()),
     };
     if line.is_told() {
         let _ = eprintln!(rt; "mte_run: {line}");

@@ -3,3 +3,5 @@ pub mod Chunks
 pub mod Extents
 pub mod KeptChunks
 pub mod LiveBytes
+pub mod NearBytes
+pub mod NearChunks

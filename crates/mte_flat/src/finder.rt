@@ -19,15 +19,15 @@ struct PageSlot {
 pub struct Finder {
     /// No address leads to it, so a fetch need not wait for one.
     pub(crate) code: usize,
-    last: [usize; 64],
+    last: [u16; 256],
     places: Vec<PageSlot>,
 }
 
-/// The first pages of two regions of 4096 pages differ in it.
+/// The first pages of two regions of 4096 pages are 37 apart in it.
 fn hash(page: u64) -> usize
-    ensures { result < 64 }
+    ensures { result < 256 }
 {
-    ((page % 64 + page / 4096) % 64) as usize
+    ((page % 256 + page / 4096 % 256 * 37) % 256) as usize
 }
 
 impl Finder {
@@ -35,7 +35,7 @@ impl Finder {
     pub(crate) fn new(alloc: Global, pages: usize) -> Result<Finder, AllocError> {
         Ok(Finder {
             code: 0,
-            last: [0; 64],
+            last: [0; 256],
             places: Vec::with_capacity(alloc, pages)?,
         })
     }
@@ -64,12 +64,13 @@ impl Finder {
     /// The slot that was found last for a page of this hash.
     #[inline]
     pub(crate) fn last(&self, page: u64) -> usize {
-        self.last[hash(page)]
+        usize::from(self.last[hash(page)])
     }
 
+    /// The slot of a page was found. There are at most 65,536 slots.
     #[inline]
     pub(crate) fn found(&mut self, page: u64, slot: usize) {
-        self.last[hash(page)] = slot;
+        self.last[hash(page)] = (slot % 65_536) as u16;
     }
 
     /// The slot of a page.

@@ -6,13 +6,26 @@ mod system;
 
 use command_line::read_command_line;
 use mte_program::{StreamSink, conclude};
+use mte_session::{Ending, finish};
+use std::io::BufWriter;
 use std::process::ExitCode;
 use system::SystemFiles;
 
 fn main(rt: HostRuntime) -> ExitCode {
-    let invocation = read_command_line(&rt);
     let files = &mut SystemFiles(&rt);
-    let out = &mut StreamSink(rt.stdout());
     let err = &mut StreamSink(rt.stderr());
-    ExitCode::from(conclude(rt.alloc(), &invocation, files, out, err))
+    let Ok(blocks) = BufWriter::new(rt.alloc(), rt.stdout()) else {
+        return ExitCode::from(finish(&Ending::Memory, err));
+    };
+    let mut out = StreamSink(blocks);
+    let invocation = read_command_line(&rt);
+    let status = conclude(rt.alloc(), &invocation, files, &mut out, err);
+    if status != 0 {
+        out.abandon();
+        return ExitCode::from(status);
+    }
+    match out.finish() {
+        Ok(_) => ExitCode::from(0),
+        Err(_) => ExitCode::from(finish(&Ending::Write, err)),
+    }
 }

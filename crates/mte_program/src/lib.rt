@@ -14,4 +14,4 @@ pub use invocation::{Invocation, conclude};
 pub use program::Program;
 pub use running::run_program;
 pub use streams::{StreamSink, StreamSource};
-pub use words::{EarlyEnd, collect_names, collect_words, read_words};
+pub use words::{EarlyEnd, collect_names, collect_words, print_answer, read_words};

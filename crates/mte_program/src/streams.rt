@@ -2,14 +2,15 @@
 //! writer inside, as far as the standard library knows it: of a system's file it knows nothing.
 
 ghost use Rattle.std.specs.Prelude.{◌≡◌, ◌≤◌, length, IfOk};
-ghost use Rattle.std.specs.Io.KnownBytes.{ReadConsumes, WriteAppends};
+ghost use Rattle.std.specs.Io.Buffered.{writer_contents};
+ghost use Rattle.std.specs.Io.KnownBytes.{Keeps, ReadConsumes, WriteAppends};
 ghost use Rattle.mte_program.specs.Streams.{count_or_failure};
 ghost use Rattle.mte_streams.specs.Reading.{unknown_reads, after_read};
 ghost use Rattle.mte_streams.specs.Writing.{unknown_writes, after_write};
 
-use mte_session::{Sink, Source, StreamError};
+use mte_session::{Sink, Source, StreamError, WriteFault};
 use std::io;
-use std::io::{Read, Write};
+use std::io::{BufWriter, Read, Write};
 
 /// The outcome of a read or a write. One that failed stays a failure: it is neither the end nor a
 /// count of 0.
@@ -53,5 +54,27 @@ impl<W: Write + Drop> Sink for StreamSink<W> {
             bytes.now }
     {
         passed(self.0.write(bytes))
+    }
+}
+
+impl<W: Write + Drop> StreamSink<BufWriter<W>> {
+    /// Writes the bytes that are held, and returns the writer. After a write that failed there is
+    /// none.
+    pub fn finish(self) -> Result<W, WriteFault>
+        ensures bytes { IfOk result (λ w.
+            Keeps (writer_contents W.contents self.0) (W.contents w)) }
+    {
+        match self.0.into_inner() {
+            Ok(writer) => Ok(writer),
+            Err(fault) => {
+                let (_writer, _held) = fault.into_inner().into_parts();
+                Err(WriteFault)
+            }
+        }
+    }
+
+    /// Leaves the bytes that are held unwritten, as after a write that failed.
+    pub fn abandon(self) {
+        let (_writer, _held) = self.0.into_parts();
     }
 }

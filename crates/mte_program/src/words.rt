@@ -3,6 +3,7 @@
 ghost use Rattle.std.specs.Prelude.{◌≡◌, ◌∷◌, ◌≤◌, map, length, IfOk};
 ghost use Rattle.mte_program.specs.Reads.{names_of};
 
+use common::PrintableLines;
 use std::alloc::{AllocError, Global};
 use std::env::Args;
 use std::{env, io};
@@ -31,6 +32,20 @@ fn end_of_unreadable(rt: &HostRuntime, program: &str, error: &io::Error) -> Earl
     }
     let _ = eprintln!(rt; "{program}: an argument is not text");
     EarlyEnd::Exit(2)
+}
+
+/// Prints the answer to a command line that asks for no run: a fault on standard error, help and
+/// the like on standard output. Control characters of words in it are shown as they are escaped.
+pub fn print_answer(rt: &HostRuntime, text: &str, is_fault: bool) -> EarlyEnd {
+    let lines = PrintableLines(text);
+    if is_fault {
+        let _ = eprint!(rt; "{lines}");
+        return EarlyEnd::Exit(2);
+    }
+    match print!(rt; "{lines}") {
+        Ok(()) => EarlyEnd::Exit(0),
+        Err(_) => EarlyEnd::Exit(6),
+    }
 }
 
 /// The arguments of the process, all of them or none: their room is reserved first, since a vector

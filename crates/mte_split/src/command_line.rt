@@ -4,7 +4,7 @@ use crate::request::{SplitRequest, Wanted};
 use clap::error::ErrorKind;
 use clap::{Arg, ArgAction, ArgGroup, ArgMatches, Command, Error, value_parser};
 use common::build_info;
-use mte_program::{EarlyEnd, read_words};
+use mte_program::{EarlyEnd, print_answer, read_words};
 use std::alloc::{AllocError, Global};
 
 /// Reads the process's arguments; prints the help, or what is wrong with them.
@@ -16,13 +16,15 @@ pub fn read_command_line(rt: &HostRuntime) -> Result<SplitRequest, EarlyEnd> {
     }
 }
 
-/// Prints the text of `clap`.
+/// Prints the text of `clap`, which has words of the command line in it.
 fn print_text(rt: &HostRuntime, error: &Error) -> EarlyEnd {
     if error.kind() == ErrorKind::OutOfMemory {
         return EarlyEnd::OutOfMemory;
     }
-    let _ = error.print(rt);
-    EarlyEnd::Exit(if error.use_stderr() { 2 } else { 0 })
+    match format!(in rt.alloc(); "{error}") {
+        Ok(text) => print_answer(rt, text.as_str(), error.use_stderr()),
+        Err(_) => EarlyEnd::OutOfMemory,
+    }
 }
 
 /// Reads the words of a command line; `None` where an allocation failed.

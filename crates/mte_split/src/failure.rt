@@ -1,7 +1,7 @@
 //! Why the program has no whole answer.
 
 use crate::part::PartFault;
-use common::Obstacle;
+use common::{Obstacle, Printable};
 use mte_session::{ScriptError, ScriptFault, WriteFault};
 use std::alloc::{AllocError, AllocFailed};
 use std::fmt;
@@ -58,9 +58,11 @@ impl<'a> fmt::Display for SplitFailure<'a> {
         match self {
             SplitFailure::Script(line, fault) => write!(f, "script line {line}: {fault}"),
             SplitFailure::Memory => f.write_str("out of memory"),
-            SplitFailure::Read(name) => write!(f, "cannot read {name}"),
+            SplitFailure::Read(name) => write!(f, "cannot read {}", Printable(name)),
             SplitFailure::Write => f.write_str("cannot write"),
-            SplitFailure::Part(name, fault) => write!(f, "part {name}: {}", word_for(*fault)),
+            SplitFailure::Part(name, fault) => {
+                write!(f, "part {}: {}", Printable(name), word_for(*fault))
+            },
             SplitFailure::NoLedger => f.write_str("part of the ledger: Missing"),
             SplitFailure::NoTenant(id) => write!(f, "part of tenant {id}: Missing"),
             SplitFailure::NotAdmitted(id) => write!(f, "tenant {id}: NotAdmitted"),

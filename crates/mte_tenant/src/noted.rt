@@ -63,8 +63,17 @@ impl NotesAccesses for NoAccesses {
 /// A watch to which either the accesses are passed that instructions complete, or each instruction.
 /// It changes nothing of the machine.
 pub trait Notes: Watch + NotesAccesses + Edges {
+    /// Counts the branches that are taken while it is passed accesses.
+    type Counts: Edges;
+
     /// Whether it is passed each instruction by `attempting` and `completed`, and no access.
     fn follows(&self) -> bool;
+
+    /// Hands out its counts of branches, for the instructions until they are handed back.
+    fn take_counts(&mut self) -> Self::Counts;
+
+    /// Is handed them back.
+    fn put_counts(&mut self, counts: Self::Counts);
 
     /// So far the machine came since the attempt that was shown last, or since this was called
     /// last, by at most [`MOST_UNSEEN`] attempts.

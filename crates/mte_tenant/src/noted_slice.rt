@@ -13,7 +13,7 @@ ghost use Rattle.mte_tenant.specs.Machines.{machine_of, after_slice, after_attem
 use crate::alone::{Watch, attempt_all};
 use crate::machine::{handle, settle};
 use crate::noted::{MOST_UNSEEN, NoAccesses, Notes, note_accesses};
-use a64_run::{NoEdges, OpCache, known_words_stay, run_with_edges};
+use a64_run::{OpCache, known_words_stay, run_with_edges};
 use a64_step::{Outcome, Regs, steps_keep_pages};
 use mte_svc::TenantParts;
 use mte_tags::{Paged, Tagged};
@@ -124,7 +124,8 @@ fn run_by_table<M: Tagged, W: Notes>(
     }
 }
 
-/// Runs instructions by the table, as `run_with_edges` does, and passes their accesses on.
+/// Runs instructions by the table, as `run_with_edges` does, passes their accesses on, and counts
+/// the branches that they take.
 #[inline(never)]
 fn run_with_notes<M: Tagged, W: Notes>(
     ops: &mut OpCache,
@@ -144,8 +145,11 @@ fn run_with_notes<M: Tagged, W: Notes>(
     ensures kept { M.kept memory.old memory.new }
     ensures tag { regs.old.rgsr.tag < 16 → regs.new.rgsr.tag < 16 }
 {
+    let mut counts = watch.take_counts();
     let mut noted = note_accesses(memory, watch);
-    run_with_edges(ops, regs, &mut noted, &mut NoEdges, outcome, steps)
+    let unused = run_with_edges(ops, regs, &mut noted, &mut counts, outcome, steps);
+    watch.put_counts(counts);
+    unused
 }
 
 /// Runs instructions by the table, as `run_with_edges` does, and passes them on.

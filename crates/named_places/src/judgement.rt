@@ -1,6 +1,7 @@
 //! Whether an access by a pointer to a variable is one of the variable's bytes.
 
 use crate::access_form::form_by_base;
+use crate::notes::NotedInstruction;
 use crate::place::{NamedPlace, PlaceKind, PlaceText};
 use crate::places::NamedPlaces;
 use crate::table::PlaceTable;
@@ -55,7 +56,7 @@ impl NamedPlaces {
         let place = self.table.get(index)?;
         let access = step.access?;
         let form = form_by_base(step)?;
-        let strictness = self.strictness(step, &form, index);
+        let strictness = self.strictness(&NotedInstruction::of(step), &form, index);
         let found = self.judge_bytes(place, access.bytes, strictness);
         if found.is_some() || access.second.is_none() {
             return found;
@@ -66,11 +67,11 @@ impl NamedPlaces {
     /// How an access is judged: each one of a function that was not optimized, but for those from a
     /// pointer to its frame by a constant, which is one for several variables; of another function
     /// those by an index, by a pointer that was moved, and by one that was passed to it.
-    fn strictness(&self, step: &Step<'_>, form: &AccessForm, index: usize) -> Strictness {
+    fn strictness(&self, at: &NotedInstruction<'_>, form: &AccessForm, index: usize) -> Strictness {
         let (base, mode) = (form.base, form.mode);
-        let is_exact = self.is_exact_at(step.before.pc);
+        let is_exact = self.is_exact_at(at.pc);
         let (is_moved, is_fresh) = (self.marks.is_moved(base), self.marks.is_fresh(base));
-        let is_own = self.is_own(step, index, base);
+        let is_own = self.is_own(at, index, base);
         let is_above = match mode {
             AddressingMode::RegisterOffset(_) | AddressingMode::PostIndexed => true,
             AddressingMode::Offset(0) => is_moved,
@@ -82,7 +83,7 @@ impl NamedPlaces {
             _ => false,
         };
         let is_indexed = matches!(mode, AddressingMode::RegisterOffset(_));
-        let is_shared = is_at_constant && self.may_be_of_top(step, index);
+        let is_shared = is_at_constant && self.may_be_of_top(at, index);
         Strictness {
             is_above: (is_exact && !is_shared) || is_above,
             is_below: is_exact && self.is_below(index, is_indexed && is_fresh),
@@ -92,10 +93,10 @@ impl NamedPlaces {
 
     /// Whether a pointer to a place was made by the function that runs, so that compilers may have
     /// made one to another place of it.
-    fn is_own(&self, step: &Step<'_>, index: usize, base: u8) -> bool {
+    fn is_own(&self, at: &NotedInstruction<'_>, index: usize, base: u8) -> bool {
         match self.table.get(index) {
             Some(place) if place.text.kind == PlaceKind::Object => self.marks.is_own(base),
-            _ => self.may_be_of_top(step, index),
+            _ => self.may_be_of_top(at, index),
         }
     }
 

@@ -10,9 +10,11 @@ mod marks;
 mod notes;
 mod place;
 mod places;
+mod quick;
 mod selection;
 mod table;
 
 pub use judgement::{PlaceMisuse, PlaceMisuseKind};
+pub use notes::NotedInstruction;
 pub use place::{PlaceKind, PlaceText};
 pub use places::NamedPlaces;

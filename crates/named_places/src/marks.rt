@@ -1,120 +1,128 @@
 //! How the pointers in registers were made.
 
-/// The registers that a function may leave as they were, where compilers know it: all but those of
-/// its results. What is in one that it did not leave so is not used.
-const KEPT: u32 = 0x1fff_fffc;
+/// How many registers have marks: those with numbers, and 31.
+const REGISTERS: usize = 32;
 
-/// Of each numbered register, how the pointer in it was made, which is of a place that has a name.
+/// The registers that a function may leave as it likes, where compilers know it: those of its
+/// results, and those that calls use. What is in another that it did not leave as it was is not
+/// used.
+const CHANGED: [u8; 5] = [0, 1, 29, 30, 31];
+
+/// It was moved by more than constants.
+const MOVED: u8 = 1;
+
+/// The function that runs has made it, of registers alone.
+const FRESH: u8 = 2;
+
+/// It was loaded from the frame of the function that runs, which may have put it there once made.
+const RELOADED: u8 = 4;
+
+/// It is as it was when the function was called that runs.
+const PASSED: u8 = 8;
+
+/// Of each register, how the pointer in it was made, which is of a place that has a name. None is
+/// both fresh and reloaded.
 #[derive(Clone, Copy)]
 pub(crate) struct RegisterMarks {
-    /// Those that were moved by more than constants.
-    moved: u32,
-    /// Those that the function that runs has made, of registers alone.
-    fresh: u32,
-    /// Those that were loaded from its frame, where it may have put them once made.
-    reloaded: u32,
-    /// Those that are as they were when the function was called that runs.
-    passed: u32,
+    marks: [u8; REGISTERS],
 }
 
 impl RegisterMarks {
     /// No marks.
     pub(crate) const NONE: RegisterMarks = RegisterMarks {
-        moved: 0,
-        fresh: 0,
-        reloaded: 0,
-        passed: 0,
+        marks: [0; REGISTERS],
     };
+
+    /// The marks of a register.
+    #[inline(always)]
+    fn of(&self, n: u8) -> u8 {
+        self.marks.get(usize::from(n)).copied().unwrap_or(0)
+    }
+
+    /// Gives a register other marks.
+    #[inline(always)]
+    fn set(&mut self, n: u8, marks: u8) {
+        if let Some(place) = self.marks.get_mut(usize::from(n)) {
+            *place = marks;
+        }
+    }
 
     /// Whether a register was moved by more than constants.
     pub(crate) fn is_moved(&self, n: u8) -> bool {
-        self.moved & bit(n) != 0
+        self.of(n) & MOVED != 0
     }
 
     /// Whether a register was made by the function that runs, and of registers alone.
     pub(crate) fn is_fresh(&self, n: u8) -> bool {
-        self.fresh & bit(n) != 0
+        self.of(n) & FRESH != 0
     }
 
     /// Whether a register may have been made by the function that runs.
     pub(crate) fn is_own(&self, n: u8) -> bool {
-        (self.fresh | self.reloaded) & bit(n) != 0
+        self.of(n) & (FRESH | RELOADED) != 0
     }
 
     /// Whether a register is as it was when the function was called that runs, or a copy of one.
     pub(crate) fn is_passed(&self, n: u8) -> bool {
-        self.passed & bit(n) != 0
+        self.of(n) & PASSED != 0
     }
 
     /// Enters that a register was made of SP or the counter by constants.
     pub(crate) fn make(&mut self, n: u8) {
-        self.load(n);
-        self.fresh |= bit(n);
+        self.set(n, FRESH);
     }
 
     /// Enters that a register was loaded.
+    #[inline(always)]
     pub(crate) fn load(&mut self, n: u8) {
-        self.moved &= !bit(n);
-        self.fresh &= !bit(n);
-        self.reloaded &= !bit(n);
-        self.passed &= !bit(n);
+        self.set(n, 0);
     }
 
     /// Enters that a register was loaded from the frame of the function that runs.
+    #[inline(always)]
     pub(crate) fn reload(&mut self, n: u8) {
-        self.load(n);
-        self.reloaded |= bit(n);
+        self.set(n, RELOADED);
     }
 
     /// Enters that a register was moved by more than constants.
+    #[inline(always)]
     pub(crate) fn moves(&mut self, n: u8) {
-        self.moved |= bit(n);
-        self.passed &= !bit(n);
+        let marks = self.of(n);
+        self.set(n, (marks | MOVED) & !PASSED);
     }
 
     /// Enters that a register is made of another.
+    #[inline(always)]
     pub(crate) fn copy(&mut self, n: u8, from: u8) {
-        let passed = self.is_passed(from);
-        let moved = self.is_moved(from);
-        self.combine(n, from, from);
-        if passed {
-            self.passed |= bit(n);
-        }
-        if !moved {
-            self.moved &= !bit(n);
-        }
+        let marks = self.of(from);
+        self.set(n, marks);
     }
 
     /// Enters that a register was made of two others, of which one is a pointer that is moved so.
+    #[inline(always)]
     pub(crate) fn combine(&mut self, n: u8, one: u8, other: u8) {
-        let is_fresh = self.is_fresh(one) || self.is_fresh(other);
-        let is_own = self.is_own(one) || self.is_own(other);
-        self.load(n);
-        self.moved |= bit(n);
-        if is_fresh {
-            self.fresh |= bit(n);
-        } else if is_own {
-            self.reloaded |= bit(n);
-        }
+        let both = self.of(one) | self.of(other);
+        let made = if both & FRESH != 0 {
+            FRESH
+        } else {
+            both & RELOADED
+        };
+        self.set(n, made | MOVED);
     }
 
     /// Enters a call: what is in registers is passed.
     pub(crate) fn call(&mut self) {
-        self.fresh = 0;
-        self.reloaded = 0;
-        self.passed = u32::MAX;
+        for marks in self.marks.iter_mut() {
+            *marks = *marks & MOVED | PASSED;
+        }
     }
 
     /// Enters a return, by the marks at the call.
     pub(crate) fn return_back(&mut self, caller: &RegisterMarks) {
-        self.moved = (self.moved & !KEPT) | (caller.moved & KEPT);
-        self.fresh = caller.fresh & KEPT;
-        self.reloaded = caller.reloaded & KEPT;
-        self.passed = caller.passed & KEPT;
+        let mut marks = *caller;
+        for n in CHANGED {
+            marks.set(n, self.of(n) & MOVED);
+        }
+        *self = marks;
     }
-}
-
-/// The bit of a register.
-fn bit(n: u8) -> u32 {
-    1u32.wrapping_shl(u32::from(n))
 }

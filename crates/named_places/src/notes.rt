@@ -4,7 +4,7 @@ use crate::access_form::form_by_base;
 use crate::place::PlaceKind;
 use crate::places::NamedPlaces;
 use crate::table::PAGE;
-use a64_access::{AccessForm, AddressingMode};
+use a64_access::AddressingMode;
 use a64_bits::plain;
 use a64_instr::Instr;
 use a64_registers::Regs;
@@ -18,24 +18,50 @@ const FRAME_POINTER: u8 = 29;
 /// SP, where it is the register of an address.
 const STACK_POINTER: u8 = 31;
 
+/// An instruction that completed, by what places depend on.
+#[derive(Clone, Copy)]
+pub struct NotedInstruction<'a> {
+    /// Its address.
+    pub pc: u64,
+    /// x29 before it.
+    pub frame_pointer: u64,
+    /// SP before it.
+    pub sp: u64,
+    /// The registers after it.
+    pub after: &'a Regs,
+}
+
+impl<'a> NotedInstruction<'a> {
+    /// That of a step.
+    pub(crate) fn of(step: &Step<'a>) -> NotedInstruction<'a> {
+        NotedInstruction {
+            pc: step.before.pc,
+            frame_pointer: step.before.x[29],
+            sp: step.before.sp,
+            after: step.after,
+        }
+    }
+}
+
 /// A constant that is added to a register, or subtracted from it.
 #[derive(Clone, Copy)]
-struct AddedConstant {
-    rn: u8,
-    rd: u8,
+pub(crate) struct AddedConstant {
+    pub(crate) rn: u8,
+    pub(crate) rd: u8,
     /// Whether it is the first of two, with the higher bits.
-    is_high: bool,
+    pub(crate) is_high: bool,
 }
 
 impl NamedPlaces {
     /// Notes an instruction that completed, other than SVC, which was noted of the pointers.
     pub fn note(&mut self, step: &Step<'_>, shadow: &mut Shadow) -> Result<(), Full> {
-        if plain(step.before.sp) < plain(step.after.sp) {
-            self.frames.leave_below(plain(step.after.sp));
-        }
+        let at = &NotedInstruction::of(step);
+        self.note_sp(at);
         match *step.instr {
-            Instr::Branch { op: 1, .. } | Instr::BranchReg { opc: 1, .. } => self.note_call(step)?,
-            Instr::BranchReg { opc: 2, .. } => self.note_return(step),
+            Instr::Branch { op: 1, .. } | Instr::BranchReg { opc: 1, .. } => {
+                self.note_call(step.after)?
+            }
+            Instr::BranchReg { opc: 2, .. } => self.note_return(step.after),
             Instr::AddSubImm { s: 1, rd: 31, .. } => {}
             Instr::AddSubImm {
                 sf: 1,
@@ -45,28 +71,35 @@ impl NamedPlaces {
                 ..
             } => {
                 let is_high = sh == 1;
-                self.note_constant(step, shadow, AddedConstant { rn, rd, is_high })?;
+                self.note_constant(at, shadow, AddedConstant { rn, rd, is_high })?;
             }
             Instr::AddG { rn, rd, .. } => {
                 let is_high = false;
-                self.note_constant(step, shadow, AddedConstant { rn, rd, is_high })?;
+                self.note_constant(at, shadow, AddedConstant { rn, rd, is_high })?;
             }
-            Instr::Adr { op, rd, .. } => self.note_address(step, shadow, op == 1, rd),
-            _ => self.note_other(step, shadow)?,
+            Instr::Adr { op, rd, .. } => self.note_address(shadow, op == 1, rd, step.after),
+            _ => self.note_other(step, at, shadow)?,
         }
         Ok(())
     }
 
-    /// Notes a call.
-    fn note_call(&mut self, step: &Step<'_>) -> Result<(), AllocError> {
-        let (after, marks) = (step.after, self.marks);
+    /// Notes where SP is, if it is higher than before.
+    #[inline(always)]
+    pub fn note_sp(&mut self, at: &NotedInstruction<'_>) {
+        if plain(at.sp) < plain(at.after.sp) {
+            self.frames.leave_below(plain(at.after.sp));
+        }
+    }
+
+    /// Notes a call, by the registers after it.
+    pub fn note_call(&mut self, after: &Regs) -> Result<(), AllocError> {
+        let marks = self.marks;
         self.marks.call();
         self.frames.call(plain(after.x[30]), plain(after.sp), plain(after.pc), marks)
     }
 
     /// Notes a return.
-    fn note_return(&mut self, step: &Step<'_>) {
-        let after = step.after;
+    pub fn note_return(&mut self, after: &Regs) {
         let caller = self
             .frames
             .return_to(plain(after.pc), plain(after.sp), &mut self.table);
@@ -74,20 +107,26 @@ impl NamedPlaces {
     }
 
     /// Notes an address that was made of the counter: of a page, or of what is there.
-    fn note_address(&mut self, step: &Step<'_>, shadow: &mut Shadow, is_page: bool, rd: u8) {
+    pub(crate) fn note_address(
+        &mut self,
+        shadow: &mut Shadow,
+        is_page: bool,
+        rd: u8,
+        after: &Regs,
+    ) {
         let origin = if is_page {
             PointerOrigin::of_place(PAGE)
         } else {
-            self.object_origin(plain(value_in(step.after, rd)))
+            self.object_origin(plain(value_in(after, rd)))
         };
         self.marks.make(rd);
         shadow.point(rd, origin);
     }
 
     /// Notes that a constant was added to a register.
-    fn note_constant(
+    pub(crate) fn note_constant(
         &mut self,
-        step: &Step<'_>,
+        at: &NotedInstruction<'_>,
         shadow: &mut Shadow,
         added: AddedConstant,
     ) -> Result<(), AllocError> {
@@ -97,11 +136,11 @@ impl NamedPlaces {
             return Ok(());
         }
         let origin = shadow.register(rd).pointer();
-        let addr = plain(value_in(step.after, rd));
+        let addr = plain(value_in(at.after, rd));
         if origin == PointerOrigin::STACK {
             if rd != FRAME_POINTER && !is_high {
                 self.marks.make(rd);
-                shadow.point(rd, self.stack_origin(step, shadow, addr)?);
+                shadow.point(rd, self.stack_origin(at, shadow, addr)?);
             }
             return Ok(());
         }
@@ -111,11 +150,11 @@ impl NamedPlaces {
                 self.marks.make(rd);
                 shadow.point(rd, self.object_origin(addr));
             }
-            Some(index) if rn == rd => self.note_move(step, shadow, added, index)?,
+            Some(index) if rn == rd => self.note_move(at, shadow, added, index)?,
             Some(index) => {
                 self.marks.copy(rd, rn);
                 if !self.marks.is_moved(rn) {
-                    self.note_other_variable(step, shadow, rd, index)?;
+                    self.note_other_variable(at, shadow, rd, index)?;
                 }
             }
         }
@@ -127,7 +166,7 @@ impl NamedPlaces {
     /// own. Of two constants in a row the first may not lead out of it yet.
     fn note_move(
         &mut self,
-        step: &Step<'_>,
+        at: &NotedInstruction<'_>,
         shadow: &mut Shadow,
         added: AddedConstant,
         index: usize,
@@ -135,7 +174,7 @@ impl NamedPlaces {
         let rd = added.rd;
         let is_made = self.marks.is_own(rd) && !self.marks.is_moved(rd);
         if is_made {
-            self.note_other_variable(step, shadow, rd, index)?;
+            self.note_other_variable(at, shadow, rd, index)?;
         }
         let is_same = shadow.register(rd).pointer().place() == Some(index);
         if is_same && !(is_made && added.is_high) {
@@ -164,18 +203,18 @@ impl NamedPlaces {
     /// go from one variable to another so.
     fn note_other_variable(
         &mut self,
-        step: &Step<'_>,
+        at: &NotedInstruction<'_>,
         shadow: &mut Shadow,
         rd: u8,
         index: usize,
     ) -> Result<(), AllocError> {
-        let addr = plain(value_in(step.after, rd));
+        let addr = plain(value_in(at.after, rd));
         let Some(place) = self.table.get(index) else {
             return Ok(());
         };
         let (text, is_whole) = (place.text, place.has(addr));
-        let is_own = self.may_be_of_top(step, index);
-        if self.is_exact_at(step.before.pc) {
+        let is_own = self.may_be_of_top(at, index);
+        if self.is_exact_at(at.pc) {
             return Ok(());
         }
         let origin = match text.kind {
@@ -185,9 +224,9 @@ impl NamedPlaces {
             },
             PlaceKind::Object if !is_whole => self.object_origin(addr),
             PlaceKind::Variable if is_own && !is_whole => {
-                self.other_of_frame(step, shadow, addr, text.end)?
+                self.other_of_frame(at, shadow, addr, text.end)?
             }
-            PlaceKind::Frame if is_own => self.stack_origin(step, shadow, addr)?,
+            PlaceKind::Frame if is_own => self.stack_origin(at, shadow, addr)?,
             _ => return Ok(()),
         };
         shadow.point(rd, origin);
@@ -198,12 +237,12 @@ impl NamedPlaces {
     /// address: where it is there, it may be meant for that variable's end too.
     fn other_of_frame(
         &mut self,
-        step: &Step<'_>,
+        at: &NotedInstruction<'_>,
         shadow: &Shadow,
         addr: u64,
         end: u64,
     ) -> Result<PointerOrigin, AllocError> {
-        let origin = self.stack_origin(step, shadow, addr)?;
+        let origin = self.stack_origin(at, shadow, addr)?;
         if addr == end {
             return Ok(PointerOrigin::STACK);
         }
@@ -226,9 +265,14 @@ impl NamedPlaces {
     }
 
     /// Notes another instruction.
-    fn note_other(&mut self, step: &Step<'_>, shadow: &mut Shadow) -> Result<(), AllocError> {
+    fn note_other(
+        &mut self,
+        step: &Step<'_>,
+        at: &NotedInstruction<'_>,
+        shadow: &mut Shadow,
+    ) -> Result<(), AllocError> {
         if step.access.is_some() {
-            return self.note_access(step, shadow);
+            return self.note_access(step, at, shadow);
         }
         match *step.instr {
             Instr::LogShift {
@@ -243,7 +287,7 @@ impl NamedPlaces {
             } => self.marks.copy(rd, rm),
             Instr::AddSubShift { rn, rm, rd, .. } | Instr::AddSubExt { rn, rm, rd, .. } => {
                 self.marks.combine(rd, rn, rm);
-                self.note_sum(step, shadow, rd)?;
+                self.note_sum(at, shadow, rd)?;
             }
             Instr::LogShift { rn, rm, rd, .. }
             | Instr::CondSel { rn, rm, rd, .. }
@@ -261,38 +305,49 @@ impl NamedPlaces {
 
     /// Notes a sum of registers: what is made of SP is a pointer into the frame, and what is made
     /// of a page is not known.
-    fn note_sum(&mut self, step: &Step<'_>, shadow: &mut Shadow, rd: u8) -> Result<(), AllocError> {
+    pub(crate) fn note_sum(
+        &mut self,
+        at: &NotedInstruction<'_>,
+        shadow: &mut Shadow,
+        rd: u8,
+    ) -> Result<(), AllocError> {
         let origin = shadow.register(rd).pointer();
         if origin.place() == Some(PAGE) {
             shadow.point(rd, PointerOrigin::UNKNOWN);
         } else if origin == PointerOrigin::STACK && rd != FRAME_POINTER {
-            let addr = plain(value_in(step.after, rd));
-            shadow.point(rd, self.frame_origin(step, shadow, addr)?);
+            let addr = plain(value_in(at.after, rd));
+            shadow.point(rd, self.frame_origin(at, shadow, addr)?);
         }
         Ok(())
     }
 
     /// Notes a load or a store.
-    fn note_access(&mut self, step: &Step<'_>, shadow: &mut Shadow) -> Result<(), AllocError> {
+    fn note_access(
+        &mut self,
+        step: &Step<'_>,
+        at: &NotedInstruction<'_>,
+        shadow: &mut Shadow,
+    ) -> Result<(), AllocError> {
         let Some(form) = form_by_base(step) else {
             return Ok(());
         };
         if form.writes_back() && form.base < 31 {
-            self.note_write_back(step, shadow, &form)?;
+            let is_pre_indexed = matches!(form.mode, AddressingMode::PreIndexed(_));
+            self.note_write_back(at, shadow, form.base, is_pre_indexed)?;
         }
         if !form.is_write() {
-            let is_of_frame = form.base == STACK_POINTER || form.base == FRAME_POINTER;
-            self.note_loaded(form.first, is_of_frame);
+            self.note_loaded(form.first, form.base);
             if let Some(second) = form.second {
-                self.note_loaded(second, is_of_frame);
+                self.note_loaded(second, form.base);
             }
         }
         Ok(())
     }
 
-    /// Notes that a register was loaded, from the frame of the function that runs or not.
-    fn note_loaded(&mut self, n: u8, is_of_frame: bool) {
-        if is_of_frame {
+    /// Notes that a register was loaded by a base, from the frame of the function that runs or not.
+    #[inline(always)]
+    pub(crate) fn note_loaded(&mut self, n: u8, base: u8) {
+        if base == STACK_POINTER || base == FRAME_POINTER {
             self.marks.reload(n);
         } else {
             self.marks.load(n);
@@ -301,18 +356,17 @@ impl NamedPlaces {
 
     /// Notes that a base register was moved. The first move in front of an access leads to the
     /// variable that is accessed.
-    fn note_write_back(
+    pub(crate) fn note_write_back(
         &mut self,
-        step: &Step<'_>,
+        at: &NotedInstruction<'_>,
         shadow: &mut Shadow,
-        form: &AccessForm,
+        base: u8,
+        is_pre_indexed: bool,
     ) -> Result<(), AllocError> {
-        let base = form.base;
-        let is_pre_indexed = matches!(form.mode, AddressingMode::PreIndexed(_));
         let is_first = is_pre_indexed && !self.marks.is_moved(base);
         if let Some(index) = shadow.register(base).pointer().place() {
             if is_first && index != PAGE {
-                self.note_other_variable(step, shadow, base, index)?;
+                self.note_other_variable(at, shadow, base, index)?;
             }
         }
         self.marks.moves(base);

@@ -1,13 +1,14 @@
 //! Which variable an address is of that constants were added to.
 
 use crate::frames::{CalledFrame, has_room};
+use crate::notes::NotedInstruction;
 use crate::place::{NO_BASES, NamedPlace, PlaceKind, PlaceText};
 use crate::places::NamedPlaces;
 use crate::table::PlaceTable;
 use a64_bits::plain;
 use debug_variables::{FrameBases, FrameFunction, Neighbor, PlacedVariable, VariableName};
 use pointer_provenance::Shadow;
-use shadow_memory::{PointerOrigin, Step};
+use shadow_memory::PointerOrigin;
 use std::alloc::AllocError;
 
 /// How far in front of a variable a pointer may be that is meant for it: one element, as in arrays
@@ -27,21 +28,21 @@ impl NamedPlaces {
     /// of its frame.
     pub(crate) fn stack_origin(
         &mut self,
-        step: &Step<'_>,
+        at: &NotedInstruction<'_>,
         shadow: &Shadow,
         addr: u64,
     ) -> Result<PointerOrigin, AllocError> {
         let Some(frame) = self.frames.top().copied() else {
             return Ok(PointerOrigin::STACK);
         };
-        let sp = plain(step.after.sp);
+        let sp = plain(at.after.sp);
         if addr < sp || addr >= frame.sp {
             return Ok(PointerOrigin::STACK);
         }
-        let place = self.variable_place(step, &frame, addr);
+        let place = self.variable_place(at, &frame, addr);
         let place = match place {
             Some(place) if has_room(&frame, &self.table) => place,
-            _ => self.frame_place(step, &frame),
+            _ => self.frame_place(at, &frame),
         };
         self.origin_of(shadow, &frame, place)
     }
@@ -77,17 +78,17 @@ impl NamedPlaces {
     /// which variable is meant; the stack alone where the address is not of that frame.
     pub(crate) fn frame_origin(
         &mut self,
-        step: &Step<'_>,
+        at: &NotedInstruction<'_>,
         shadow: &Shadow,
         addr: u64,
     ) -> Result<PointerOrigin, AllocError> {
         let Some(frame) = self.frames.top().copied() else {
             return Ok(PointerOrigin::STACK);
         };
-        if addr < plain(step.after.sp) || addr >= frame.sp {
+        if addr < plain(at.after.sp) || addr >= frame.sp {
             return Ok(PointerOrigin::STACK);
         }
-        let place = self.frame_place(step, &frame);
+        let place = self.frame_place(at, &frame);
         self.origin_of(shadow, &frame, place)
     }
 
@@ -108,15 +109,15 @@ impl NamedPlaces {
     }
 
     /// The place of a frame as a whole.
-    fn frame_place(&self, step: &Step<'_>, frame: &CalledFrame) -> NamedPlace {
+    fn frame_place(&self, at: &NotedInstruction<'_>, frame: &CalledFrame) -> NamedPlace {
         NamedPlace {
             text: PlaceText {
                 kind: PlaceKind::Frame,
-                start: plain(step.after.sp),
+                start: plain(at.after.sp),
                 end: frame.sp,
                 name: VariableName::NONE,
                 declaration: None,
-                function: Some(step.before.pc),
+                function: Some(at.pc),
             },
             is_live: true,
             is_exact: false,
@@ -131,14 +132,14 @@ impl NamedPlaces {
     /// The place of the variable of the function that runs which has the byte at an address.
     fn variable_place(
         &self,
-        step: &Step<'_>,
+        at: &NotedInstruction<'_>,
         frame: &CalledFrame,
         addr: u64,
     ) -> Option<NamedPlace> {
-        let running = self.running(step, frame)?;
+        let running = self.running(at, frame)?;
         let RunningFunction { function, bases } = &running;
         let placed = self.variables.variable_at(function, bases, addr)?;
-        if placed.start < plain(step.after.sp) || placed.end > frame.sp {
+        if placed.start < plain(at.after.sp) || placed.end > frame.sp {
             return None;
         }
         Some(NamedPlace {
@@ -173,15 +174,15 @@ impl NamedPlaces {
 
     /// Whether a place may be one of the frame of the function that runs. Where that frame is not
     /// known, as after a jump over frames, one of any frame of the function may be.
-    pub(crate) fn may_be_of_top(&self, step: &Step<'_>, index: usize) -> bool {
+    pub(crate) fn may_be_of_top(&self, at: &NotedInstruction<'_>, index: usize) -> bool {
         if self.is_of_top(index) {
             return true;
         }
         let is_known = match self.frames.top() {
-            Some(frame) => self.running(step, frame).is_some(),
+            Some(frame) => self.running(at, frame).is_some(),
             None => false,
         };
-        !is_known && self.is_of_function(step.before.pc, index)
+        !is_known && self.is_of_function(at.pc, index)
     }
 
     /// Whether a place is one of a frame of the function at an address.
@@ -196,15 +197,15 @@ impl NamedPlaces {
     }
 
     /// The function that runs, where it is the one that the frame is of.
-    fn running(&self, step: &Step<'_>, frame: &CalledFrame) -> Option<RunningFunction> {
-        let function = self.function_at(step.before.pc)?;
+    fn running(&self, at: &NotedInstruction<'_>, frame: &CalledFrame) -> Option<RunningFunction> {
+        let function = self.function_at(at.pc)?;
         if frame.entry < function.low || frame.entry >= function.high {
             return None;
         }
         let bases = FrameBases {
             caller: frame.sp,
-            frame_pointer: plain(step.before.x[29]),
-            stack_pointer: plain(step.before.sp),
+            frame_pointer: plain(at.frame_pointer),
+            stack_pointer: plain(at.sp),
         };
         Some(RunningFunction { function, bases })
     }

@@ -89,6 +89,17 @@ impl Shadow {
         self.memory.is_short
     }
 
+    /// Where the pointer points by which a load or a store accesses memory.
+    #[inline(always)]
+    pub fn access_origin(&mut self, used: &RegisterUse) -> Result<PointerOrigin, AllocError> {
+        let base = self.base(used.base);
+        if !self.known_bit(used.index) {
+            return Ok(base);
+        }
+        let index = self.pointer_where(used.index, used.is_plain());
+        self.combined(base, index, Sign::Plus)
+    }
+
     /// Whether a load or a store at an address with its tag may be one that its pointer's chunk
     /// does not allow, of which nothing is noted yet. It is none where this says no.
     #[inline(always)]

@@ -38,7 +38,7 @@ pub struct Checker<'a> {
     pub(crate) functions: HeapFunctionWatch,
     /// The variables, where their bounds are checked.
     pub(crate) places: Option<NamedPlaces>,
-    /// The undefined bits, where they are checked.
+    /// The undefined bits, where they or lost chunks are checked.
     pub(crate) bits: Option<UndefinedBits>,
     pub(crate) followed: FollowedInstruction,
     /// The suppressed findings, where there are some.
@@ -121,7 +121,8 @@ impl<'a> Checker<'a> {
     /// Watches a tenant from its first instruction on, as terms say.
     pub fn new(alloc: Global, terms: &CheckTerms<'a>) -> Result<Checker<'a>, AllocError> {
         let (image, kinds) = (terms.image, terms.kinds);
-        let bits = if kinds.undefined {
+        // Words that were never given a value lead to no chunk.
+        let bits = if kinds.undefined || kinds.leaks {
             Some(UndefinedBits::new(alloc)?)
         } else {
             None
@@ -276,7 +277,7 @@ impl<'a> Checker<'a> {
 
     /// The use of undefined bits by an attempt, where that is checked.
     fn undefined_use(&self, attempt: &Attempt<'_>) -> Option<UndefinedUse> {
-        let bits = self.bits.as_ref()?;
+        let bits = self.bits.as_ref().filter(|_| self.kinds.undefined)?;
         match &attempt.service {
             Some(asked) => {
                 let output = asked.bytes.filter(|bytes| !bytes.is_write);

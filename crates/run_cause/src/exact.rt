@@ -3,10 +3,8 @@
 ghost use Rattle.std.specs.Prelude.{◌≡◌};
 
 use crate::violation::Violation;
-use a64_bits::plain;
 use a64_registers::Regs;
-use common::{GRANULE_SIZE, REGIONS_START, SECONDARY_END};
-use heap_bounds::{Bounds, Span, span_of};
+use heap_bounds::{Bounds, NearBounds, Span, span_of};
 use mte_backtrace::Callers;
 use mte_svc::{AnsweredCall, TenantParts};
 use mte_tags::Tagged;
@@ -53,78 +51,37 @@ pub struct Finding {
 /// Watches a tenant up to the first such access.
 #[derive(Drop)]
 pub struct Exact {
-    bounds: Bounds,
+    bounds: NearBounds,
     writes_alone: bool,
     finding: Option<Finding>,
     is_complete: bool,
-    /// Bytes of live chunks that accesses came to since the last heap call, by the granule.
-    near: [LiveBytes; NEAR],
 }
-
-/// The bytes of a live chunk.
-#[derive(Clone, Copy)]
-struct LiveBytes {
-    start: u64,
-    len: u64,
-}
-
-/// How many live chunks are remembered; a power of two.
-const NEAR: usize = 64;
-
-/// No chunk.
-const NONE: LiveBytes = LiveBytes { start: 0, len: 0 };
 
 impl Exact {
     /// Watches a tenant without chunks; its reads are free where `writes_alone` is set.
     pub fn new(alloc: Global, writes_alone: bool) -> Exact {
         Exact {
-            bounds: Bounds::new(alloc),
+            bounds: NearBounds::new(Bounds::new(alloc)),
             writes_alone,
             finding: None,
             is_complete: true,
-            near: [NONE; NEAR],
         }
     }
 
     /// Forgets all, as before the first instruction.
     pub fn restart(&mut self, alloc: Global) {
-        self.bounds = Bounds::new(alloc);
+        self.bounds = NearBounds::new(Bounds::new(alloc));
         self.finding = None;
         self.is_complete = true;
-        self.near = [NONE; NEAR];
     }
 
     /// Whether an access that an instruction completed may be one that it may not make. It is no
     /// such access where this says no.
     #[inline(always)]
     pub fn is_suspicious(&mut self, address: u64, bytes: u64, is_write: bool) -> bool {
-        let first = plain(address);
-        if first.wrapping_sub(REGIONS_START) >= SECONDARY_END - REGIONS_START {
-            return false;
-        }
-        let near = &self.near[(first / GRANULE_SIZE) as usize % NEAR];
-        let offset = first.wrapping_sub(near.start);
-        if offset < near.len && bytes <= near.len - offset {
-            return false;
-        }
-        self.is_suspicious_far(first, bytes, is_write)
-    }
-
-    /// Judges an access to bytes of the heap that no remembered chunk has.
-    #[cold]
-    #[inline(never)]
-    fn is_suspicious_far(&mut self, first: u64, bytes: u64, is_write: bool) -> bool {
-        if !self.is_complete || self.writes_alone && !is_write {
-            return false;
-        }
-        if self.bounds.check(first, bytes).is_some() {
-            return true;
-        }
-        if let Some((start, end)) = self.bounds.live_at(first) {
-            let len = end.saturating_sub(start);
-            self.near[(first / GRANULE_SIZE) as usize % NEAR] = LiveBytes { start, len };
-        }
-        false
+        self.bounds.may_trespass(address, bytes)
+            && self.is_complete
+            && (is_write || !self.writes_alone)
     }
 
     /// The first such access, if there was one.
@@ -184,7 +141,6 @@ impl Exact {
 
     /// Enters what a heap call did to chunks.
     fn enter(&mut self, call: &AnsweredCall) {
-        self.near = [NONE; NEAR];
         if self.bounds.note(call).is_err() {
             self.is_complete = false;
         }

@@ -6,8 +6,8 @@ use std::alloc::AllocError;
 
 impl<'a> Checker<'a> {
     /// Enters the parts of a range of the stack among the ranges whose words lead to chunks: all
-    /// but the words of which no bit was given a value, where that is checked. Such a word is one
-    /// of a function that has returned.
+    /// but the words of which no bit was given a value. Such a word is one of a function that has
+    /// returned.
     pub fn enter_stack_words(
         &self,
         range: RootRange,
@@ -24,7 +24,7 @@ impl<'a> Checker<'a> {
         enter_range(roots, start, range.end)
     }
 
-    /// Whether no bit of the word at a plain address was given a value, where that is checked.
+    /// Whether no bit of the word at a plain address was given a value.
     fn has_no_value(&self, addr: u64) -> bool {
         match &self.bits {
             Some(bits) => bits.has_no_value(addr),

@@ -1,13 +1,18 @@
 //! The command line.
 
-use crate::table::{OPTIONS, OptionRow};
+use crate::option_rows::OPTIONS;
+use crate::table::OptionRow;
 use crate::values::options_of;
 use clap::error::ErrorKind;
 use clap::{Arg, ArgAction, ArgMatches, Command, Error};
-use common::{Obstacle, PrintableLines, build_info};
-use mte_program::{EarlyEnd, read_words};
+use common::{Obstacle, build_info};
+use mte_program::{EarlyEnd, print_answer, read_words};
 use run_terms::Options;
 use std::alloc::Global;
+use std::convert::AsStr;
+
+/// The command line that asks for help.
+static HELP: [&str; 2] = ["mte_run", "--help"];
 
 /// Reads the process's arguments; prints the help, or what is wrong with them.
 pub fn read_command_line(rt: &HostRuntime) -> Result<Options, EarlyEnd> {
@@ -23,31 +28,25 @@ fn print_text(rt: &HostRuntime, error: &Error) -> EarlyEnd {
     if error.kind() == ErrorKind::OutOfMemory {
         return EarlyEnd::OutOfMemory;
     }
-    let Ok(text) = format!(in rt.alloc(); "{error}") else {
-        return EarlyEnd::OutOfMemory;
-    };
-    let lines = PrintableLines(text.as_str());
-    if error.use_stderr() {
-        let _ = eprint!(rt; "{lines}");
-        return EarlyEnd::Exit(2);
-    }
-    match print!(rt; "{lines}") {
-        Ok(()) => EarlyEnd::Exit(0),
-        Err(_) => EarlyEnd::Exit(6),
+    match format!(in rt.alloc(); "{error}") {
+        Ok(text) => print_answer(rt, text.as_str(), error.use_stderr()),
+        Err(_) => EarlyEnd::OutOfMemory,
     }
 }
 
 /// Reads the words of a command line; `None` where an allocation failed.
 fn parse(alloc: Global, words: &[String]) -> Result<Option<Options>, Error> {
-    let mut command = command(alloc)?;
-    parse_by(alloc, &mut command, words)
+    if words.iter().any(|word| word.as_str() == "--help-all") {
+        return parse_by(alloc, &mut command(alloc, true)?, &HELP);
+    }
+    parse_by(alloc, &mut command(alloc, false)?, words)
 }
 
 /// Reads the words of a command line by its form.
-fn parse_by<'a>(
+fn parse_by<'a, S: AsStr>(
     alloc: Global,
     command: &mut Command<'a>,
-    words: &'a [String],
+    words: &'a [S],
 ) -> Result<Option<Options>, Error> {
     let matches = command.try_get_matches_from_mut(words)?;
     read_matches(alloc, command, &matches)
@@ -69,13 +68,15 @@ fn read_matches<'a>(
     }
 }
 
-/// The command line's form: the files, and the options of the table in its order.
-fn command<'a>(alloc: Global) -> Result<Command<'a>, Error> {
+/// The command line's form: the files, and the options of the table in its order. The help lists
+/// those that are used most, or all.
+fn command<'a>(alloc: Global, is_whole: bool) -> Result<Command<'a>, Error> {
     let command = Command::new(alloc, "mte_run")
         .version(build_info::text())
         .about("Runs one tenant alone on an Arm core with memory tagging, and tells why it ended")
-        .arg(files(alloc))?;
-    with_options(alloc, command, &OPTIONS)
+        .arg(files(alloc))?
+        .arg(whole_help(alloc))?;
+    with_options(alloc, command, &OPTIONS, is_whole)
 }
 
 /// The command line's form with an option for each row.
@@ -83,9 +84,10 @@ fn with_options<'a>(
     alloc: Global,
     mut command: Command<'a>,
     rows: &[OptionRow],
+    is_whole: bool,
 ) -> Result<Command<'a>, Error> {
     for row in rows {
-        command = command.arg(row.arg(alloc))?;
+        command = command.arg(row.arg(alloc, is_whole))?;
     }
     Ok(command)
 }
@@ -97,4 +99,12 @@ fn files<'a>(alloc: Global) -> Arg<'a> {
         .num_args(1..)
         .required(true)
         .action(ArgAction::Append)
+}
+
+/// The option that lists all options.
+fn whole_help<'a>(alloc: Global) -> Arg<'a> {
+    Arg::new(alloc, "help-all")
+        .long("help-all")
+        .help("Print help with all options")
+        .action(ArgAction::SetTrue)
 }

@@ -1,7 +1,7 @@
 //! Values of a command line that `clap` accepted, and that are refused.
 
 use crate::file_names::has_shared_name;
-use run_terms::{Options, OutputOptions};
+use run_terms::{CHECK_FAULT, Options, OutputOptions};
 
 /// Why values that `clap` accepted are refused.
 #[derive(Clone, Copy)]
@@ -34,9 +34,7 @@ impl Fault {
         match self {
             Fault::Seed => "the seed is not a number of 1 to 16 hexadecimal digits",
             Fault::Trace => "the trace is not FROM-TO, two step numbers, the lower one first",
-            Fault::Check => {
-                "--check takes provenance, frees, leaks, undefined or all, with commas between them"
-            }
+            Fault::Check => CHECK_FAULT,
             Fault::Unchecked => "--suppressions and --check-status are for --check",
             Fault::Lost => "--lost-status is for --check with leaks",
             Fault::Frames => "--frames is for a session: it wants --script",

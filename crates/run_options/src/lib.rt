@@ -4,6 +4,7 @@
 mod command_line;
 mod fault;
 mod file_names;
+mod option_rows;
 mod table;
 mod values;
 

@@ -6,7 +6,7 @@ use mte_sched::Host;
 use mte_session::{Event, Sink, parse_script};
 use run_terms::{Failure, Options, Replay};
 use std::alloc::Global;
-use std::io::sink;
+use std::io::{BufWriter, sink};
 use tenant_run::{Observer, StoreWatcher, Watcher, wants_second_run};
 
 /// A session of which one tenant is replayed.
@@ -47,10 +47,12 @@ impl<'a, 'x> SessionReplay<'a, 'x> {
         observer: &mut Observer<'_>,
     ) -> Result<Option<Replayed>, Failure<'a>> {
         if options.output.is_raw {
-            self.replayed(rt.alloc(), observer, &mut StreamSink(sink()))
-        } else {
-            self.replayed(rt.alloc(), observer, &mut StreamSink(rt.stdout()))
+            return self.replayed(rt.alloc(), observer, &mut StreamSink(sink()));
         }
+        let mut out = StreamSink(BufWriter::new(rt.alloc(), rt.stdout())?);
+        let found = self.replayed(rt.alloc(), observer, &mut out)?;
+        out.finish()?;
+        Ok(found)
     }
 
     /// The tenant, which a second run watched if its end is explained by what that remembers.

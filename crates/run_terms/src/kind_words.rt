@@ -4,6 +4,16 @@
 /// The names of all kinds.
 pub(crate) const NAMES: &str = "provenance, frees, leaks, undefined, places, arithmetic";
 
+/// The help of `--check`.
+pub const CHECK_HELP: &str =
+    "Ends it at the first wrong use of a pointer, a chunk or an undefined value [possible \
+     values: provenance, frees, leaks, undefined, places, arithmetic, all]";
+
+/// The fault of a word that is no kind.
+pub const CHECK_FAULT: &str =
+    "--check takes these, with commas between them: provenance, frees, leaks, undefined, places, \
+     arithmetic, all";
+
 /// A kind of what is checked.
 #[derive(Clone, Copy, PartialEq, Eq)]
 pub enum CheckKind {

@@ -11,6 +11,6 @@ mod word;
 mod wrong;
 
 pub use failure::{Failure, FileFault, report};
-pub use kind_words::{CheckKind, CheckKinds};
+pub use kind_words::{CHECK_FAULT, CHECK_HELP, CheckKind, CheckKinds};
 pub use options::{Exactness, Options, OutputOptions, Replay, RunLength, RunOptions, Traced};
 pub use suppressions::Suppressions;

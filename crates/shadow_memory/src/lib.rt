@@ -22,5 +22,7 @@ pub use memory_shadow::MemoryShadow;
 pub use origin::{OriginKind, PointerOrigin, Provenance};
 pub use page_numbers::PageNumbers;
 pub use pointer_sums::{PointerSums, Sign};
-pub use register_use::{BranchKind, InstructionClass, PointerRule, RegisterUse, RegisterUses};
+pub use register_use::{
+    BranchKind, InstructionClass, PointerRule, RegisterUse, RegisterUses, ValueSource,
+};
 pub use step::{Full, Step};

@@ -73,6 +73,7 @@ impl PointerOrigin {
     }
 
     /// Its kind.
+    #[inline(always)]
     pub fn kind(self) -> OriginKind {
         match self.number {
             0 => OriginKind::Unknown,
@@ -107,6 +108,7 @@ impl PointerOrigin {
     }
 
     /// The index of the place that it is, if it is one.
+    #[inline(always)]
     pub fn place(self) -> Option<usize> {
         match self.kind() {
             OriginKind::Place(index) => Some(index),

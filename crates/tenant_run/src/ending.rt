@@ -110,6 +110,8 @@ pub struct LastLine<'a> {
     pub log: &'a Record,
     /// The exit status of the program.
     pub status: u8,
+    /// The option that found an access or a use at which it ended; none where none did.
+    pub finder: Option<&'static str>,
 }
 
 impl<'a> LastLine<'a> {
@@ -123,10 +125,11 @@ impl<'a> LastLine<'a> {
 impl<'a> fmt::Display for LastLine<'a> {
     fn fmt<W: fmt::Write>(&self, f: &mut fmt::Formatter<W>) -> fmt::Result {
         let (ending, status) = (self.ending, self.status);
+        if let Some(finder) = self.finder {
+            return write!(f, "ended by {finder}, status {status}");
+        }
         match &self.log.status {
-            _ if matches!(ending, TenantEnding::Exact | TenantEnding::Cut) => {
-                write!(f, "ended by {ending}, status {status}")
-            }
+            _ if ending == TenantEnding::Cut => { write!(f, "ended by {ending}, status {status}") }
             Status::Exited(code) if *code != status => {
                 write!(f, "exited with {code} and has lost chunks, status {status}")
             }

@@ -12,6 +12,7 @@ mod slices;
 mod store_watcher;
 mod survey;
 mod tracer;
+mod whole_file;
 
 pub use bench::{TenantBench, WatchLevel, Watcher};
 pub use ending::{LastLine, REFUSED, TenantEnding};
@@ -19,3 +20,4 @@ pub use line_log::observer_of;
 pub use lone::{LoneTenant, admission_of, wants_second_run};
 pub use observer::Observer;
 pub use store_watcher::StoreWatcher;
+pub use whole_file::{WholeFile, replace_file};

@@ -2,6 +2,7 @@
 
 use crate::observer::{Observer, checker_of, exact_of, turns_of};
 use crate::tracer::Tracer;
+use crate::whole_file::replace_file;
 use either::Either;
 use elf_symbols::Symbols;
 use run_cause::CheckTerms;
@@ -74,7 +75,7 @@ fn open_log<'a>(rt: &HostRuntime, output: &'a OutputOptions) -> Result<Log, Fail
 
 /// An empty file with a name.
 fn create<'a>(rt: &HostRuntime, name: &'a str) -> Result<File, Failure<'a>> {
-    match File::create(rt, name) {
+    match replace_file(rt, name) {
         Ok(file) => Ok(file),
         Err(error) => Err(Failure::of_write(&error, name)),
     }

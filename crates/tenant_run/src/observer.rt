@@ -5,7 +5,7 @@ ghost use Rattle.std.specs.Prelude.{None};
 use crate::bench::{WatchLevel, Watcher};
 use crate::tracer::Tracer;
 use a64_registers::Regs;
-use a64_run::Edges;
+use a64_run::{Edges, NoEdges};
 use circular_buffer::HeapCircularBuffer;
 use mte_svc::WRITE;
 use mte_tags::Paged;
@@ -90,12 +90,9 @@ impl<'a> Observer<'a> {
     /// How much it has to be shown from the first step on: each attempt where it writes what it
     /// sees, or counts and checks, else the accesses that it counts or judges, or what it follows.
     pub fn needs(&self) -> WatchLevel {
-        let is_by_table = match &self.checker {
-            Some(checker) => checker.can_follow() && self.statistics.is_none(),
-            None => true,
-        };
         let judges_accesses = self.exact.is_some() || self.statistics.is_some();
-        if self.tracer.is_some() || !is_by_table {
+        let counts_and_checks = self.statistics.is_some() && self.checker.is_some();
+        if self.tracer.is_some() || counts_and_checks {
             WatchLevel::Attempts
         } else if !judges_accesses && self.checker.is_none() {
             WatchLevel::Nothing
@@ -260,9 +257,19 @@ impl<'a> NotesAccesses for Observer<'a> {
 }
 
 impl<'a> Notes for Observer<'a> {
+    type Counts = NoEdges;
+
     fn follows(&self) -> bool {
         self.checker.is_some()
     }
+
+    #[inline(always)]
+    fn take_counts(&mut self) -> NoEdges {
+        NoEdges
+    }
+
+    #[inline(always)]
+    fn put_counts(&mut self, _counts: NoEdges) {}
 
     fn pass<M: Paged>(&mut self, parts: &TenantParts, memory: &mut M) {
         self.passed = parts.history.steps;
@@ -289,7 +296,7 @@ impl<'a> Edges for Observer<'a> {
     fn completed(&mut self, pc: u64, word: u32, regs: &Regs) {
         if let Some(checker) = &mut self.checker {
             if let Some(exact) = &mut self.exact {
-                if let Some(span) = checker.accessed(word, regs) {
+                if let Some(span) = checker.accessed(pc, word, regs) {
                     if exact.is_suspicious(span.addr, span.bytes, span.is_write)
                         && self.suspect.is_none()
                     {

@@ -3,7 +3,7 @@
 ghost use Rattle.std.specs.Prelude.{None};
 
 use crate::bench::{WatchLevel, Watcher};
-use a64_run::Edges;
+use a64_run::{Edges, NoEdges};
 use mte_tags::Paged;
 use mte_tenant::{NotedAccess, Notes, NotesAccesses, TenantParts, Watch};
 use run_cause::{LastStore, StoreWatch, TargetLoad};
@@ -60,9 +60,17 @@ impl Edges for StoreWatcher {
 }
 
 impl Notes for StoreWatcher {
+    type Counts = NoEdges;
+
     fn follows(&self) -> bool {
         false
     }
+
+    fn take_counts(&mut self) -> NoEdges {
+        NoEdges
+    }
+
+    fn put_counts(&mut self, _counts: NoEdges) {}
 
     fn pass<M: Paged>(&mut self, _parts: &TenantParts, _memory: &mut M) {}
 }

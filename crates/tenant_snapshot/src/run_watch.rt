@@ -16,8 +16,18 @@ pub enum RunWatch<'a> {
 impl<'a> RunWatch<'a> {
     /// Counts branches where there is a map, and judges accesses where there are chunks.
     pub fn new(map: Option<EdgeMap<'a>>, chunks: Option<Bounds>) -> RunWatch<'a> {
+        RunWatch::shown_after(0, map, chunks)
+    }
+
+    /// Watches as `new` does, but judges the accesses of the first so many steps only as far as one
+    /// may be wrong.
+    pub fn shown_after(
+        steps: u64,
+        map: Option<EdgeMap<'a>>,
+        chunks: Option<Bounds>,
+    ) -> RunWatch<'a> {
         match chunks {
-            Some(chunks) => RunWatch::Exact(ExactWatch::new(chunks, map)),
+            Some(chunks) => RunWatch::Exact(ExactWatch::shown_after(steps, chunks, map)),
             None => RunWatch::Edges(CountedEdges { map }),
         }
     }
@@ -27,6 +37,14 @@ impl<'a> RunWatch<'a> {
         match self {
             RunWatch::Edges(_) => None,
             RunWatch::Exact(watch) => watch.finding(),
+        }
+    }
+
+    /// After how many steps accesses begin of which one may be wrong, if there are any.
+    pub fn suspect(&self) -> Option<u64> {
+        match self {
+            RunWatch::Edges(_) => None,
+            RunWatch::Exact(watch) => watch.suspect(),
         }
     }
 

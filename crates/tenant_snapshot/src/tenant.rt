@@ -14,7 +14,7 @@ use common::Obstacle;
 use heap_bounds::Bounds;
 use mte_flat::SnapshotMemory;
 use mte_svc::{Input, TenantParts};
-use mte_tenant::{Admission, AdmitError, Lone, slice_watched, slice_with_edges};
+use mte_tenant::{Admission, AdmitError, Lone, slice_noted, slice_with_edges};
 use std::alloc::{AllocError, Global};
 
 /// A tenant's machine, as the definition has it, and a snapshot of it. Its table of kept
@@ -100,7 +100,15 @@ impl SnapshotTenant {
             ≡ machine_of self.old.saved self.old.memory.saved }
         ensures chunks { self.new.chunks ≡ self.old.chunks }
     {
-        slice_watched(watch, &mut self.parts, &mut self.memory, steps);
+        let last = watch.begin(&self.parts, steps);
+        slice_noted(
+            &mut self.words,
+            watch,
+            &mut self.parts,
+            &mut self.memory,
+            steps,
+            last,
+        );
     }
 
     /// A slice of at most `steps` instructions, whatever watches it.

@@ -27,8 +27,7 @@ pub struct FuzzFinding {
     pub kind: u32,
     /// 1 where the bytes were written, else 0.
     pub write: u32,
-    /// 1 where a chunk could not be entered since memory ran out, and nothing was judged from there
-    /// on; else 0.
+    /// 1 where memory ran out, and nothing was judged from there on; else 0.
     pub missed: u32,
     /// Not used: 0.
     pub unused: u32,

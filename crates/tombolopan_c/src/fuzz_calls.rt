@@ -7,7 +7,7 @@ ghost use Rattle.tenant_snapshot.specs.Maps.{is_map_length};
 ghost use Rattle.tombolopan_c.specs.declared.codes.TheConstants.{OK};
 ghost use Rattle.tombolopan_c.specs.LoneTenants.{lent_start};
 ghost use Rattle.tombolopan_c.specs.LentFuzz.{HasSaved, HasRun, HasAnswered, now_of, saved_of};
-ghost use Rattle.tombolopan_c.specs.LentFuzz.{no_finding};
+ghost use Rattle.tombolopan_c.specs.LentFuzz.{no_finding, after_run};
 
 use crate::alone_end::AloneEnd;
 use crate::codes::{BAD_ARGUMENT, NO_MACHINE, NO_REFUSAL, OK, OUT_OF_MEMORY};
@@ -53,7 +53,7 @@ fn set_up(
     ensures { HasSaved terms.now fuzz.new.value result }
 {
     let mut machine = machine;
-    let mut watch = RunWatch::new(None, Some(Bounds::new(alloc)));
+    let mut watch = RunWatch::shown_after(u64::MAX, None, Some(Bounds::new(alloc)));
     run_slices(&mut machine, &mut watch, terms.slices);
     let end = AloneEnd::of_record(OK, &machine.parts.history);
     let Ok(kept) = saved(alloc, machine, watch) else {
@@ -182,12 +182,54 @@ fn answer(
     if machine.restore(alloc, run.input).is_err() {
         return FuzzAnswer::without_run(OUT_OF_MEMORY);
     }
-    let mut watch = RunWatch::new(EdgeMap::new(map, run.saturating != 0), chunks);
+    let map = EdgeMap::new(map, run.saturating != 0);
+    let mut watch = RunWatch::shown_after(u64::MAX, map, chunks);
     run_slices(machine, &mut watch, run.slices);
+    let finding = finding_of(alloc, machine, run, &watch);
     FuzzAnswer {
         end: AloneEnd::of_record(OK, &machine.parts.history),
-        finding: FuzzFinding::of(watch.finding(), watch.is_complete()),
+        finding,
     }
+}
+
+/// What a watch of a run found. Where an access may have been wrong, the machine runs once more.
+fn finding_of(
+    alloc: Global,
+    machine: &mut SnapshotTenant,
+    run: &LentFuzzInput<'_>,
+    watch: &RunWatch<'_>,
+) -> FuzzFinding
+    requires ran { now_of machine.old ≡ after_run run.now (saved_of machine.old) }
+    ensures ran { now_of machine.new ≡ after_run run.now (saved_of machine.old) }
+    ensures saved { saved_of machine.new ≡ saved_of machine.old }
+{
+    match watch.suspect() {
+        Some(steps) => judge_after(alloc, machine, run, steps),
+        None => FuzzFinding::of(watch.finding(), watch.is_complete()),
+    }
+}
+
+/// Runs the machine once more, and judges each access after so many steps. Where memory is refused,
+/// nothing is judged.
+fn judge_after(
+    alloc: Global,
+    machine: &mut SnapshotTenant,
+    run: &LentFuzzInput<'_>,
+    steps: u64,
+) -> FuzzFinding
+    requires ran { now_of machine.old ≡ after_run run.now (saved_of machine.old) }
+    ensures ran { now_of machine.new ≡ after_run run.now (saved_of machine.old) }
+    ensures saved { saved_of machine.new ≡ saved_of machine.old }
+{
+    let Ok(chunks) = machine.chunks.copy(alloc) else {
+        return FuzzFinding::of(None, false);
+    };
+    if machine.restore(alloc, run.input).is_err() {
+        return FuzzFinding::of(None, false);
+    }
+    let mut watch = RunWatch::shown_after(steps, None, Some(chunks));
+    run_slices(machine, &mut watch, run.slices);
+    FuzzFinding::of(watch.finding(), watch.is_complete())
 }
 
 /// The chunks with which an exact run begins; none for another run.

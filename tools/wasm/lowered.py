@@ -1,0 +1,94 @@
+"""The LLVM module of mte_run, as text, for x86-64: of a proved build where there is one, else of
+one without proof."""
+
+import os
+import pathlib
+import re
+import subprocess
+import sys
+
+import unproved
+
+PROGRAM = "mte_run"
+X86 = "x86_64-unknown-linux-gnu"
+# In place of clang: keeps the module that it is asked to compile, and stops.
+KEEPER = """#!/bin/sh
+for word in "$@"; do
+    if [ "$word" = module.bc ]; then cp module.bc "{module}"; exit 1; fi
+done
+exec "{clang}" "$@"
+"""
+
+
+def is_current(checkout: pathlib.Path, file: pathlib.Path) -> bool:
+    """Whether a built file is of the sources that are there (tools/sources.sh)."""
+    script = 'source "$1/tools/sources.sh" && is_current "$1" "$2"'
+    words = ["bash", "-c", script, "bash", str(checkout), str(file)]
+    return subprocess.run(words, check=False).returncode == 0
+
+
+def is_proved(checkout: pathlib.Path) -> bool:
+    """Whether the program of a checkout is there, of its sources, and proved."""
+    crate = checkout / "crates" / PROGRAM
+    program = crate / "out" / PROGRAM
+    has_mark = program.with_name(f"{PROGRAM}.unproved").exists()
+    return not has_mark and is_current(checkout, program)
+
+
+def dependencies(checkout: pathlib.Path) -> list[str]:
+    """The crates that the program names, and those that each crate has."""
+    text = (checkout / "crates.txt").read_text(encoding="utf-8")
+    found = re.search(rf"^{PROGRAM}: *(.*)$", text, re.M)
+    assert found, PROGRAM
+    return ["core", "std", *found[1].split()]
+
+
+def library(checkout: pathlib.Path, kit: pathlib.Path, crate: str) -> pathlib.Path:
+    """The proved library of a crate of the checkout or of the toolchain."""
+    own = checkout / "crates" / crate / "out" / "rlib" / f"{crate}.rlib"
+    return own if own.is_dir() else kit / "rlibs" / f"{crate}.rlib"
+
+
+def build_words(checkout: pathlib.Path, kit: pathlib.Path, work: pathlib.Path) -> list[str]:
+    """The command that proves the program over proved libraries and compiles it."""
+    words = ["rattle", "build", "--crate-name", PROGRAM, "src/main.rt", "-L",
+             f"dependency={kit}/rlibs"]
+    for crate in dependencies(checkout):
+        words += ["--extern", f"{crate}={library(checkout, kit, crate)}"]
+    for folder in sorted((checkout / "crates").glob("*/out/rlib")):
+        words += ["-L", f"dependency={folder}"]
+    return [
+        *words, "--antt-project", f"{kit}/rattle/logic/antt-project.json", "--logic-built",
+        f"{kit}/logic_built", "--jobs", "1", "--links", f"{PROGRAM}=", "--target", X86,
+        "--toolchain", f"{work}/toolchain", "--backend", "llvm", "--incremental",
+        f"{work}/incremental", "-o", f"{work}/{PROGRAM}.o"]
+
+
+def lower_proved(checkout: pathlib.Path, work: pathlib.Path) -> pathlib.Path:
+    """The module that the proved program is compiled from: it is proved once more over the
+    proved libraries, and a script in clang's place keeps the module."""
+    kit, kept = unproved.find_kit(), work / "module.bc"
+    clang = kit / "toolchain/bin/clang"
+    (work / "incremental").mkdir()
+    unproved.link_all(kit / "toolchain", work / "toolchain", {"bin"})
+    unproved.link_all(kit / "toolchain/bin", work / "toolchain/bin", {"clang"})
+    unproved.write_program(work / "toolchain/bin/clang",
+                           KEEPER.format(module=kept, clang=clang))
+    path = f"{kit}/bin:{os.environ['PATH']}"
+    ran = subprocess.run(
+        build_words(checkout, kit, work), cwd=checkout / "crates" / PROGRAM, text=True,
+        stdout=subprocess.PIPE, stderr=subprocess.STDOUT, check=False,
+        env={**os.environ, "PATH": path})
+    if not kept.exists():
+        sys.exit(f"{ran.stdout[-4000:]}\nwasm.sh: {PROGRAM} was not lowered")
+    text = work / "clean.ll"
+    subprocess.run([clang, *unproved.TARGET, "-S", "-emit-llvm", "-Xclang",
+                    "-disable-llvm-passes", "-x", "ir", kept, "-o", text], check=True)
+    return text
+
+
+def lower(checkout: pathlib.Path, work: pathlib.Path, *, is_proved: bool) -> pathlib.Path:
+    """The module of a checkout."""
+    if is_proved:
+        return lower_proved(checkout, work)
+    return unproved.make_module(checkout, PROGRAM, work)

@@ -1,0 +1,86 @@
+"""A module of LLVM for x86-64 as a WebAssembly module with a memory of 64 bits."""
+
+import pathlib
+import re
+import subprocess
+from collections.abc import Sequence
+
+import unproved
+
+SYSTEM = pathlib.Path(__file__).resolve().parent / "system"
+TARGET = ["--target=wasm64-unknown-unknown", "--no-default-config"]
+FEATURES = ["-mcpu=generic", "-mbulk-memory", "-msign-ext", "-mnontrapping-fptoint"]
+OWN_C = ["-O2", "-ffreestanding", "-fno-builtin", "-Wall", "-Wextra", "-Werror"]
+FROM_IR = ["-O3", "-Wno-override-module", "-ffunction-sections", "-fdata-sections", "-x", "ir"]
+STACK, MOST_MEMORY = 8 << 20, 1 << 30
+# Words of functions for x86-64, and what they are for the other processor.
+WORDS = {
+    ' "probe-stack"="inline-asm" "stack-probe-size"="3072"': "",
+    ' "target-cpu"="x86-64-v2"': (
+        ' "target-features"="+bulk-memory,+sign-ext,+nontrapping-fptoint,+mutable-globals"'),
+    # A group has one word at least.
+    ' "frame-pointer"="all"': " nounwind",
+}
+# Where a slice begins, with its steps.
+SLICE = re.compile(r'(^define [^\n]*@"tenant_run::slices::run_slice::[^\n]*i32 noundef (%\w+)'
+                   r'[^\n]*\{\nstart:\n)', re.M)
+COUNTED = "system_slice"
+
+
+def run(words: Sequence[object]) -> str:
+    """What a command writes on standard output."""
+    ran = subprocess.run([str(it) for it in words], check=True, stdout=subprocess.PIPE, text=True)
+    return ran.stdout
+
+
+def data_layout(clang: pathlib.Path, work: pathlib.Path) -> str:
+    """How LLVM lays out data for the target."""
+    empty = work / "empty.c"
+    empty.write_text("int empty;\n", encoding="utf-8")
+    text = run([clang, *TARGET, "-S", "-emit-llvm", empty, "-o", "-"])
+    return next(it for it in text.splitlines() if it.startswith("target datalayout"))
+
+
+def for_the_target(text: str, layout: str) -> str:
+    """The same module with the layout, the name and the features of the target, which says the
+    steps of each slice."""
+    text = re.sub(r"^target datalayout.*$", lambda _: layout, text, count=1, flags=re.M)
+    text = re.sub(r"^target triple.*$", 'target triple = "wasm64-unknown-unknown"', text, count=1,
+                  flags=re.M)
+    text = SLICE.sub(rf"\1  call void @{COUNTED}(i32 \2)\n", text)
+    lines = text.split("\n")
+    for at, line in enumerate(lines):
+        if line.startswith("attributes #"):
+            lines[at] = with_words(line)
+    return "\n".join([*lines, f"declare void @{COUNTED}(i32)", ""])
+
+
+def with_words(line: str) -> str:
+    """A group of attributes for the target."""
+    for old, new in WORDS.items():
+        line = line.replace(old, new)
+    return line
+
+
+def compile_module(lowered: pathlib.Path, out: pathlib.Path, work: pathlib.Path) -> None:
+    """Compiles it, as an object."""
+    clang = unproved.find_kit() / "toolchain/bin/clang"
+    text = for_the_target(lowered.read_text(encoding="utf-8"), data_layout(clang, work))
+    (work / "module.ll").write_text(text, encoding="utf-8")
+    run([clang, *TARGET, *FEATURES, "-c", *FROM_IR, work / "module.ll", "-o", out])
+
+
+def link(compiled: pathlib.Path, work: pathlib.Path) -> bytes:
+    """Links it with what is in its system's place."""
+    kit = unproved.find_kit()
+    linker, out, parts = work / "wasm-ld", work / "linked.wasm", [compiled]
+    for source in sorted(SYSTEM.glob("*.c")):
+        parts.append(work / f"{source.stem}.o")
+        run([kit / "toolchain/bin/clang", *TARGET, *FEATURES, "-c", *OWN_C, source, "-o",
+             parts[-1]])
+    # A linker is what it is called.
+    linker.symlink_to(kit / "toolchain/bin/ld.lld")
+    run([linker, "-mwasm64", "--no-entry", "--gc-sections", "--stack-first", "--strip-all", "-z",
+         f"stack-size={STACK}", f"--max-memory={MOST_MEMORY}", "--export-memory", "-o", out,
+         *parts])
+    return out.read_bytes()
