@@ -15,6 +15,7 @@ import time
 import pytest
 
 from tests.support.batches import BATCH, Batch, script, summary
+from tests.support.callgrind import instructions
 from tests.support.embedding import folders
 from tests.support.expected import compare
 from tests.support.host_sessions import admission, with_hi
@@ -276,32 +277,32 @@ def test_a_part_of_another_session(together: SplitSession, tmp_path: pathlib.Pat
 
 # Time
 
+def costs(session: SplitSession, host: pathlib.Path, slices: int) -> tuple[int, int]:
+    """The instructions of a session of so many long slices for each tenant, and those of its
+    ledger, its tenants' parts and their report."""
+    folder = session.folder
+    lines = [admission(number, pages=9) for number in range(TENANTS)]
+    lines += [f"slice {number} 1048576" for number in range(TENANTS)] * slices
+    (folder / "script").write_text("".join(f"{it}\n" for it in lines))
+    names = session.write_parts()
+    assert session.merge(names) == succeed([host, *folders.words_of(folder)], cwd=folder)
+    options = [["--list"], *(["--tenant", str(number)] for number in range(TENANTS))]
+    parts = sum(instructions(session.words(*it), folder, folder) for it in options)
+    merged = instructions([session.split, "--merge", *names], folder, session.parts)
+    return instructions([host, *folders.words_of(folder)], folder, folder), parts + merged
+
+
 def test_processor_time(split: pathlib.Path, host: pathlib.Path, tmp_path: pathlib.Path) -> None:
-    """The parts of tenants with more than ten million steps take at most 1.1 times of the
-    processors' time that the session takes whole."""
+    """The parts of tenants with ten million steps take at most 1.1 times the instructions that
+    the session takes whole: each further slice costs as much as the one before."""
     # Counts down without end.
     image = program(move(1, 1 << 40), subtract_with_flags(1, 1, 1), 0x17FFFFFF)
     (tmp_path / "count.elf").write_bytes(image)
-    lines = [admission(number, pages=9) for number in range(TENANTS)]
-    lines += [f"slice {number} 1048576" for number in range(TENANTS)] * LONG_SLICES
-    (tmp_path / "script").write_text("".join(f"{it}\n" for it in lines))
     (tmp_path / "args").write_text("--frames\n400\nscript\ncount.elf\n")
     session = SplitSession(split, tmp_path, tmp_path / "parts")
-    taken: list[float] = []
-    # On a busy machine a run takes up to a half more: the best of some counts.
-    while len(taken) < 8 and min(taken, default=2.0) > 1.1:
-        spent = []
-        for whole in (True, False):
-            before = resource.getrusage(resource.RUSAGE_CHILDREN)
-            if whole:
-                report = succeed([host, *folders.words_of(tmp_path)], cwd=tmp_path)
-            else:
-                merged = session.merge(session.write_parts())
-            after = resource.getrusage(resource.RUSAGE_CHILDREN)
-            spent.append(after.ru_utime + after.ru_stime - before.ru_utime - before.ru_stime)
-        assert merged == report
-        taken.append(spent[1] / spent[0])
-    assert min(taken) <= 1.1, taken
+    one, two = costs(session, host, 1), costs(session, host, 2)
+    whole, parts = (it + (LONG_SLICES - 1) * (other - it) for it, other in zip(one, two))
+    assert parts <= 1.1 * whole, (one, two)
 
 
 # By tools/batch

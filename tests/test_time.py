@@ -1,29 +1,19 @@
 """What a run and its report cost: instructions by callgrind, and seconds for hostile images."""
 
 import pathlib
-import re
 import resource
 from collections.abc import Sequence
 
 import pytest
 
 from tests.support import hostile_images
+from tests.support.callgrind import instructions
 from tests.support.places import EXAMPLES
 from tests.support.running import Word, run, succeed
 from tests.support.samples import tenant
 from tests.support.tools import need
 
 MEMORY = 256 * 1024 * 1024
-
-
-def instructions(words: Sequence[Word], folder: pathlib.Path) -> int:
-    """How many instructions of this machine a program takes."""
-    need("valgrind")
-    counts = folder / "callgrind.out"
-    ran = run(["valgrind", "--tool=callgrind", f"--callgrind-out-file={counts}", *words])
-    found = re.search(r"Collected : (\d+)", ran.errors)
-    assert found, ran.errors
-    return int(found[1])
 
 
 MANY_PAGES = """#include "tenant.h"
