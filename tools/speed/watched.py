@@ -1,9 +1,9 @@
 """Watched runs, for `--watched`: each HOST is a built mte_run. The real programs run as tenants of
-each, plain and with --statistics, --exact, each kind of --check, all kinds, and given up shortly
-before their end (two runs then); and as programs of this machine, alone, under AddressSanitizer,
-memcheck and callgrind. A figure is the best user time of a whole run less the best of a start, in
-seconds and as a ratio to a plain run. With `--ir` it has the host's instructions a step of a short
-run less a start.
+each, plain and with --statistics, --exact, each kind of --check, all kinds, given up shortly before
+their end (two runs then), and under --gdb with a watchpoint that is never met; and as programs of
+this machine, alone, under AddressSanitizer, memcheck and callgrind. A figure is the best user time
+of a whole run less the best of a start, in seconds and as a ratio to a plain run. With `--ir` it
+has the host's instructions a step of a short run less a start, but for --gdb.
 """
 import json
 import resource
@@ -17,7 +17,9 @@ from real_programs import PAGES, PROGRAMS, START, Builder, Run, make_input
 KINDS = ("provenance", "frees", "leaks", "undefined", "arithmetic", "places")
 ASKED = ["", "--statistics", "--exact", *(f"--check={kind}" for kind in KINDS), "--check",
          "--check=all,places"]
-GIVEN_UP = "given up"
+GIVEN_UP, GDB = "given up", "--gdb"
+# A watchpoint where nothing is, and on to the exit.
+PACKETS = ("Z2,100,8", "vCont;c", "k")
 # The steps that are left where a run is given up.
 LEFT = 10_000
 MOST = 10 ** 12
@@ -54,6 +56,11 @@ def steps_of(runner: str, work: Path, image: Path, data: Path) -> int:
     return steps
 
 
+def packet(text: str) -> str:
+    """A packet of GDB's remote protocol, after what acknowledges the one before."""
+    return f"+${text}#{sum(text.encode()) % 256:02x}"
+
+
 def command(runner: str, asked: str, image: Path, data: Path, steps: int) -> Command:
     """A run with an option, or one that is given up."""
     words = [] if asked in ("", GIVEN_UP) else [asked]
@@ -68,12 +75,14 @@ class Watched:
         self.name, self.builder, self.image = name, builder, image
         start = START if run[1] else (0, 0)
         self.data = [make_input(builder.work, name, it) for it in (run, start)]
+        self.packets = builder.work / "packets"
+        self.packets.write_text("".join(packet(it) for it in PACKETS))
 
     def best(self, ways: Ways, turns: int) -> dict[str, float]:
         """Seconds of user time of each, without the start."""
         found: dict[tuple[str, int], float] = {}
         for who, kind in [(who, kind) for who in ways for kind in (0, 1)] * turns:
-            time = seconds(ways[who][kind], self.data[kind])
+            time = seconds(ways[who][kind], self.packets if who == GDB else self.data[kind])
             found[who, kind] = min(time, found.get((who, kind), time))
         return {who: found[who, 0] - found[who, 1] for who in ways}
 
@@ -81,7 +90,7 @@ class Watched:
         """The runs by one mte_run, with the steps between them."""
         steps = [steps_of(runner, self.builder.work, self.image, it) for it in self.data]
         ways: Ways = {}
-        for asked in [*ASKED, GIVEN_UP]:
+        for asked in [*ASKED, GIVEN_UP, GDB]:
             whole, start = [command(runner, asked, self.image, data, count)
                             for data, count in zip(self.data, steps)]
             ways[asked] = whole, start
@@ -110,6 +119,8 @@ def show_instructions(watched: Watched, runner: str) -> None:
     ways, steps = watched.ways_of(runner)
     print(f"{watched.data[0].name}: {steps / 1e6:.1f} million steps, {runner}")
     for who, (whole, start) in ways.items():
+        if who == GDB:
+            continue
         spent = (instructions(whole) - instructions(start)) / steps
         print(f"  {who or 'plain':22}{spent:8.1f} instructions a step", flush=True)
 

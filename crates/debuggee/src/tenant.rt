@@ -13,12 +13,14 @@ ghost use Rattle.debuggee.specs.Courses.{IsAt};
 use crate::cuts::Cuts;
 use crate::memory_map::MappedRegion;
 use crate::watched::{Hit, Watched, Watchpoint};
-use a64_run::OpCache;
+use a64_run::{Edges, OpCache};
 use a64_step::{Decoder, Regs};
 use common::Obstacle;
 use mte_flat::Flat;
 use mte_tags::TagMode;
-use mte_tenant::{Admission, AdmitError, Lone, TenantParts, attempt, settle, slice};
+use mte_tenant::{
+    Admission, AdmitError, Lone, TenantParts, attempt, settle, slice, slice_with_edges,
+};
 use run_cause::StoreWatch;
 use run_records::{Book, Moment};
 use std::alloc::{AllocError, Global};
@@ -164,6 +166,15 @@ impl<'a> Debuggee<'a> {
         self.done == 0
     }
 
+    /// How many instructions it has attempted when the slice that goes on or comes next is over, at
+    /// the latest.
+    pub fn slice_end(&self) -> u64
+        ensures { result ≡ min 18446744073709551615 (steps_of self.now + (cut_of self.now - done_of self.now)) }
+    {
+        let left = self.cut.saturating_sub(self.done);
+        self.parts.history.steps.saturating_add(u64::from(left))
+    }
+
     /// The mode of tag checks.
     pub fn mode(&self) -> TagMode
         ensures { result ≡ (admission_of self.now).terms.mode }
@@ -229,6 +240,34 @@ impl<'a> Debuggee<'a> {
             &mut self.words,
             &mut self.parts,
             &mut self.memory.flat,
+            self.cut,
+        );
+        self.slices += 1;
+        self.cut = self.cuts.next(self.slices, self.parts.history.steps);
+        true
+    }
+
+    /// Attempts the whole slice that comes next, as `attempt_slice` does, notes the first watchpoint
+    /// that is met, and shows each instruction.
+    pub fn attempt_slice_watched<E: Edges>(&mut self, shown: &mut E) -> bool
+        ensures answer { result ≡ can_begin self.old }
+        ensures stays { result ≡ false → self.new ≡ self.old }
+        ensures machine { result ≡ true
+            → machine_in self.new ≡ after_slice (cut_of self.old) (machine_in self.old) }
+        ensures admission { admission_of self.new ≡ admission_of self.old }
+        ensures cuts { cuts_of self.new ≡ cuts_of self.old }
+    {
+        if !self.parts.is_running() || self.done > 0 || self.slices == u64::MAX {
+            return false;
+        }
+        if self.cut == 0 {
+            return false;
+        }
+        slice_with_edges(
+            &mut self.words,
+            &mut self.parts,
+            &mut self.memory,
+            shown,
             self.cut,
         );
         self.slices += 1;

@@ -1,5 +1,8 @@
 //! Where a tenant that moves stops.
 
+use a64_bits::plain;
+use a64_registers::Regs;
+use a64_run::Edges;
 use debuggee::Watchpoint;
 use std::alloc::Global;
 
@@ -58,5 +61,57 @@ impl Points {
     /// The accesses that are watched.
     pub fn watchpoints(&self) -> &[Watchpoint] {
         self.watchpoints.as_slice()
+    }
+
+    /// What notes whether an instruction with a breakpoint is attempted.
+    pub(crate) fn screen(&self) -> BreakpointScreen<'_> {
+        let mut bits = 0;
+        for address in &self.breakpoints {
+            bits |= bit_of(*address);
+        }
+        BreakpointScreen {
+            points: self,
+            bits,
+            is_met: false,
+        }
+    }
+}
+
+/// The bit of 64 that stands for an instruction's address.
+#[inline(always)]
+fn bit_of(address: u64) -> u64 {
+    1 << ((address / 4) % 64)
+}
+
+/// Whether an instruction with a breakpoint was attempted.
+#[derive(Drop)]
+pub(crate) struct BreakpointScreen<'p> {
+    points: &'p Points,
+    /// The bits of the breakpoints; none once one was met.
+    bits: u64,
+    pub(crate) is_met: bool,
+}
+
+impl BreakpointScreen<'_> {
+    /// Notes an instruction that may have a breakpoint.
+    #[cold]
+    #[inline(never)]
+    fn note(&mut self, address: u64) {
+        if self.points.is_breakpoint(address) {
+            self.is_met = true;
+            self.bits = 0;
+        }
+    }
+}
+
+impl Edges for BreakpointScreen<'_> {
+    #[inline(always)]
+    fn taken(&mut self, _from: u64, _to: u64) {}
+
+    #[inline(always)]
+    fn attempting(&mut self, pc: u64, _word: u32, _regs: &Regs) {
+        if self.bits & bit_of(pc) != 0 {
+            self.note(plain(pc));
+        }
     }
 }

@@ -3,7 +3,10 @@
 use crate::checkpoints::{Checkpoints, INTERVAL};
 use crate::points::Points;
 use crate::stop::{StopReason, Until};
-use crate::ways::{advance, is_at_svc, last_point, look_ahead};
+use crate::ways::{
+    LastPoint, advance, is_at_svc, last_attempted, last_point, look_ahead, pass_slices,
+};
+use a64_bits::plain;
 use debuggee::{Debuggee, MappedRegion};
 use mte_tags::TagMode;
 use mte_tenant::{Status, TenantParts};
@@ -99,11 +102,19 @@ impl<'a> Traveller<'a> {
         if !self.now.parts().is_running() {
             return Ok(self.stop_again());
         }
-        if points.watchpoints().is_empty() {
-            self.run_to_breakpoint(alloc, points, until)
-        } else {
-            self.run_to_access(alloc, points, until)
+        for _ in 0..u64::MAX {
+            let end = self.now.slice_end();
+            if let Some(stop) = self.look(alloc, points, until, end)? {
+                return Ok(stop);
+            }
+            if !self.now.can_go_on() {
+                break;
+            }
+            if until == Until::Point && self.is_skipping(alloc, points) {
+                return Ok(StopReason::Breakpoint);
+            }
         }
+        self.stop_at_end(alloc)
     }
 
     /// Why it has stopped where it had ended before.
@@ -114,53 +125,48 @@ impl<'a> Traveller<'a> {
         }
     }
 
-    /// Moves it forwards where nothing is watched.
-    fn run_to_breakpoint(
+    /// Moves it forwards until it has attempted `steps` instructions, one at a time; `None` where
+    /// nothing stops it before that. Where accesses are watched it comes up to the instruction that
+    /// makes one, and another one looks ahead.
+    fn look(
         &mut self,
         alloc: Global,
         points: &Points,
         until: Until,
-    ) -> Result<StopReason, AllocError> {
-        self.now.forget_hit();
-        for _ in 0..u64::MAX {
-            if !self.now.can_go_on() {
-                return self.stop_at_end(alloc);
-            }
-            let steps = self.now.steps().saturating_add(INTERVAL);
-            if let Some(stop) = look_ahead(&mut self.now, points, until, steps) {
-                return Ok(stop);
-            }
+        steps: u64,
+    ) -> Result<Option<StopReason>, AllocError> {
+        if points.watchpoints().is_empty() {
+            let stop = look_ahead(&mut self.now, points, until, steps);
             self.checkpoints.note(alloc, &self.now);
+            return Ok(stop);
         }
-        self.stop_at_end(alloc)
-    }
-
-    /// Moves it forwards where accesses are watched: up to the instruction that makes one.
-    fn run_to_access(
-        &mut self,
-        alloc: Global,
-        points: &Points,
-        until: Until,
-    ) -> Result<StopReason, AllocError> {
         let mut ahead = self.take_ahead(alloc)?;
         ahead.watch(points.watchpoints())?;
-        let stop = look_ahead(&mut ahead, points, until, u64::MAX);
-        let steps = ahead.steps();
+        let stop = look_ahead(&mut ahead, points, until, steps);
+        let reached = ahead.steps();
         self.ahead = Some(ahead);
-        match stop {
-            Some(StopReason::Watch(hit)) => {
-                self.move_to(alloc, steps.saturating_sub(1));
-                Ok(StopReason::Watch(hit))
-            }
-            Some(stop) => {
-                self.move_to(alloc, steps);
-                Ok(stop)
-            }
-            None => {
-                self.move_to(alloc, steps);
-                self.stop_at_end(alloc)
-            }
-        }
+        let before = match stop {
+            Some(StopReason::Watch(_)) => 1,
+            _ => 0,
+        };
+        self.move_to(alloc, reached.saturating_sub(before));
+        Ok(stop)
+    }
+
+    /// Moves it forwards over the slices that meet no point; whether it came to a breakpoint.
+    /// Another one passes them first; where there is no memory for that one, it stays.
+    fn is_skipping(&mut self, alloc: Global, points: &Points) -> bool {
+        let before = self.now.steps();
+        let steps = self.steps_to_skip(alloc, points).unwrap_or(before);
+        self.move_to(alloc, steps);
+        steps > before && points.is_breakpoint(plain(self.now.regs().pc))
+    }
+
+    /// How many steps come before the next slice that meets a point, or in which it ends.
+    fn steps_to_skip(&mut self, alloc: Global, points: &Points) -> Result<u64, AllocError> {
+        let mut scout = self.take_ahead(alloc)?;
+        scout.watch(points.watchpoints())?;
+        Ok(pass_slices(&mut scout, points))
     }
 
     /// Moves it forwards to a number of steps, or its end. After many it leaves a checkpoint an
@@ -277,14 +283,42 @@ impl<'a> Traveller<'a> {
                 return Ok((0, StopReason::Start));
             }
             let start = end.saturating_sub(length);
-            let mut past = self.checkpoints.past_of_search(alloc, &self.now, start)?;
-            past.watch(points.watchpoints())?;
-            if let Some(found) = last_point(&mut past, points, end) {
-                return Ok(found);
+            let found = self.search(alloc, points, start, end)?;
+            match found {
+                Some(LastPoint::At(step, stop)) => return Ok((step, stop)),
+                Some(LastPoint::In(first, last)) => return self.find_in(alloc, points, first, last),
+                None => {}
             }
             end = start;
             length = length.saturating_mul(2);
         }
         Ok((0, StopReason::Start))
+    }
+
+    /// The last point between two numbers of steps, both of which it has passed.
+    fn search(
+        &mut self,
+        alloc: Global,
+        points: &Points,
+        start: u64,
+        end: u64,
+    ) -> Result<Option<LastPoint>, AllocError> {
+        let mut past = self.checkpoints.past_of_search(alloc, &self.now, start)?;
+        past.watch(points.watchpoints())?;
+        Ok(last_point(&mut past, points, end))
+    }
+
+    /// The same where a slice between them is known to meet one: after how many steps, and why.
+    fn find_in(
+        &mut self,
+        alloc: Global,
+        points: &Points,
+        start: u64,
+        end: u64,
+    ) -> Result<(u64, StopReason), AllocError> {
+        let mut past = self.checkpoints.past(alloc, &self.now, start)?;
+        past.watch(points.watchpoints())?;
+        let found = last_attempted(&mut past, points, end);
+        Ok(found.unwrap_or((start, StopReason::Breakpoint)))
     }
 }

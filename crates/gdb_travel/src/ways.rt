@@ -27,6 +27,27 @@ fn run_slices(tenant: &mut Debuggee<'_>, steps: u64) {
     }
 }
 
+/// Attempts the slice that comes next; whether it meets a point, or none comes or one goes on.
+fn is_met_by_slice(tenant: &mut Debuggee<'_>, points: &Points) -> bool {
+    let mut screen = points.screen();
+    tenant.forget_hit();
+    let is_attempted = tenant.attempt_slice_watched(&mut screen);
+    !is_attempted || screen.is_met || tenant.hit().is_some()
+}
+
+/// Moves a tenant on by whole slices, up to the end of the first that meets a point or its own end;
+/// returns how many steps it had attempted before that slice.
+pub fn pass_slices(tenant: &mut Debuggee<'_>, points: &Points) -> u64 {
+    let mut steps = tenant.steps();
+    for _ in 0..u64::MAX {
+        if is_met_by_slice(tenant, points) || !tenant.can_go_on() {
+            return steps;
+        }
+        steps = tenant.steps();
+    }
+    steps
+}
+
 /// Moves a tenant on up to the first access that is watched or point that stops it; `None` where it
 /// ends or has attempted `steps` instructions before that. The access has been made.
 pub fn look_ahead(
@@ -63,9 +84,43 @@ pub fn is_at_svc(tenant: &mut Debuggee<'_>) -> bool {
     }
 }
 
-/// Moves a tenant on to a number of steps, and returns the last point on the way that stops it when
-/// it moves back from there: after how many steps, and why.
-pub fn last_point(
+/// The last point on a way.
+#[derive(Clone, Copy)]
+pub enum LastPoint {
+    /// It stops after so many steps, and why.
+    At(u64, StopReason),
+    /// It is in the slice after so many steps, which ends after as many.
+    In(u64, u64),
+}
+
+/// Moves a tenant on to a number of steps, by whole slices where it can, and returns the last point
+/// on the way that stops it when it moves back from there.
+pub fn last_point(tenant: &mut Debuggee<'_>, points: &Points, steps: u64) -> Option<LastPoint> {
+    let mut last = None;
+    for _ in 0..u64::MAX {
+        let before = tenant.steps();
+        if before >= steps || !tenant.can_go_on() {
+            return last;
+        }
+        let end = tenant.slice_end();
+        let found = if end > steps || !tenant.is_between_slices() {
+            let found = last_attempted(tenant, points, end.min(steps));
+            found.map(|(step, stop)| LastPoint::At(step, stop))
+        } else if is_met_by_slice(tenant, points) {
+            Some(LastPoint::In(before, tenant.steps()))
+        } else {
+            None
+        };
+        if found.is_some() {
+            last = found;
+        }
+    }
+    last
+}
+
+/// Attempts a tenant's instructions one at a time up to a number of steps, and returns the last
+/// point on the way that stops it when it moves back from there: after how many steps, and why.
+pub fn last_attempted(
     tenant: &mut Debuggee<'_>,
     points: &Points,
     steps: u64,
