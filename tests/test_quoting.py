@@ -67,7 +67,7 @@ def test_names_of_files(alone: pathlib.Path, tmp_path: pathlib.Path, chunk: list
         assert (ran.status, ran.out) == (READ, b"")
         assert asked(ran.err) == []
         assert ran.errors.startswith(f"mte_run: cannot read {shown(name)}: ")
-    for option in ("--json", "--map", "--core", "--html", "--sarif", "--trace-file"):
+    for option in ("--json", "--map", "--core", "--html", "--sarif", "--trace-file", "--progress"):
         ran = run([alone, "--trace", option, f"absent/{name}", HELLO], cwd=tmp_path)
         assert asked(ran.err) == [] and f"absent/{shown(name)}: " in ran.errors, option
 

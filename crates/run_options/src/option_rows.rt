@@ -5,7 +5,7 @@ use crate::table::{OptionForm, OptionRow};
 use run_terms::CHECK_HELP;
 
 /// All options: a static, since a proof writes out a constant wherever it is named.
-pub(crate) static OPTIONS: [OptionRow; 30] = [
+pub(crate) static OPTIONS: [OptionRow; 31] = [
     OptionRow {
         name: "input",
         form: OptionForm::Text("FILE"),
@@ -187,6 +187,13 @@ pub(crate) static OPTIONS: [OptionRow; 30] = [
         group: "Files that it writes",
         is_first: false,
         help: "Writes an ELF core of its end, which GDB opens",
+    },
+    OptionRow {
+        name: "progress",
+        form: OptionForm::Text("FILE"),
+        group: "Files that it writes",
+        is_first: false,
+        help: "Writes a line a slice, and gives it up where FILE takes no more",
     },
     OptionRow {
         name: "script",

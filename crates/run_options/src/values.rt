@@ -133,6 +133,7 @@ fn length_of(alloc: Global, matches: &ArgMatches<'_>) -> Result<RunLength, Alloc
     Ok(RunLength {
         steps: matches.get_one::<u64>("steps").unwrap_or(0),
         slices,
+        progress: name_of(alloc, matches, "progress")?,
     })
 }
 

@@ -36,6 +36,8 @@ pub struct RunLength {
     pub steps: u64,
     /// The steps of its slices, where they are named.
     pub slices: Option<Vec<u32>>,
+    /// The name of the file that gets a line after each slice, and whose end is that of the run.
+    pub progress: Option<String>,
 }
 
 /// Which lines are written.

@@ -7,6 +7,7 @@ mod line_log;
 mod lone;
 mod observer;
 mod output_stream;
+mod progress;
 mod seeds;
 mod slices;
 mod store_watcher;

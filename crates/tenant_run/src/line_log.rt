@@ -73,8 +73,8 @@ fn open_log<'a>(rt: &HostRuntime, output: &'a OutputOptions) -> Result<Log, Fail
     Ok(BufWriter::new(rt.alloc(), out)?)
 }
 
-/// An empty file with a name.
-fn create<'a>(rt: &HostRuntime, name: &'a str) -> Result<File, Failure<'a>> {
+/// An empty file with a name, for lines.
+pub(crate) fn create<'a>(rt: &HostRuntime, name: &'a str) -> Result<File, Failure<'a>> {
     match replace_file(rt, name) {
         Ok(file) => Ok(file),
         Err(error) => Err(Failure::of_write(&error, name)),

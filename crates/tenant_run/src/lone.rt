@@ -6,6 +6,7 @@ use crate::bench::{TenantBench, WatchLevel};
 use crate::ending::TenantEnding;
 use crate::observer::Observer;
 use crate::output_stream::OutputStream;
+use crate::progress::Progress;
 use crate::slices::run_slices;
 use crate::store_watcher::StoreWatcher;
 use crate::survey::Survey;
@@ -107,11 +108,11 @@ impl<'x> LoneTenant<'x> {
     pub fn run<'a>(
         &self,
         rt: &HostRuntime,
-        options: &Options,
+        options: &'a Options,
         bench: &mut TenantBench,
         observer: &mut Observer<'_>,
     ) -> Result<(), Failure<'a>> {
-        let mut out = OutputStream::new(rt);
+        let mut out = OutputStream::new(rt, Progress::open(rt, options)?);
         observer.shown = observer.needs();
         run_slices(bench, observer, &mut out, options, options.length.steps);
         if wants_second_run(bench, options, observer) {
@@ -121,6 +122,11 @@ impl<'x> LoneTenant<'x> {
         self.find_store(rt.alloc(), options, bench, observer)?;
         if out.has_failed {
             return Err(Failure::Write);
+        }
+        if let Some(steps) = out.stopped() {
+            let _ = eprintln!(rt;
+                "mte_run: given up after {steps} steps: --progress takes no more lines"
+            );
         }
         Ok(())
     }

@@ -1,11 +1,12 @@
-//! The output of a tenant, on standard output.
+//! The output of a tenant, on standard output, and how far it is.
 
-use mte_tenant::Output;
+use crate::progress::Progress;
+use mte_tenant::{Output, TenantParts};
 use std::io::Write;
 
 /// Writes what a tenant has written as it comes, each byte once, whichever run of the tenant it
 /// comes from: two runs of a tenant write the same.
-#[derive(Clone, Copy)]
+#[derive(Drop)]
 pub struct OutputStream<'r> {
     /// `None` where nothing is written.
     rt: Option<&'r HostRuntime>,
@@ -13,15 +14,18 @@ pub struct OutputStream<'r> {
     count: usize,
     /// Whether a write failed; after that there are no more.
     pub has_failed: bool,
+    /// Where a line after each slice goes.
+    progress: Progress,
 }
 
 impl<'r> OutputStream<'r> {
     /// One that writes to standard output.
-    pub fn new(rt: &'r HostRuntime) -> OutputStream<'r> {
+    pub fn new(rt: &'r HostRuntime, progress: Progress) -> OutputStream<'r> {
         OutputStream {
             rt: Some(rt),
             count: 0,
             has_failed: false,
+            progress,
         }
     }
 
@@ -31,11 +35,32 @@ impl<'r> OutputStream<'r> {
             rt: None,
             count: 0,
             has_failed: false,
+            progress: Progress::none(),
         }
     }
 
-    /// Writes what was not yet written.
-    pub fn update(&mut self, output: &Output) {
+    /// The steps after which a run ends that has a limit: no more than those of a run before that
+    /// was stopped.
+    pub fn limit(&self, given: u64) -> u64 {
+        match self.progress.stopped {
+            Some(steps) => steps.min(given),
+            None => given,
+        }
+    }
+
+    /// The steps after which the run was stopped, if it was.
+    pub fn stopped(&self) -> Option<u64> {
+        self.progress.stopped
+    }
+
+    /// Writes what was not yet written after a slice.
+    pub fn update(&mut self, parts: &TenantParts) {
+        self.write_rest(&parts.history.output);
+        self.progress.note(parts);
+    }
+
+    /// Writes the output that was not yet written.
+    fn write_rest(&mut self, output: &Output) {
         let bytes = output.as_slice();
         let (Some(rt), Some(rest)) = (self.rt, bytes.get(self.count..)) else {
             return;

@@ -40,7 +40,7 @@ fn is_over<O: Watcher>(
     watcher.has_ended()
         || out.has_failed
         || !bench.parts.is_running()
-        || bench.parts.history.steps >= limit
+        || bench.parts.history.steps >= out.limit(limit)
 }
 
 /// Runs a slice, or what the limit of steps leaves of it, and writes what it wrote, unless an
@@ -52,9 +52,9 @@ fn run_slice<O: Watcher>(
     steps: u32,
     limit: u64,
 ) {
-    let left = limit.saturating_sub(bench.parts.history.steps);
+    let left = out.limit(limit).saturating_sub(bench.parts.history.steps);
     bench.slice(watcher, u32::try_from(left).unwrap_or(u32::MAX).min(steps));
     if !watcher.has_ended() {
-        out.update(&bench.parts.history.output);
+        out.update(&bench.parts);
     }
 }
