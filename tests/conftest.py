@@ -51,3 +51,10 @@ def acts(
     """Runs of all acts of an image; the tests of an image follow one another."""
     source, build = request.param
     return run_acts(alone, source, build, tmp_path_factory.mktemp("acts"))
+
+
+def pytest_collection_modifyitems(items: list[pytest.Item]) -> None:
+    """The page is made first, by one worker, and cases that open it come last: it is there then."""
+    places = {it: 0 if it.name == "test_the_page_is_made" else 2 if "whole" in
+              getattr(it, "fixturenames", ()) else 1 for it in items}
+    items.sort(key=lambda it: places[it])

@@ -8,12 +8,12 @@ import pathlib
 import random
 import re
 import time
-from collections.abc import Iterator
+from collections.abc import Iterator, Sequence
 
 import pytest
 from wasm import archive, command, page as html_page, sources, table
 
-from tests.support import places, playground
+from tests.support import host_frames, places, playground
 from tests.support.acts import EVERY_IMAGE
 from tests.support.browser import Browser
 from tests.support.pages import read_page
@@ -34,29 +34,32 @@ CONTRAST = 4.5
 EXAMPLE_ROWS = sources.read_examples()
 
 
-@pytest.fixture(scope="session", name="made")
+@pytest.fixture(scope="session", name="whole")
 def fixture_made(alone: pathlib.Path, shared: pathlib.Path) -> pathlib.Path:
-    """The page. It is not built by each run of the suite."""
+    """The page of the programs that are tested."""
     assert alone.exists()
-    if places.BUILT is None and "TOMBOLOPAN_BROWSER" not in os.environ:
-        give_up("TOMBOLOPAN_BROWSER is not set: a page takes some ten minutes of a processor")
     return playground.playground(shared)
 
 
+def test_the_page_is_made(whole: pathlib.Path) -> None:
+    """Which takes a worker some minutes (tests/conftest.py has it begin with that)."""
+    assert whole.exists()
+
+
 @pytest.fixture(scope="module", name="opened", params=sorted(BROWSERS))
-def fixture_opened(request: pytest.FixtureRequest, made: pathlib.Path,
+def fixture_opened(request: pytest.FixtureRequest, whole: pathlib.Path,
                    tmp_path_factory: pytest.TempPathFactory) -> AnyBrowser:
     """The page in each browser."""
-    browser = BROWSERS[request.param](made, tmp_path_factory.mktemp("profile"))
+    browser = BROWSERS[request.param](whole, tmp_path_factory.mktemp("profile"))
     request.addfinalizer(lambda: browser.__exit__(None, None, None))
     browser.wait(DONE)
     return browser
 
 
 @pytest.fixture(name="chromium")
-def fixture_chromium(made: pathlib.Path, tmp_path: pathlib.Path) -> Iterator[Browser]:
+def fixture_chromium(whole: pathlib.Path, tmp_path: pathlib.Path) -> Iterator[Browser]:
     """The page in a browser whose events are seen."""
-    with Browser(made, tmp_path / "profile") as browser:
+    with Browser(whole, tmp_path / "profile") as browser:
         browser.wait(DONE)
         yield browser
 
@@ -86,11 +89,16 @@ def test_runs_are_those_of_the_program(opened: AnyBrowser, alone: pathlib.Path,
 ENDLESS = "int main(void) { for (;;) __asm__ volatile(\"\"); }\n"
 
 
-@pytest.mark.parametrize("example", EXAMPLE_ROWS, ids=[it.name for it in EXAMPLE_ROWS])
-def test_examples(opened: AnyBrowser, alone: pathlib.Path, tmp_path: pathlib.Path,
-                  example: sources.Example) -> None:
+def test_examples(opened: AnyBrowser, alone: pathlib.Path, tmp_path: pathlib.Path) -> None:
     """Each says what the program says of the same image, and marks a line of its source where it
     does not exit."""
+    for example in EXAMPLE_ROWS:
+        run_example(opened, alone, tmp_path, example)
+
+
+def run_example(opened: AnyBrowser, alone: pathlib.Path, tmp_path: pathlib.Path,
+                example: sources.Example) -> None:
+    """One of them."""
     opened.value(f"chooseExample({json.dumps(example.name)})")
     opened.wait(DONE)
     name = f"{example.name}.elf"
@@ -100,7 +108,7 @@ def test_examples(opened: AnyBrowser, alone: pathlib.Path, tmp_path: pathlib.Pat
              for name, value in example.options.items()]
     given = ["--input", "input"] if example.input else []
     ran = run([alone, *words, *given, "--json", "printed.json", name], cwd=tmp_path)
-    assert opened.value("document.body.dataset.status") == str(ran.status)
+    assert opened.value("document.body.dataset.status") == str(ran.status), example.name
     assert opened.value("document.getElementById('report-text').textContent") == ran.errors
     cause = json.loads((tmp_path / "printed.json").read_text(encoding="utf-8"))["cause"]
     lost = re.search(r"^mte_run: (lost at the end: [1-9].*)$", ran.errors, re.M)
@@ -130,11 +138,11 @@ def test_a_run_is_stopped(opened: AnyBrowser, tmp_path: pathlib.Path, options: s
     opened.wait("document.body.dataset.status === '129'")
 
 
-def test_the_first_explanation_is_there_soon(made: pathlib.Path, tmp_path: pathlib.Path) -> None:
+def test_the_first_explanation_is_there_soon(whole: pathlib.Path, tmp_path: pathlib.Path) -> None:
     """Within two seconds of the page's start, in the best of three."""
     seconds = []
     for turn in range(3):
-        with Browser(made, tmp_path / f"profile{turn}") as browser:
+        with Browser(whole, tmp_path / f"profile{turn}") as browser:
             browser.wait(DONE)
             seconds.append(browser.value("Number(document.body.dataset.first)") / 1000)
     assert min(seconds) < FIRST_SECONDS * CROWD, seconds
@@ -186,7 +194,7 @@ def script_of(text: str) -> str:
     return text.rsplit("\n<script>", 1)[1].split("</script>")[0]
 
 
-def test_no_network(chromium: Browser, made: pathlib.Path) -> None:
+def test_no_network(chromium: Browser, whole: pathlib.Path) -> None:
     """Opened from disk; nothing but the page itself and what it makes is loaded, and its policy
     names the sums of its scripts."""
     chromium.call("Network.emulateNetworkConditions", offline=True, latency=0,
@@ -197,8 +205,8 @@ def test_no_network(chromium: Browser, made: pathlib.Path) -> None:
     chromium.value("showTab(document.getElementById('tab-heap'))")
     chromium.wait("document.getElementById('frame').srcdoc")
     others = [it for it in chromium.requests() if not it.startswith(("blob:", "about:"))]
-    assert set(others) == {made.as_uri()} and chromium.failures() == []
-    text = made.read_text(encoding="utf-8")
+    assert set(others) == {whole.as_uri()} and chromium.failures() == []
+    text = whole.read_text(encoding="utf-8")
     policy = re.search(r'Content-Security-Policy" content="([^"]*)"', text)
     assert policy and policy[1].startswith("default-src 'none';")
     assert "unsafe-inline" not in policy[1] and "http" not in policy[1]
@@ -220,19 +228,37 @@ def test_links(chromium: Browser) -> None:
     assert "damaged" in chromium.text("missing")
 
 
+def native_session(host: pathlib.Path, folder: pathlib.Path, script: str, frames: str,
+                   contents: Sequence[bytes]) -> str:
+    """The report of the host; script and files stay in a folder, by their numbers."""
+    names = [str(number) for number in range(1, len(contents) + 1)]
+    for name, content in zip(names, contents):
+        (folder / name).write_bytes(content)
+    (folder / "script").write_text(script, encoding="utf-8")
+    return succeed([host, "--frames", frames, "script", *names], cwd=folder).output
+
+
+def session_files(session: sources.Session, folder: pathlib.Path) -> list[bytes]:
+    """Images and input of a session of the page."""
+    rows = {it.name: it for it in EXAMPLE_ROWS}
+    images = [sources.compile_example(rows[image], folder) for image in session.images]
+    return [*images, session.input.encode()]
+
+
 def test_a_session(chromium: Browser, host: pathlib.Path, tmp_path: pathlib.Path) -> None:
-    """Its report is the host's. A tenant that is changed changes no lines of the other."""
+    """Its report is the host's. A tenant that is changed changes no lines of the others, and one
+    gets frames of another."""
     session, = sources.read_sessions()
     chromium.value("openLesson(5)")
     chromium.wait("document.body.dataset.status === 'session'")
-    files = ["script", "1.elf", "2.elf", "input"]
-    rows = {it.name: it for it in EXAMPLE_ROWS}
-    for name, image in zip(files[1:], session.images):
-        (tmp_path / name).write_bytes(sources.compile_example(rows[image], tmp_path))
-    (tmp_path / "input").write_text(session.input, encoding="utf-8")
-    (tmp_path / "script").write_text(session.script, encoding="utf-8")
-    printed = succeed([host, "--frames", "65536", *files], cwd=tmp_path).output
-    assert printed.count("tenant") == 2 and chromium.text("output-text") == printed
+    contents = session_files(session, tmp_path)
+    printed = native_session(host, tmp_path, session.script, session.frames, contents)
+    assert printed.count("tenant") == 3 and chromium.text("output-text") == printed
+    alone = chromium.value("document.getElementById('tenants').textContent")
+    assert alone.count("Run alone it has the same lines.") == 3
+    assert "of tenant 1" in chromium.value("Array.from(document.querySelectorAll("
+                                           "'#host-frames h4')).find(it => /tenant 3/.test("
+                                           "it.textContent)).textContent")
     link = chromium.value("runToText(currentRun())")
     chromium.value(f"(async () => choose(await textToRun('{link}')))()")
     chromium.wait("document.body.dataset.status === 'session'")
@@ -244,43 +270,72 @@ def test_a_session(chromium: Browser, host: pathlib.Path, tmp_path: pathlib.Path
     heads = chromium.value("Array.from(document.querySelectorAll('#tenants section h3')).map("
                            "it => it.textContent)")
     assert heads == ["Tenant 1 - the same lines as in the run before",
-                     "Tenant 2 - other lines than in the run before"]
+                     "Tenant 2 - other lines than in the run before",
+                     "Tenant 3 - the same lines as in the run before"]
+
+
+FRAMES = "170"
+SESSION = """choose({name: 's', image: new Uint8Array(), options: {frames: '%s'}, files: [
+    {name: 'script', role: 'script', bytes: encoder.encode(%s)}, ...%s.map((it, index) =>
+    ({name: String(index + 1), role: 'file', bytes: fromLetters(it)}))]})"""
+CELLS = """(() => {
+    const slider = document.getElementById('event');
+    if (!slider) return [];
+    slider.value = 'EVENT';
+    slider.oninput();
+    return Array.from(document.querySelectorAll('#host-frames .cell'), it =>
+        it.getAttribute('aria-label'));
+})()"""
 
 
 def drawn_script(drawn: random.Random) -> str:
-    """Events of some tenants, of which some are refused."""
+    """Events of some tenants, of which some are refused. Two have room at a time."""
     lines = ["# drawn"]
-    for _ in range(drawn.randint(4, 14)):
-        tenant_id = drawn.randint(1, 4)
+    for _ in range(drawn.randint(8, 20)):
+        tenant_id = drawn.randint(1, 6)
         lines.append(drawn.choice((
             f"admit {tenant_id} image {drawn.randint(1, 3)} input {drawn.choice((0, 3))} seed "
             f"{drawn.getrandbits(64):016x} frames {drawn.choice((2, 20, 40))} out "
             f"{drawn.randint(0, 20)}{drawn.choice(('', ' async'))}",
-            f"slice {tenant_id} {drawn.randint(0, 40)}", f"stop {tenant_id}")))
+            f"slice {tenant_id} {drawn.randint(0, 400)}", f"stop {tenant_id}")))
     return "\n".join(lines) + "\n"
 
 
-def test_drawn_sessions(chromium: Browser, host: pathlib.Path, tmp_path: pathlib.Path) -> None:
-    """Their reports are those of the host, also with refused events."""
+def pages_alone(alone: pathlib.Path, folder: pathlib.Path, tenant_id: str) -> set[int]:
+    """The pages that a tenant of the session has when the script runs it alone."""
+    run([alone, "--script", "script", tenant_id, "--frames", FRAMES, "--json", "run.json", "1", "2",
+         "3"], cwd=folder)
+    return host_frames.pages_of(json.loads((folder / "run.json").read_text(encoding="utf-8")))
+
+
+def test_drawn_sessions(chromium: Browser, host: pathlib.Path, alone: pathlib.Path,
+                        tmp_path: pathlib.Path) -> None:
+    """Their reports are those of the host, also with refused events. Frames hold the pages that
+    tenants have alone; the picture says what the moves of frames say, after any event."""
     drawn, rows = random.Random(5), {it.name: it for it in EXAMPLE_ROWS}
-    images = [sources.compile_example(rows[name], tmp_path) for name in ("echo", "use_after_free")]
+    images = [sources.compile_example(rows[name], tmp_path) for name in ("classes", "lost")]
     contents = [*images, b"some text"]
-    for number, content in enumerate(contents, 1):
-        (tmp_path / str(number)).write_bytes(content)
-    files = [{"name": str(number), "role": "file", "bytes": list(content)}
-             for number, content in enumerate(contents, 1)]
-    session = ("choose({{name: 's', image: new Uint8Array(), options: {{}}, files: [{{name: "
-               "'script', role: 'script', bytes: encoder.encode({})}}, ...{}.map(it => ({{...it, "
-               "bytes: new Uint8Array(it.bytes)}}))]}})")
-    refused = 0
+    letters = json.dumps([playground.letters(it) for it in contents])
+    refused = moved = 0
     for _ in range(8):
         script = drawn_script(drawn)
-        (tmp_path / "script").write_text(script, encoding="utf-8")
-        printed = succeed([host, "--frames", "65536", "script", "1", "2", "3"], cwd=tmp_path).output
-        chromium.value(session.format(json.dumps(script), json.dumps(files)))
+        printed = native_session(host, tmp_path, script, FRAMES, contents)
+        chromium.value(SESSION % (FRAMES, json.dumps(script), letters))
         assert chromium.text("output-text") == printed, script
+        moves = chromium.value("sessionMoves")
+        host_frames.only_own_move(moves, script)
+        held = host_frames.holders(moves, len(script))
+        for tenant_id in {tenant_id for tenant_id, _ in held.values()}:
+            own = {page for other, page in held.values() if other == tenant_id}
+            assert own == pages_alone(alone, tmp_path, tenant_id), (script, tenant_id)
+        event = drawn.randint(0, script.count("\n") - 1)
+        cells = [re.fullmatch(r"Frame (\d+): the page (\w+) .*?of tenant (\d+) since.*", it)
+                 for it in chromium.value(CELLS.replace("EVENT", str(event)))]
+        assert {(int(it[1]), it[3], int(it[2], 16)) for it in cells if it} == \
+            host_frames.drawn_cells(host_frames.holders(moves, event)), (script, event)
         refused += printed.count("refused")
-    assert refused > 10
+        moved += len({move["frame"] for move in moves if not move["comes"]})
+    assert refused > 10 and moved > 10
 
 
 def test_lessons(chromium: Browser) -> None:
@@ -313,12 +368,13 @@ def test_tags_are_explained(chromium: Browser, tmp_path: pathlib.Path) -> None:
         assert heap.failures() == []
 
 
-def test_a_page_with_a_run(made: pathlib.Path, alone: pathlib.Path, tmp_path: pathlib.Path) -> None:
+def test_a_page_with_a_run(whole: pathlib.Path, alone: pathlib.Path,
+                           tmp_path: pathlib.Path) -> None:
     """The text of a run that the tool writes is one that the page reads."""
     image = (IMAGES / "sums.clang-O2.elf").read_bytes()
     run_text = archive.run_text("sums.elf", image, b"1 2 3\n", {"exact": "all", "leaks": True}, [])
     path = tmp_path / "with.html"
-    path.write_text(html_page.with_run(made.read_text(encoding="utf-8"), run_text),
+    path.write_text(html_page.with_run(whole.read_text(encoding="utf-8"), run_text),
                     encoding="utf-8")
     (tmp_path / "input").write_bytes(b"1 2 3\n")
     (tmp_path / "sums.elf").write_bytes(image)
@@ -330,7 +386,7 @@ def test_a_page_with_a_run(made: pathlib.Path, alone: pathlib.Path, tmp_path: pa
         assert browser.text("chosen") == "--exact=all --leaks"
 
 
-def test_the_command(made: pathlib.Path, tmp_path: pathlib.Path) -> None:
+def test_the_command(whole: pathlib.Path, tmp_path: pathlib.Path) -> None:
     """It writes that page with the run, and says which option it does not know."""
     if places.BUILT is not None:
         give_up("the page was built elsewhere: tools/wasm.sh would build it once more")
@@ -341,7 +397,7 @@ def test_the_command(made: pathlib.Path, tmp_path: pathlib.Path) -> None:
     want = archive.run_text(image.name, image.read_bytes(), b"", {"exact": "all"},
                             [(source.name, source.read_bytes())])
     assert out.read_text(encoding="utf-8") == html_page.with_run(
-        made.read_text(encoding="utf-8"), want)
+        whole.read_text(encoding="utf-8"), want)
     wrong: list[list[Word]] = [
         [], ["--with", image, "-", out, "--", "more.elf"], ["--with", image],
         ["--with", tmp_path / "none.elf", "-", out]]
@@ -351,20 +407,21 @@ def test_the_command(made: pathlib.Path, tmp_path: pathlib.Path) -> None:
         assert "Traceback" not in ran.errors
 
 
-def test_an_input_of_bytes(made: pathlib.Path, alone: pathlib.Path, tmp_path: pathlib.Path) -> None:
+def test_an_input_of_bytes(whole: pathlib.Path, alone: pathlib.Path,
+                           tmp_path: pathlib.Path) -> None:
     """It is read as it is, also where a field of text would change it."""
     given = bytes(range(256)) + b"\r\n\0"
     echo = tenant(tmp_path, EXAMPLES / "c" / "echo.c")
     text = archive.run_text("echo.elf", echo.read_bytes(), given, {}, [])
     path = tmp_path / "bytes.html"
-    path.write_text(html_page.with_run(made.read_text(encoding="utf-8"), text), encoding="utf-8")
+    path.write_text(html_page.with_run(whole.read_text(encoding="utf-8"), text), encoding="utf-8")
     (tmp_path / "input").write_bytes(given)
     assert run([alone, "--input", tmp_path / "input", echo]).out == given
     with Browser(path, tmp_path / "profile") as browser:
         browser.wait(DONE)
-        whole = browser.value("(async () => { const end = await startRun(requestOf([]), () => {}); "
-                              "return toLetters(end.texts[1].parts[0]); })()")
-        assert archive.from_letters(whole) == given
+        text = browser.value("(async () => { const end = await startRun(requestOf([]), () => {}); "
+                             "return toLetters(end.texts[1].parts[0]); })()")
+        assert archive.from_letters(text) == given
 
 
 # As tenant-cc has it, of a program that does nothing.
@@ -431,10 +488,10 @@ def test_options_of_a_command_line() -> None:
         command.options_of(["--leaks", "--exact=all", "file.elf"])
 
 
-def test_a_browser_without_wide_memories(made: pathlib.Path, tmp_path: pathlib.Path) -> None:
+def test_a_browser_without_wide_memories(whole: pathlib.Path, tmp_path: pathlib.Path) -> None:
     """It says so in a sentence."""
     path = tmp_path / "old.html"
-    text = made.read_text(encoding="utf-8")
+    text = whole.read_text(encoding="utf-8")
     old = text.replace("WebAssembly.validate(new", "!WebAssembly.validate(new")
     one, other = (html_page.sum_of(script_of(it)) for it in (text, old))
     path.write_text(old.replace(one, other), encoding="utf-8")
@@ -524,15 +581,15 @@ def test_options_are_those_of_the_program(alone: pathlib.Path) -> None:
     assert {*named, *table.elsewhere()} == there - {"help", "help-all", "version"}
 
 
-def test_sizes_and_sums(made: pathlib.Path) -> None:
+def test_sizes_and_sums(whole: pathlib.Path) -> None:
     """Packed it is at most 900 KB; what is inside is the same each time."""
-    text = made.read_bytes()
+    text = whole.read_bytes()
     assert len(gzip.compress(text, 9, mtime=0)) <= MOST_PACKED
     kept = re.search(r'id="archive">([^<]*)<', text.decode())
     assert kept
     _, parts = archive.split(gzip.decompress(archive.from_letters(kept[1])))
-    module = dict(parts)["module.wasm"]
-    assert html_page.make_page(module, b'"no-proof" hidden' in text) == text.decode()
+    module, session = (dict(parts)[name] for name in ("module.wasm", "session.wasm"))
+    assert html_page.make_page(module, session, b'"no-proof" hidden' in text) == text.decode()
 
 
 def test_laws_of_the_lessons() -> None:

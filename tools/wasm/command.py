@@ -25,31 +25,35 @@ def say(text: str) -> None:
 
 
 def sum_of_sources() -> str:
-    """The sum of what the object is made of: crates, toolchain, and what lowers and compiles."""
+    """The sum of what objects are made of: crates, toolchain, and what lowers and compiles."""
     script = 'source "$1/tools/sources.sh" && sum_of_sources "$1"'
     ran = subprocess.run(["bash", "-c", script, "bash", str(ROOT)], check=True,
                          stdout=subprocess.PIPE, text=True)
     held = hashlib.sha256(ran.stdout.encode() + str(mark.toolchain()).encode())
     tools = ROOT / "tools"
-    for name in ("unproved.py", "unchecked.py", "wasm/lowered.py", "wasm/module.py"):
-        held.update((tools / name).read_bytes())
+    own = sorted((tools / "wasm" / lowered.SESSION).rglob("*.rt"))
+    made_by = [tools / it for it in ("unproved.py", "unchecked.py", "wasm/lowered.py",
+                                     "wasm/module.py")]
+    for path in (*made_by, *own):
+        held.update(path.read_bytes())
     return held.hexdigest()[:32]
 
 
-def kept_object(is_proved: bool) -> pathlib.Path:
-    """The object of these sources, which stays where it was made once: it takes minutes."""
+def kept_object(name: str, is_proved: bool) -> pathlib.Path:
+    """The object of a program of these sources, which stays where it was made once: it takes
+    minutes."""
     kind = "proved" if is_proved else "unproved"
-    kept = KEPT / f"{sum_of_sources()}.{kind}.o"
+    kept = KEPT / f"{name}.{sum_of_sources()}.{kind}.o"
     if kept.exists():
         return kept
     KEPT.mkdir(parents=True, exist_ok=True)
-    for old in KEPT.glob("*.o"):
+    for old in KEPT.glob(f"{name}.*"):
         old.unlink()
     with tempfile.TemporaryDirectory(prefix="wasm-") as folder:
         work = pathlib.Path(folder)
-        say(f"1 of 3, the LLVM module of {lowered.PROGRAM}, {kind}")
-        text = lowered.lower(ROOT, work, is_proved=is_proved)
-        say("2 of 3, WebAssembly")
+        say(f"the LLVM module of {name}, {kind}")
+        text = lowered.lower(ROOT, work, name, is_proved=is_proved)
+        say(f"{name} as WebAssembly")
         part = kept.with_suffix(".part")
         module.compile_module(text, part, work)
         os.replace(part, kept)
@@ -66,13 +70,19 @@ def marked(content: bytes, is_proved: bool) -> bytes:
     return content.replace(empty, mark.text_of(values))
 
 
-def make_page(is_proved: bool) -> tuple[bytes, str]:
-    """Module and page of this checkout."""
-    compiled = kept_object(is_proved)
-    say("3 of 3, the page")
+def linked(name: str, is_proved: bool) -> bytes:
+    """The module of a program."""
+    compiled = kept_object(name, is_proved)
     with tempfile.TemporaryDirectory(prefix="wasm-") as folder:
-        content = marked(module.link(compiled, pathlib.Path(folder)), is_proved)
-    return content, page.make_page(content, is_proved)
+        return module.link(compiled, pathlib.Path(folder))
+
+
+def make_page(is_proved: bool) -> tuple[bytes, str]:
+    """The module of mte_run, and the page of this checkout."""
+    content = marked(linked(lowered.PROGRAM, is_proved), is_proved)
+    session = linked(lowered.SESSION, is_proved)
+    say("the page")
+    return content, page.make_page(content, session, is_proved)
 
 
 def options_of(words: Sequence[str]) -> archive.Options:

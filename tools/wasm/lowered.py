@@ -1,15 +1,19 @@
-"""The LLVM module of mte_run, as text, for x86-64: of a proved build where there is one, else of
-one without proof."""
+"""The LLVM modules of the page's programs, as text, for x86-64: of a proved build where there is
+one, else of one without proof."""
 
 import os
 import pathlib
 import re
+import shutil
 import subprocess
 import sys
 
 import unproved
 
-PROGRAM = "mte_run"
+PROGRAM, SESSION = "mte_run", "session_frames"
+# What the page has beside mte_run is no crate of the gate: it is proved where a page is made.
+OWN = {SESSION: ["common", "mte_sched", "mte_session", "mte_program"]}
+HERE = pathlib.Path(__file__).resolve().parent
 X86 = "x86_64-unknown-linux-gnu"
 # In place of clang: keeps the module that it is asked to compile, and stops.
 KEEPER = """#!/bin/sh
@@ -35,12 +39,19 @@ def is_proved(checkout: pathlib.Path) -> bool:
     return not has_mark and is_current(checkout, program)
 
 
-def dependencies(checkout: pathlib.Path) -> list[str]:
-    """The crates that the program names, and those that each crate has."""
+def dependencies(checkout: pathlib.Path, name: str) -> list[str]:
+    """The crates that a program names, and those that each crate has."""
+    if name in OWN:
+        return ["core", "std", *OWN[name]]
     text = (checkout / "crates.txt").read_text(encoding="utf-8")
-    found = re.search(rf"^{PROGRAM}: *(.*)$", text, re.M)
-    assert found, PROGRAM
+    found = re.search(rf"^{name}: *(.*)$", text, re.M)
+    assert found, name
     return ["core", "std", *found[1].split()]
+
+
+def folder_of(checkout: pathlib.Path, name: str) -> pathlib.Path:
+    """Where a program is written."""
+    return HERE / name if name in OWN else checkout / "crates" / name
 
 
 def library(checkout: pathlib.Path, kit: pathlib.Path, crate: str) -> pathlib.Path:
@@ -49,24 +60,25 @@ def library(checkout: pathlib.Path, kit: pathlib.Path, crate: str) -> pathlib.Pa
     return own if own.is_dir() else kit / "rlibs" / f"{crate}.rlib"
 
 
-def build_words(checkout: pathlib.Path, kit: pathlib.Path, work: pathlib.Path) -> list[str]:
-    """The command that proves the program over proved libraries and compiles it."""
-    words = ["rattle", "build", "--crate-name", PROGRAM, "src/main.rt", "-L",
+def build_words(checkout: pathlib.Path, kit: pathlib.Path, work: pathlib.Path,
+                name: str) -> list[str]:
+    """The command that proves a program over proved libraries and compiles it."""
+    words = ["rattle", "build", "--crate-name", name, "src/main.rt", "-L",
              f"dependency={kit}/rlibs"]
-    for crate in dependencies(checkout):
+    for crate in dependencies(checkout, name):
         words += ["--extern", f"{crate}={library(checkout, kit, crate)}"]
     for folder in sorted((checkout / "crates").glob("*/out/rlib")):
         words += ["-L", f"dependency={folder}"]
     return [
         *words, "--antt-project", f"{kit}/rattle/logic/antt-project.json", "--logic-built",
-        f"{kit}/logic_built", "--jobs", "1", "--links", f"{PROGRAM}=", "--target", X86,
+        f"{kit}/logic_built", "--jobs", "1", "--links", f"{name}=", "--target", X86,
         "--toolchain", f"{work}/toolchain", "--backend", "llvm", "--incremental",
-        f"{work}/incremental", "-o", f"{work}/{PROGRAM}.o"]
+        f"{work}/incremental", "-o", f"{work}/{name}.o"]
 
 
-def lower_proved(checkout: pathlib.Path, work: pathlib.Path) -> pathlib.Path:
-    """The module that the proved program is compiled from: it is proved once more over the
-    proved libraries, and a script in clang's place keeps the module."""
+def lower_proved(checkout: pathlib.Path, work: pathlib.Path, name: str) -> pathlib.Path:
+    """The module that a proved program is compiled from: it is proved over the proved libraries,
+    and a script in clang's place keeps the module."""
     kit, kept = unproved.find_kit(), work / "module.bc"
     clang = kit / "toolchain/bin/clang"
     (work / "incremental").mkdir()
@@ -76,19 +88,34 @@ def lower_proved(checkout: pathlib.Path, work: pathlib.Path) -> pathlib.Path:
                            KEEPER.format(module=kept, clang=clang))
     path = f"{kit}/bin:{os.environ['PATH']}"
     ran = subprocess.run(
-        build_words(checkout, kit, work), cwd=checkout / "crates" / PROGRAM, text=True,
+        build_words(checkout, kit, work, name), cwd=folder_of(checkout, name), text=True,
         stdout=subprocess.PIPE, stderr=subprocess.STDOUT, check=False,
         env={**os.environ, "PATH": path})
     if not kept.exists():
-        sys.exit(f"{ran.stdout[-4000:]}\nwasm.sh: {PROGRAM} was not lowered")
+        sys.exit(f"{ran.stdout[-4000:]}\nwasm.sh: {name} was not lowered")
     text = work / "clean.ll"
     subprocess.run([clang, *unproved.TARGET, "-S", "-emit-llvm", "-Xclang",
                     "-disable-llvm-passes", "-x", "ir", kept, "-o", text], check=True)
     return text
 
 
-def lower(checkout: pathlib.Path, work: pathlib.Path, *, is_proved: bool) -> pathlib.Path:
-    """The module of a checkout."""
+def with_own(checkout: pathlib.Path, work: pathlib.Path, name: str) -> pathlib.Path:
+    """A copy of the crates with one of the page's own beside them: `rt try` lowers it there."""
+    root = work / "checkout"
+    shutil.copytree(checkout / "crates", root / "crates", symlinks=True,
+                    ignore=shutil.ignore_patterns("out", "must-fail", "proofs"))
+    shutil.copytree(folder_of(checkout, name), root / "crates" / name)
+    shutil.copy(checkout / "HANDLES", root)
+    listed = (checkout / "crates.txt").read_text(encoding="utf-8")
+    (root / "crates.txt").write_text(f"{listed}\n{name}: {' '.join(OWN[name])}\n",
+                                     encoding="utf-8")
+    return root
+
+
+def lower(checkout: pathlib.Path, work: pathlib.Path, name: str, *,
+          is_proved: bool) -> pathlib.Path:
+    """The module of a program of a checkout."""
     if is_proved:
-        return lower_proved(checkout, work)
-    return unproved.make_module(checkout, PROGRAM, work)
+        return lower_proved(checkout, work, name)
+    root = with_own(checkout, work, name) if name in OWN else checkout
+    return unproved.make_module(root, name, work)

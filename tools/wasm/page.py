@@ -14,8 +14,8 @@ from wasm import archive, sources, table
 HERE = pathlib.Path(__file__).resolve().parent
 PAGE = HERE / "page"
 FRAME = sources.ROOT / "crates/report_documents/src/heap_page/frame.rt"
-SCRIPTS = ("base", "options", "report", "runs", "share", "given", "main", "session", "lessons",
-           "begin")
+SCRIPTS = ("base", "options", "report", "runs", "share", "given", "main", "frames", "session",
+           "lessons", "begin")
 RUN_MARK = '<script type="text/plain" id="run">'
 
 
@@ -54,9 +54,9 @@ def option_table(hover: str) -> str:
     return text.replace("<", "\\u003c")
 
 
-def make_archive(module: bytes) -> bytes:
-    """Module and examples."""
-    parts = [("module.wasm", module)]
+def make_archive(module: bytes, session: bytes) -> bytes:
+    """Modules and examples."""
+    parts = [("module.wasm", module), ("session.wasm", session)]
     rows: list[dict[str, object]] = []
     texts = {"tenant.h": sources.HEADER, "start.c": sources.START}
     for example in sources.read_examples():
@@ -72,11 +72,11 @@ def make_archive(module: bytes) -> bytes:
     return archive.join({"examples": rows, "sessions": sessions}, parts)
 
 
-def make_page(module: bytes, is_proved: bool) -> str:
+def make_page(module: bytes, session: bytes, is_proved: bool) -> str:
     """The page, without a run inside."""
     style, hover = text_of("style.css"), text_of("hover.js")
     script = "".join(text_of(f"{name}.js") for name in SCRIPTS)
-    kept = archive.letters(archive.pack(make_archive(module)))
+    kept = archive.letters(archive.pack(make_archive(module, session)))
     proof = "proof" if is_proved else "no-proof"
     help_text = text_of("help.html").replace(f'data-of="{proof}" hidden', f'data-of="{proof}"')
     values = {

@@ -48,6 +48,7 @@ class Session:
     title: str
     about: str
     script: str
+    frames: str
     images: list[str]
     input: str
     sources: list[str]

@@ -1,6 +1,6 @@
 'use strict';
-// In a worker: runs mte_run's module once. A request has words of the command line, files by their
-// names, and the names of files to give back.
+// In a worker: runs a module once. A request has words of the command line, files by their names,
+// and the names of files to give back.
 
 const POST_MILLISECONDS = 60, POST_BYTES = 1 << 20;
 const encoder = new TextEncoder();
@@ -47,7 +47,7 @@ function prepare(module, request, write, slice) {
   const bytesAt = (at, count) => new Uint8Array(program.memory.buffer, Number(at), Number(count));
   const page = {write: (stream, at, count) => write(stream, bytesAt(at, count).slice()), slice};
   program = new WebAssembly.Instance(module, {page}).exports;
-  for (const word of ['mte_run', ...request.words]) {
+  for (const word of [request.program || 'mte_run', ...request.words]) {
     const isTaken = program.page_word(lendText(program, word));
     if (!isTaken) throw new RangeError('there are too many words');
   }

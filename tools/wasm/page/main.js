@@ -25,7 +25,7 @@ function typedInput() {
 // What is chosen now, as a link or a saved page keeps it.
 function currentRun() {
   return {name: subject.name, image: subject.image, input: typedInput(), files: subject.files,
-    options: chosenOptions(), words: typedWords()};
+    options: {...chosenOptions(), ...chosenFrames()}, words: typedWords()};
 }
 
 const typedWords = () => find('words').value.split('\n').filter(word => word);
@@ -103,7 +103,9 @@ function clearResult() {
   find('ended').textContent = '';
   find('cause').textContent = '';
   find('verdict').className = '';
-  for (const id of ['stacks', 'source', 'tags', 'made-list', 'tenants']) find(id).replaceChildren();
+  for (const id of ['stacks', 'source', 'tags', 'made-list', 'tenants', 'host-frames']) {
+    find(id).replaceChildren();
+  }
   find('report-text').textContent = find('output-text').textContent = '';
   find('heap-state').textContent = '';
   find('frame').hidden = true;
@@ -251,6 +253,7 @@ function choose(run) {
   find('words').value = (run.words || []).join('\n');
   find('words-row').hidden = readImage(run.image) === null;
   chooseOptions(run.options || {});
+  find('frames').value = (run.options || {}).frames || MOST_FRAMES;
   find('shared').hidden = true;
   showFiles();
   showScript();
@@ -282,7 +285,8 @@ function chooseSession(name) {
   for (const path of it.sources) {
     files.push({name: path, role: 'source', bytes: archive.get('sources/' + path)});
   }
-  return choose({name: 'session', image: new Uint8Array(), files, options: {}});
+  return choose({name: 'session', image: new Uint8Array(), files,
+    options: {frames: it.frames}});
 }
 
 // Files of a session are numbered by the order of their names.

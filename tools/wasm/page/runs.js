@@ -1,8 +1,8 @@
 
-// Runs of the module, each in a worker, which may be stopped at any time.
+// Runs of the modules, each in a worker, which may be stopped at any time.
 
 const MOST_SHOWN = 500_000, MOST_WRITTEN = 1 << 28;
-let module = null, workerPlace = '', current = null;
+let module = null, sessionModule = null, workerPlace = '', current = null;
 
 // A worker that is there before it is needed.
 let spare = null;
@@ -63,7 +63,7 @@ function startRun(request, show) {
       } else if (data.kind === 'failed') end({failed: data.text, texts});
       else end({status: data.status, made: data.made, memory: data.memory, texts});
     };
-    worker.postMessage({module, request});
+    worker.postMessage({module: request.program ? sessionModule : module, request});
   });
 }
 

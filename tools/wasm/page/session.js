@@ -1,30 +1,41 @@
 
-// A session of several tenants: its script, which may be edited, and of each tenant its lines of
-// the report, its turns and its pages. Each is run alone by the script, which gives its lines.
+// A session of several tenants: its script, which may be edited; its report and frames as the host
+// says them; and of each tenant why it ended. For that each is run alone by the script, which gives
+// its lines of the report once more.
 
 const ALONE = ['seed', 'seeds', 'async', 'steps', 'slices', 'pages', 'out'];
-const FRAMES = '65536', MOST_PAGES = 96, MOST_TURNS = 60;
-let linesBefore = new Map(), sessionRuns = new Map();
+const MOST_FRAMES = '65536', MOST_TURNS = 60;
+let linesBefore = new Map(), sessionRuns = new Map(), sessionMoves = [];
 
 const scriptOf = () => subject.files.find(file => file.role === 'script');
 const looksLikeScript = bytes =>
   /^(\s*#.*\n|\s*\n)*admit \d/.test(decoder.decode(bytes.subarray(0, 4000)));
+const chosenFrames = () => scriptOf() ? {frames: find('frames').value.trim()} : {};
 
 // The events of a script, each with its words, and the identifiers that they name.
 const eventsOf = text => text.split('\n').filter(line => /^(admit|slice|stop) /.test(line)).map(
   line => line.split(' '));
 const namedIn = events => [...new Set(events.map(it => it[1]))].filter(it => /^\d{1,9}$/.test(it));
 
-// Words and files of the run of one tenant of the session.
-function sessionRequest(id, made) {
-  const chosen = chosenOptions(), words = ['--script', 'the-script', id, '--frames', FRAMES];
-  for (const name of ALONE) delete chosen[name];
+// The files of the session, with names of their own.
+function sessionFiles() {
   const files = [['the-script', encoder.encode(find('script').value)]];
-  subject.files.filter(file => file.role === 'file').forEach((file, index) => {
-    const name = (index + 1) + '-' + plainName(file.name);
-    files.push([name, file.bytes]);
-    words.push(name);
-  });
+  subject.files.filter(file => file.role === 'file').forEach((file, index) =>
+    files.push([(index + 1) + '-' + plainName(file.name), file.bytes]));
+  return files;
+}
+
+// What runs the session, and one of its tenants alone.
+function wholeRequest() {
+  const files = sessionFiles(), names = files.map(([name]) => name);
+  return {program: 'session_frames', words: [find('frames').value.trim(), ...names], files,
+    made: []};
+}
+function sessionRequest(id, made) {
+  const chosen = chosenOptions(), files = sessionFiles();
+  for (const name of ALONE) delete chosen[name];
+  const words = ['--script', 'the-script', id, '--frames', find('frames').value.trim(),
+    ...files.slice(1).map(([name]) => name)];
   for (const name of made) words.push('--' + name, 'run.' + name);
   return {words: [...words, ...wordsOf(chosen)], files, made: made.map(name => 'run.' + name)};
 }
@@ -34,16 +45,16 @@ async function startSession() {
   const ids = namedIn(events);
   scriptOf().bytes = encoder.encode(script);
   if (!ids.length) return showState('The script has no event');
+  sessionModule ||= await WebAssembly.compile(archive.get('session.wasm'));
+  const whole = (await timedRun(wholeRequest(), () => {})).end;
+  if (whole === null) return showStop();
   for (const id of ids) {
     const {end} = await timedRun(sessionRequest(id, ['json']), () => {});
     if (end === null) return showStop();
     ends.set(id, end);
   }
   sessionRuns = ends;
-  const order = inOrder(ids, events, ends), ran = order.filter(hasRun);
-  showState('Tenants that ran: ' + ran.length);
-  showSession(events, order);
-  showTenant(ran.find(id => ends.get(id).status > 128) || ran[0] || ids[0]);
+  showSession(events, ids, whole);
   document.body.dataset.first ||= performance.now();
   document.body.dataset.status = 'session';
   return undefined;
@@ -54,50 +65,44 @@ const reportOf = end => decoder.decode(new Uint8Array(
 
 const hasRun = id => Boolean(sessionRuns.get(id).made && sessionRuns.get(id).made['run.json']);
 const isRefused = line => line.startsWith('refused ');
-const eventOf = line => Number(line.split(' ')[1]);
+// The lines of a report, without those of refused events.
+const linesOf = report => report.split('\n').filter(line => !isRefused(line)).join('\n');
 
-// The tenants in the order of their admissions; an event that is refused is none.
-function inOrder(ids, events, ends) {
-  const place = id => {
-    const lines = reportOf(ends.get(id)).split('\n').filter(isRefused);
-    const refused = new Set(lines.map(eventOf));
-    const at = events.findIndex((it, index) =>
-      it[0] === 'admit' && it[1] === id && !refused.has(index + 1));
-    return at < 0 ? events.length : at;
-  };
-  return [...ids].sort((one, other) => place(one) - place(other));
+// The tenants of a report, in the order of their admissions, each with its lines.
+function tenantsIn(report) {
+  const parts = linesOf(report).split(/^(?=tenant )/m).filter(it => it);
+  return new Map(parts.map(lines => [/^tenant (\d+)/.exec(lines)[1], lines]));
 }
 
-// The report of the session: the refused lines come first, in the order of their events.
-function wholeReport(order) {
-  const texts = order.map(id => reportOf(sessionRuns.get(id)).split('\n'));
-  const refused = texts.flat().filter(isRefused);
-  refused.sort((one, other) => eventOf(one) - eventOf(other));
-  const others = texts.map(lines => lines.filter(line => !isRefused(line)).join('\n'));
-  return [...refused.map(line => line + '\n'), ...others].join('');
-}
-
-function showSession(events, order) {
-  const area = find('tenants');
+function showSession(events, ids, whole) {
+  const area = find('tenants'), report = reportOf(whole), lines = tenantsIn(report);
+  sessionMoves = movesOf(whole.texts[2].parts.map(part => decoder.decode(part)).join(''));
+  const order = [...lines.keys(), ...ids.filter(id => !lines.has(id))];
   area.replaceChildren();
+  showFrames(find('host-frames'), sessionMoves, events, order);
   showTurns(area, events, order);
-  for (const id of order) {
-    const end = sessionRuns.get(id);
-    const part = put(area, 'section', undefined, 'stack'), text = reportOf(end);
-    const same = !linesBefore.has(id) ? '' : linesBefore.get(id) === text
-      ? ' - the same lines as in the run before' : ' - other lines than in the run before';
-    put(part, 'h3', 'Tenant ' + id + same);
-    put(part, 'pre', text || end.texts[2].text);
-    if (hasRun(id)) {
-      showPages(part, JSON.parse(decoder.decode(end.made['run.json'])));
-      putButton(part, 'Why tenant ' + id + ' ended', '', () => {
-        showTenant(id);
-        showTab(find('tab-why'));
-      });
-    }
-  }
-  linesBefore = new Map(order.map(id => [id, reportOf(sessionRuns.get(id))]));
-  find('output-text').textContent = wholeReport(order);
+  for (const id of order) showLines(area, id, lines.get(id) || '');
+  linesBefore = lines;
+  const ran = order.filter(hasRun);
+  find('output-text').textContent = report || shown(whole.failed || whole.texts[2].text);
+  showState('Tenants that ran: ' + ran.length);
+  showTenant(ran.find(id => sessionRuns.get(id).status > 128) || ran[0] || ids[0]);
+}
+
+// The lines of a tenant: whether they are those of the run before, and of it alone.
+function showLines(area, id, lines) {
+  const end = sessionRuns.get(id), part = put(area, 'section', undefined, 'stack');
+  const same = !linesBefore.has(id) ? '' : linesBefore.get(id) === lines
+    ? ' - the same lines as in the run before' : ' - other lines than in the run before';
+  put(part, 'h3', 'Tenant ' + id + same);
+  put(part, 'pre', lines || end.texts[2].text);
+  if (!hasRun(id)) return;
+  put(part, 'p', linesOf(reportOf(end)) === lines ? 'Run alone it has the same lines.'
+    : 'Run alone it has other lines: this should not be, please report it.', 'soft');
+  putButton(part, 'Why tenant ' + id + ' ended', '', () => {
+    showTenant(id);
+    showTab(find('tab-why'));
+  });
 }
 
 // Who has the core when: a row a tenant, a column an event of the script.
@@ -113,21 +118,6 @@ function showTurns(area, events, order) {
       const marks = {admit: 'in', slice: steps, stop: 'out'}, isOwn = of === id;
       const cell = put(line, 'td', isOwn ? marks[kind] : '', isOwn ? 'own ' + kind : '');
       cell.title = shown([kind, of, steps, ...rest].join(' '));
-    }
-  }
-}
-
-const USES = {image: 't1', stack: 't2', heap: 't3'};
-function showPages(part, run) {
-  put(part, 'div', 'Its pages at its end (image, heap, stack), which no other tenant reaches:',
-    'soft');
-  const cells = put(part, 'div', undefined, 'pages');
-  let count = 0;
-  for (const {first, last, attributes, use} of run.pages) {
-    for (let at = BigInt(first); at < BigInt(last) && count < MOST_PAGES; at += 4096n, count++) {
-      const kind = USES[use.split(/[ ,]/)[0]] || 't0';
-      const cell = put(cells, 'span', use.charAt(0), 'cell ' + kind);
-      cell.title = digits(at) + ': ' + shown(use) + ', ' + shown(attributes);
     }
   }
 }

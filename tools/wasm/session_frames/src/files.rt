@@ -1,0 +1,23 @@
+//! Files of the system.
+
+ghost use Rattle.std.specs.Prelude.{None};
+
+use mte_program::{Files, StreamSource};
+use mte_session::{ReadFault, read_whole};
+use std::alloc::Global;
+use std::fs::File;
+
+/// The files of the system.
+#[derive(Drop)]
+pub struct SystemFiles<'a>(pub &'a HostRuntime);
+
+impl<'a> Files for SystemFiles<'a> {
+    ghost log = { λ _. None };
+
+    fn read_file(&mut self, alloc: Global, name: &str) -> Result<Vec<u8>, ReadFault> {
+        let Ok(file) = File::open(self.0, name) else {
+            return Err(ReadFault::Read);
+        };
+        read_whole(alloc, &mut StreamSource(file), 0)
+    }
+}
