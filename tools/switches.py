@@ -157,7 +157,8 @@ def of_call(line: str) -> Iterator[tuple[str, Change]]:
             continue
         kind, value = part.split(" ")
         following = parts[at + 1] if at + 1 < len(parts) else ""
-        if SCALAR.fullmatch(following) and following != part and following.startswith(f"{kind} "):
+        is_like = SCALAR.fullmatch(following) and following.startswith(f"{kind} ")
+        if is_like and following != part:
             yield f"exchanged arguments {at + 1} and {at + 2}", exchanged(head, parts, at)
         if NUMBER.fullmatch(value):
             yield f"another number as argument {at + 1}", other_argument(head, parts, at)

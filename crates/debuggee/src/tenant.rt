@@ -1,6 +1,6 @@
 //! The tenant that is debugged.
 
-ghost use Rattle.std.specs.Prelude.{◌≡◌, ◌<◌, ◌==◌, ◌⊎◌, Some, true, false};
+ghost use Rattle.std.specs.Prelude.{◌≡◌, ◌<◌, ◌==◌, ◌+◌, ◌-◌, ◌⊎◌, Some, min, true, false};
 ghost use Rattle.std.specs.Prelude.{IfOk, IfErr, IsErrOf};
 ghost use Rattle.common.specs.Obstacles.{IfRefused};
 ghost use Rattle.mte_svc.specs.Ready.{IsReady};
@@ -169,7 +169,8 @@ impl<'a> Debuggee<'a> {
     /// How many instructions it has attempted when the slice that goes on or comes next is over, at
     /// the latest.
     pub fn slice_end(&self) -> u64
-        ensures { result ≡ min 18446744073709551615 (steps_of self.now + (cut_of self.now - done_of self.now)) }
+        ensures { result ≡ min 18446744073709551615
+            (steps_of self.now + (cut_of self.now - done_of self.now)) }
     {
         let left = self.cut.saturating_sub(self.done);
         self.parts.history.steps.saturating_add(u64::from(left))
@@ -247,8 +248,8 @@ impl<'a> Debuggee<'a> {
         true
     }
 
-    /// Attempts the whole slice that comes next, as `attempt_slice` does, notes the first watchpoint
-    /// that is met, and shows each instruction.
+    /// Attempts the whole slice that comes next, as `attempt_slice` does; notes the first
+    /// watchpoint that is met, and shows each instruction.
     pub fn attempt_slice_watched<E: Edges>(&mut self, shown: &mut E) -> bool
         ensures answer { result ≡ can_begin self.old }
         ensures stays { result ≡ false → self.new ≡ self.old }
