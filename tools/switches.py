@@ -20,6 +20,7 @@ BRANCH = re.compile(r"^  br i1 (%[\w.]+), (label .*)$")
 SUM = re.compile(r"^  (%[\w.]+) = (add|sub|or|and) (i\d+) ([^ ,]+), ([^ ,]+)$")
 STORE = re.compile(r"^  store (i\d+) (-?\d+), (ptr .*)$")
 CALL = re.compile(r'^  ((?:%[\w.]+ = )?call [^@]*@"[^"]*")\((.*)\)$')
+END = re.compile(r"^  (br|ret|switch) ")
 NUMBER = re.compile(r"-?\d+")
 SCALAR = re.compile(r"i\d+ [^ ,]+")
 RESULT = re.compile(r"^define [^@]*\b(i\d+) @")
@@ -171,7 +172,7 @@ def early_return(lines: Sequence[str]) -> Optional[tuple[int, Change]]:
     """A function that returns 0 once its places are made: the last line that makes one."""
     found = RESULT.match(lines[0])
     places = [at for at, line in enumerate(lines) if " = alloca " in line]
-    ends = [at for at, line in enumerate(lines) if line.startswith(("  br ", "  ret ", "  switch "))]
+    ends = [at for at, line in enumerate(lines) if END.match(line)]
     if not found or not places or not ends or places[-1] >= ends[0]:
         return None
     kind, line = found[1], lines[places[-1]]
