@@ -39,9 +39,9 @@ template <class T, int COUNT> struct Array {
     T &operator[](int index) { return all[index]; }
 };
 
-template <class T> [[gnu::noinline]] static T sum_of(T *from, T *to)
+template <class T> [[gnu::noinline]] static long sum_of(T *from, T *to)
 {
-    T sum = 0;
+    long sum = 0;
     while (from != to)
         sum += *from++;
     return sum;
@@ -107,8 +107,71 @@ static long structures()
     return sum + sum_of(ints.begin(), ints.end()) + sum_of(longs.begin(), longs.end());
 }
 
+// A class whose constructor is elsewhere, so that DWARF may only declare it, and values without
+// names, whose places are later those of arrays.
+struct Elsewhere {
+    long all[12];
+    Elsewhere();
+};
+
+extern "C" [[gnu::noinline]] void _ZN9ElsewhereC1Ev(long *all)
+{
+    for (long number = 0; number < 12; number++)
+        all[number] = number;
+}
+
+struct Large {
+    long all[12];
+    explicit Large(long of)
+    {
+        for (long &number : all)
+            number = of++;
+    }
+    [[gnu::noinline]] long sum() const { return sum_of(all, all + 12); }
+};
+
+[[gnu::noinline]] static long last_of(Large of)
+{
+    return of.all[11];
+}
+
+[[gnu::noinline]] static long length_of(const unsigned char *text)
+{
+    long length = 0;
+    while (text[length])
+        length++;
+    return length;
+}
+
+[[gnu::noinline]] static long written(unsigned char *text, int count)
+{
+    while (count-- > 0)
+        text[count] = count < 14;
+    return length_of(text);
+}
+
+static long places_of_others()
+{
+    long sum = 0;
+    {
+        Elsewhere it;
+        sum += sum_of(it.all, it.all + 12);
+    }
+    if (one) {
+        unsigned char name[15];
+        sum += written(name, 15);
+    }
+    sum += Large(one).sum();
+    for (int times = 0; times < one; times++) {
+        unsigned char text[15];
+        sum += last_of(Large(times));
+        sum += written(text, 15);
+    }
+    return sum;
+}
+
 extern "C" int main()
 {
-    sink = static_cast<int>(named_parts() + members() + structures());
+    sink = static_cast<int>(named_parts() + members() + structures() + places_of_others());
     return 0;
 }

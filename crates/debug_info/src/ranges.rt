@@ -10,15 +10,32 @@ use debug_lines::Reader;
 const BASE: u64 = u64::MAX;
 
 /// The addresses from `start` up to those below `end`.
-#[derive(Clone, Copy)]
+#[derive(Clone, Copy, PartialEq, Eq)]
 pub struct AddressRange {
+    /// The first address.
     pub start: u64,
+    /// The address after the last.
     pub end: u64,
 }
 
 impl AddressRange {
     /// No address.
     const EMPTY: AddressRange = AddressRange { start: 0, end: 0 };
+
+    /// The range from an entry's low address to its high one.
+    pub fn whole<'a>(scope: &Scope<'a>, entry: &Entry<'a>) -> Option<AddressRange> {
+        let start = scope.address(&entry.low)?;
+        let end = match entry.high {
+            AttributeValue::Number(size) => start.wrapping_add(size),
+            _ => scope.address(&entry.high)?,
+        };
+        Some(AddressRange { start, end })
+    }
+
+    /// Whether an address is one of them.
+    pub fn has(&self, address: u64) -> bool {
+        self.start <= address && address < self.end
+    }
 }
 
 /// The ranges of an entry that are not yet read.
@@ -37,7 +54,7 @@ impl<'a> Ranges<'a> {
     /// The ranges of an entry of a unit of version 4 or 5: one, if it has a low and a high address,
     /// or else those of its list.
     pub fn of(scope: &Scope<'a>, version: u16, entry: &Entry<'a>) -> Ranges<'a> {
-        let whole = whole(scope, entry);
+        let whole = AddressRange::whole(scope, entry);
         let list = match whole {
             Some(_) => None,
             None => list(scope, version, &entry.ranges),
@@ -141,16 +158,6 @@ impl<'a> Ranges<'a> {
             end: self.base.wrapping_add(end),
         }
     }
-}
-
-/// The range from an entry's low address to its high one.
-fn whole<'a>(scope: &Scope<'a>, entry: &Entry<'a>) -> Option<AddressRange> {
-    let start = scope.address(&entry.low)?;
-    let end = match entry.high {
-        AttributeValue::Number(size) => start.wrapping_add(size),
-        _ => scope.address(&entry.high)?,
-    };
-    Some(AddressRange { start, end })
 }
 
 /// The list of ranges that a value names.

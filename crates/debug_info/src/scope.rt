@@ -49,13 +49,18 @@ impl<'a> Scope<'a> {
 
     /// The name that a value is: fewer than 80 bytes in front of a 0.
     pub fn name(&self, value: &AttributeValue<'a>) -> Option<&'a [u8]> {
+        self.text(value, LONGEST)
+    }
+
+    /// The text that a value is: fewer than `most` bytes in front of a 0, where it is in a section.
+    pub fn text(&self, value: &AttributeValue<'a>, most: usize) -> Option<&'a [u8]> {
         let sections = &self.sections;
         match value {
             AttributeValue::Text(text) => Some(*text),
-            AttributeValue::InfoText(at) => sections.text(*at, LONGEST),
-            AttributeValue::LineText(at) => sections.line_text(*at, LONGEST),
+            AttributeValue::InfoText(at) => sections.text(*at, most),
+            AttributeValue::LineText(at) => sections.line_text(*at, most),
             AttributeValue::TextAt(number) => {
-                sections.numbered_text(self.text_offsets?, *number, LONGEST)
+                sections.numbered_text(self.text_offsets?, *number, most)
             }
             _ => None,
         }

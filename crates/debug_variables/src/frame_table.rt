@@ -1,5 +1,6 @@
 //! The variables in the frames of functions.
 
+use crate::blocks::{Block, BlockTable};
 use crate::declaration::{Declaration, VariableName};
 use crate::search::VariableSearch;
 use debug_info::DebugSections;
@@ -54,6 +55,9 @@ pub struct PlacedVariable {
     pub start: u64,
     /// The address after its last byte.
     pub end: u64,
+    /// The address up to which an access is not known to be one to another: where a function was
+    /// optimized, the next variable's, since what has no name may share the place.
+    pub limit: u64,
 }
 
 /// A function of an image.
@@ -67,7 +71,7 @@ pub struct FrameFunction {
     pub(crate) base: FrameBase,
     /// Whether its unit was optimized, as far as that shows.
     pub is_optimized: bool,
-    /// The number of its first variable, and how many there are.
+    /// The number of its first slot, and how many there are.
     pub(crate) first: usize,
     pub(crate) count: usize,
 }
@@ -77,6 +81,8 @@ pub struct FrameFunction {
 pub struct FrameVariable {
     /// The function, by its place among those that were found.
     pub(crate) function: usize,
+    /// The block that it is declared in.
+    pub(crate) block: Block,
     /// The base of its place.
     pub(crate) base: FrameBase,
     /// How far its first byte is from that, modulo 2^64.
@@ -100,14 +106,45 @@ impl FrameVariable {
         self.offset.wrapping_add(SIGN)
     }
 
-    /// Whether it is of the function and has the base of another.
-    fn is_beside(&self, other: &FrameVariable) -> bool {
-        self.function == other.function && self.base == other.base
-    }
-
     /// The place after it.
     fn end(&self) -> u64 {
         self.place().saturating_add(self.size)
+    }
+
+    /// Whether it is counted from a base and has the byte at a place.
+    fn has(&self, base: FrameBase, place: u64) -> bool {
+        self.base == base && self.place() <= place && place < self.end()
+    }
+
+    /// It where its base has a value.
+    fn placed(&self, value: u64) -> Option<PlacedVariable> {
+        let start = value.wrapping_add(self.offset);
+        let end = start.checked_add(self.size)?;
+        Some(PlacedVariable {
+            variable: *self,
+            start,
+            end,
+            limit: end,
+        })
+    }
+}
+
+/// Bytes of a frame that variables of one base have: one, or several that share some.
+#[derive(Clone, Copy)]
+struct Slot {
+    /// All of them as one.
+    whole: FrameVariable,
+    /// The number of the first of them, and how many there are.
+    first: usize,
+    count: usize,
+}
+
+impl Slot {
+    /// Whether a variable shares bytes with it that does not begin in front of it.
+    fn shares_with(&self, other: &FrameVariable) -> bool {
+        let whole = &self.whole;
+        let is_beside = other.function == whole.function && other.base == whole.base;
+        is_beside && other.place() < whole.end()
     }
 }
 
@@ -119,7 +156,10 @@ pub struct FrameVariables {
     functions: Vec<FrameFunction>,
     /// Those of one function and one base together, the lowest first; none has a byte of another of
     /// these.
+    slots: Vec<Slot>,
+    /// Those of one slot together, the lowest first.
     variables: Vec<FrameVariable>,
+    blocks: BlockTable,
     /// The lowest first.
     pub(crate) declared: Vec<DeclaredObject>,
 }
@@ -160,8 +200,8 @@ impl Neighbor {
 impl FrameVariables {
     /// Those of a file, by its units of versions 4 and 5 of the 32-bit format: at most 65,536
     /// functions and as many variables. A unit is read up to an entry that can't be read, and
-    /// nothing more is found once so much was read as ten large programs have. Variables that share
-    /// bytes are one. `Err` where there is no memory for them: some 10 MiB at most.
+    /// nothing more is found once so much was read as ten large programs have. `Err` where there is
+    /// no memory for them: some 30 MiB at most.
     pub fn of(alloc: Global, file: &[u8]) -> Result<FrameVariables, AllocError> {
         let mut search = VariableSearch::new(alloc);
         search.search_all(alloc, &DebugSections::of(file))?;
@@ -169,6 +209,7 @@ impl FrameVariables {
             mut functions,
             mut variables,
             mut declared,
+            blocks,
             ..
         } = search;
         variables.as_mut_slice().sort_unstable_by_key(|variable| (
@@ -176,8 +217,8 @@ impl FrameVariables {
             variable.base,
             variable.place(),
         ));
-        let variables = joined(alloc, variables.as_slice())?;
-        count_variables(functions.as_mut_slice(), variables.as_slice());
+        let slots = joined(alloc, variables.as_slice())?;
+        count_slots(functions.as_mut_slice(), slots.as_slice());
         functions
             .as_mut_slice()
             .sort_unstable_by_key(|function| function.low);
@@ -186,7 +227,9 @@ impl FrameVariables {
             .sort_unstable_by_key(|object| object.addr);
         Ok(FrameVariables {
             functions,
+            slots,
             variables,
+            blocks,
             declared,
         })
     }
@@ -205,58 +248,108 @@ impl FrameVariables {
         }
     }
 
-    /// The variable of a function that has the byte at an address, by the values of its bases.
-    /// `None` where two have it, which are counted from different ones.
+    /// The variable of a function that has the byte at an address, by the values of its bases, and
+    /// whose block has the counter; several of which that is so are one. `None` where the address
+    /// is in two slots, which are counted from different bases.
     pub fn variable_at(
         &self,
         function: &FrameFunction,
         bases: &FrameBases,
         addr: u64,
+        pc: u64,
     ) -> Option<PlacedVariable> {
-        let mut found = None;
-        for base in BASES {
-            if let Some(variable) = self.counted_from(function, base, addr, bases) {
-                if found.is_some() {
-                    return None;
-                }
-                found = Some(variable);
-            }
+        let slot = self.one_slot(function, bases, addr)?;
+        let value = bases.of(slot.whole.base);
+        let variable = self.variable_in(&slot, place_of(addr, value), pc)?;
+        let mut placed = variable.placed(value)?;
+        if function.is_optimized {
+            placed.limit = self.next_start(function, bases, addr).max(placed.end);
         }
-        found
+        Some(placed)
+    }
+
+    /// All variables of a function, of any block, that share the bytes with the one at an address,
+    /// as one. `None` as for `variable_at`.
+    pub fn slot_at(
+        &self,
+        function: &FrameFunction,
+        bases: &FrameBases,
+        addr: u64,
+    ) -> Option<PlacedVariable> {
+        let slot = self.one_slot(function, bases, addr)?;
+        slot.whole.placed(bases.of(slot.whole.base))
     }
 
     /// The variables of a function that end at an address.
     pub fn neighbor(&self, function: &FrameFunction, bases: &FrameBases, addr: u64) -> Neighbor {
-        match self.variable_at(function, bases, addr.wrapping_sub(1)) {
+        match self.slot_at(function, bases, addr.wrapping_sub(1)) {
             Some(placed) if placed.end == addr => Neighbor::of(placed.variable.is_single),
             _ => Neighbor::Nothing,
         }
     }
 
-    /// The variable of a function that is counted from a base and has the byte at an address.
-    fn counted_from(
+    /// The slot of a function with the byte at an address, unless two have it.
+    fn one_slot(&self, function: &FrameFunction, bases: &FrameBases, addr: u64) -> Option<Slot> {
+        let mut found = None;
+        for base in BASES {
+            let place = place_of(addr, bases.of(base));
+            let (slots, behind) = self.slots_to(function, base, place)?;
+            let last = behind.checked_sub(1).and_then(|at| slots.get(at));
+            if let Some(slot) = last.filter(|slot| slot.whole.has(base, place)) {
+                if found.is_some() {
+                    return None;
+                }
+                found = Some(*slot);
+            }
+        }
+        found
+    }
+
+    /// The lowest address after one at which a slot of a function begins, or what is saved at the
+    /// frame pointer, if its variables are counted from there.
+    fn next_start(&self, function: &FrameFunction, bases: &FrameBases, addr: u64) -> u64 {
+        let saved = bases.frame_pointer;
+        let has_saved = function.base == FrameBase::FramePointer && addr < saved;
+        let mut next = if has_saved { saved } else { u64::MAX };
+        for base in BASES {
+            let value = bases.of(base);
+            if let Some((slots, behind)) = self.slots_to(function, base, place_of(addr, value)) {
+                if let Some(slot) = slots.get(behind).filter(|slot| slot.whole.base == base) {
+                    next = next.min(value.wrapping_add(slot.whole.offset));
+                }
+            }
+        }
+        next
+    }
+
+    /// The slots of a function, and how many of them are of lower bases, or begin at a place of a
+    /// base or in front of it.
+    fn slots_to(
         &self,
         function: &FrameFunction,
         base: FrameBase,
-        addr: u64,
-        bases: &FrameBases,
-    ) -> Option<PlacedVariable> {
+        place: u64,
+    ) -> Option<(&[Slot], usize)> {
         let end = function.first.saturating_add(function.count);
-        let all = self.variables.get(function.first..end)?;
-        let value = bases.of(base);
-        let place = addr.wrapping_sub(value).wrapping_add(SIGN);
-        let behind = all.partition_point(|variable| (variable.base, variable.place())
+        let slots = self.slots.get(function.first..end)?;
+        let behind = slots.partition_point(|slot| (slot.whole.base, slot.whole.place())
             <= (base, place));
-        let variable = all.get(behind.checked_sub(1)?)?;
-        if variable.base != base || place >= variable.end() {
-            return None;
+        Some((slots, behind))
+    }
+
+    /// The variables of a slot with the byte at a place whose blocks have the counter, as one.
+    fn variable_in(&self, slot: &Slot, place: u64, pc: u64) -> Option<FrameVariable> {
+        let end = slot.first.saturating_add(slot.count);
+        let mut found = None;
+        for variable in self.variables.get(slot.first..end)? {
+            if variable.has(slot.whole.base, place) && self.blocks.has(&variable.block, pc) {
+                found = match found {
+                    Some(first) => Some(union_of(&first, variable)),
+                    None => Some(*variable),
+                };
+            }
         }
-        let start = value.wrapping_add(variable.offset);
-        Some(PlacedVariable {
-            variable: *variable,
-            start,
-            end: start.checked_add(variable.size)?,
-        })
+        found
     }
 
     /// Where the variable of the image at an address is declared, if that is known.
@@ -281,15 +374,26 @@ impl FrameVariables {
     }
 }
 
-/// Variables in order, where those that share bytes are one, which are counted from the same base.
-fn joined(alloc: Global, sorted: &[FrameVariable]) -> Result<Vec<FrameVariable>, AllocError> {
-    let mut all: Vec<FrameVariable> = Vec::with_capacity(alloc, sorted.len())?;
-    for variable in sorted {
+/// The place of an address, counted from a base that has a value.
+fn place_of(addr: u64, value: u64) -> u64 {
+    addr.wrapping_sub(value).wrapping_add(SIGN)
+}
+
+/// The slots of variables in order, which have those that are counted from the same base and share
+/// bytes.
+fn joined(alloc: Global, sorted: &[FrameVariable]) -> Result<Vec<Slot>, AllocError> {
+    let mut all: Vec<Slot> = Vec::with_capacity(alloc, sorted.len())?;
+    for (index, variable) in sorted.iter().enumerate() {
         match all.last_mut() {
-            Some(last) if variable.is_beside(last) && variable.place() < last.end() => {
-                *last = union_of(last, variable);
+            Some(last) if last.shares_with(variable) => {
+                last.whole = union_of(&last.whole, variable);
+                last.count = last.count.saturating_add(1);
             }
-            _ => all.push(*variable)?,
+            _ => all.push(Slot {
+                whole: *variable,
+                first: index,
+                count: 1,
+            })?,
         }
     }
     Ok(all)
@@ -305,6 +409,7 @@ fn union_of(first: &FrameVariable, other: &FrameVariable) -> FrameVariable {
     };
     FrameVariable {
         function: first.function,
+        block: named.block,
         base: first.base,
         offset: first.offset,
         size: end.saturating_sub(first.place()),
@@ -314,10 +419,10 @@ fn union_of(first: &FrameVariable, other: &FrameVariable) -> FrameVariable {
     }
 }
 
-/// Enters in functions which variables are theirs.
-fn count_variables(functions: &mut [FrameFunction], variables: &[FrameVariable]) {
-    for (index, variable) in variables.iter().enumerate() {
-        if let Some(function) = functions.get_mut(variable.function) {
+/// Enters in functions which slots are theirs.
+fn count_slots(functions: &mut [FrameFunction], slots: &[Slot]) {
+    for (index, slot) in slots.iter().enumerate() {
+        if let Some(function) = functions.get_mut(slot.whole.function) {
             if function.count == 0 {
                 function.first = index;
             }

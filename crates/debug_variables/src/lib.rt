@@ -3,8 +3,8 @@
 //! Entries that cannot be read are left out: a file with wrong entries has fewer variables.
 #![tactic(auto)]
 
+mod blocks;
 mod declaration;
-mod entry;
 mod frame_table;
 mod object_table;
 mod search;

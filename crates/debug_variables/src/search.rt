@@ -1,12 +1,12 @@
 //! The search for variables through `.debug_info`.
 
+use crate::blocks::{Block, BlockTable};
 use crate::declaration::{Declaration, VariableName};
-use crate::entry::VariableEntry;
 use crate::frame_table::{DeclaredObject, FrameBase, FrameFunction, FrameVariable};
 use crate::types::{TypeSize, UnitTypes};
 use debug_info::{
-    Abbreviation, Abbreviations, AttributeValue, Budget, CompilationUnit, DebugSections, UnitBytes,
-    number,
+    Abbreviation, Abbreviations, AddressRange, AttributeValue, Budget, CompilationUnit,
+    DebugSections, Entry, Ranges, Scope, UnitBytes, number,
 };
 use debug_lines::Reader;
 use std::alloc::{AllocError, Global};
@@ -14,7 +14,7 @@ use std::alloc::{AllocError, Global};
 /// The most functions, the most variables of frames, and the most of the image, that are found.
 const MOST: usize = 65_536;
 
-/// How many functions may be in one another.
+/// How many functions and blocks may be in one another.
 const DEEPEST: usize = 64;
 
 /// The most bytes of a text that is looked at, with the 0 after it.
@@ -27,6 +27,11 @@ const VARIABLE: u64 = 0x34;
 
 /// DW_TAG_subprogram.
 const FUNCTION: u64 = 0x2E;
+
+/// DW_TAG_lexical_block and DW_TAG_inlined_subroutine.
+const BLOCK: u64 = 0x0B;
+
+const INLINED: u64 = 0x1D;
 
 /// DW_TAG_call_site and DW_TAG_GNU_call_site, which compilers write where they optimize.
 const CALL: u64 = 0x48;
@@ -51,21 +56,29 @@ const REGISTER_29: u8 = 0x6D;
 
 const REGISTER_31: u8 = 0x6F;
 
-/// A function whose entries are being read.
+/// A function, a block or an inlined call whose entries are being read.
 #[derive(Clone, Copy)]
-struct OpenFunction {
+struct OpenEntry {
     /// How many entries it is in.
     depth: u64,
-    /// Its place among those that were found, if it has a frame of its own.
-    place: Option<usize>,
+    /// Where its variables are, if its function has a frame and its addresses are known.
+    of: Option<BlockOfFunction>,
 }
 
-/// A unit, its first entry and its types.
+/// A block of a function, by the function's place among those that were found.
 #[derive(Clone, Copy)]
-struct UnitScope<'t, 's, 'a> {
-    sections: &'s DebugSections<'a>,
-    first: VariableEntry<'a>,
+struct BlockOfFunction {
+    function: usize,
+    block: Block,
+}
+
+/// A unit, what its values mean, and its types.
+#[derive(Clone, Copy)]
+struct UnitScope<'t, 'a> {
+    scope: Scope<'a>,
     types: UnitTypes<'t, 'a>,
+    /// Where its lines are in `.debug_line`.
+    lines: Option<u64>,
     /// Whether gcc wrote it, which says of a function without calls that all have entries.
     is_of_gcc: bool,
 }
@@ -77,8 +90,9 @@ pub struct VariableSearch {
     pub functions: Vec<FrameFunction>,
     pub variables: Vec<FrameVariable>,
     pub declared: Vec<DeclaredObject>,
-    /// The functions around the entry that is read, the outermost first.
-    open: Vec<OpenFunction>,
+    pub blocks: BlockTable,
+    /// The functions and blocks around the entry that is read, the outermost first.
+    open: Vec<OpenEntry>,
     /// Whether something says that the unit was optimized.
     is_optimized: bool,
 }
@@ -91,6 +105,7 @@ impl VariableSearch {
             functions: Vec::new(alloc),
             variables: Vec::new(alloc),
             declared: Vec::new(alloc),
+            blocks: BlockTable::new(alloc),
             open: Vec::new(alloc),
             is_optimized: false,
         }
@@ -135,15 +150,15 @@ impl VariableSearch {
         self.open.clear();
         let mut entries = unit.entries;
         if let Some(first) = self.first_entry(table, &mut entries) {
-            let mut scope = UnitScope {
-                sections,
-                first,
-                types: UnitTypes { unit: *unit, table },
-                is_of_gcc: false,
-            };
-            let producer = scope.text(&first.producer).unwrap_or(&[]);
-            scope.is_of_gcc = producer.starts_with(b"GNU ");
+            let scope = Scope::of(sections, &first);
+            let producer = scope.text(&first.producer, LONGEST).unwrap_or(&[]);
             self.is_optimized = has_level(producer);
+            let scope = UnitScope {
+                scope,
+                types: UnitTypes { unit: *unit, table },
+                lines: first.lines.offset(),
+                is_of_gcc: producer.starts_with(b"GNU "),
+            };
             self.search_entries(&scope, entries)?;
         }
         let is_optimized = self.is_optimized;
@@ -163,9 +178,9 @@ impl VariableSearch {
         &mut self,
         table: &Abbreviations<'a>,
         entries: &mut Reader<'a>,
-    ) -> Option<VariableEntry<'a>> {
+    ) -> Option<Entry<'a>> {
         let abbreviation = table.of(number(entries)?)?;
-        let entry = VariableEntry::read(&abbreviation, entries, &mut self.budget)?;
+        let entry = Entry::read(&abbreviation, entries, &mut self.budget)?;
         if abbreviation.has_children {
             Some(entry)
         } else {
@@ -176,7 +191,7 @@ impl VariableSearch {
     /// Goes through the entries in the first one. It ends where one can't be read.
     fn search_entries<'a>(
         &mut self,
-        scope: &UnitScope<'_, '_, 'a>,
+        scope: &UnitScope<'_, 'a>,
         mut entries: Reader<'a>,
     ) -> Result<(), AllocError> {
         let mut depth: u64 = 1;
@@ -192,8 +207,7 @@ impl VariableSearch {
                 self.close(depth);
                 continue;
             };
-            let Some(entry) = VariableEntry::read(&abbreviation, &mut entries, &mut self.budget)
-            else {
+            let Some(entry) = Entry::read(&abbreviation, &mut entries, &mut self.budget) else {
                 return Ok(());
             };
             self.enter(scope, &abbreviation, &entry, depth)?;
@@ -207,7 +221,7 @@ impl VariableSearch {
     /// The next entry; nothing inside where it is the end of those of one entry.
     fn next_entry<'a>(
         &mut self,
-        scope: &UnitScope<'_, '_, 'a>,
+        scope: &UnitScope<'_, 'a>,
         entries: &mut Reader<'a>,
     ) -> Option<Option<Abbreviation<'a>>> {
         self.budget.spend(1)?;
@@ -218,7 +232,7 @@ impl VariableSearch {
         Some(Some(scope.types.table.of(code)?))
     }
 
-    /// Closes the function at a depth, if it is open: all of its entries were read.
+    /// Closes the entry at a depth, if it is open: all of its entries were read.
     fn close(&mut self, depth: u64) {
         if let Some(last) = self.open.last() {
             if last.depth >= depth {
@@ -230,35 +244,59 @@ impl VariableSearch {
     /// Enters what an entry says.
     fn enter<'a>(
         &mut self,
-        scope: &UnitScope<'_, '_, 'a>,
+        scope: &UnitScope<'_, 'a>,
         abbreviation: &Abbreviation<'a>,
-        entry: &VariableEntry<'a>,
+        entry: &Entry<'a>,
         depth: u64,
     ) -> Result<(), AllocError> {
         match abbreviation.tag {
             FUNCTION => {
                 self.is_optimized = self.is_optimized || (entry.has_all_calls && !scope.is_of_gcc);
-                let place = self.enter_function(scope, entry)?;
-                if abbreviation.has_children && self.open.len() < DEEPEST {
-                    self.open.push(OpenFunction { depth, place })?;
-                }
-                Ok(())
+                let of = self.enter_function(scope, entry)?;
+                self.open(abbreviation, depth, of)
+            }
+            BLOCK | INLINED => {
+                let of = self.enter_block(scope, entry, depth)?;
+                self.open(abbreviation, depth, of)
             }
             CALL | GNU_CALL => {
                 self.is_optimized = true;
                 Ok(())
             }
-            VARIABLE | PARAMETER => self.enter_variable(scope, entry),
+            VARIABLE | PARAMETER => self.enter_variable(scope, entry, depth),
             _ => Ok(()),
         }
     }
 
-    /// Enters a function that has a frame and one range of addresses; its place.
+    /// Opens a function or a block, if others are in it.
+    fn open(
+        &mut self,
+        abbreviation: &Abbreviation<'_>,
+        depth: u64,
+        of: Option<BlockOfFunction>,
+    ) -> Result<(), AllocError> {
+        if abbreviation.has_children && self.open.len() < DEEPEST {
+            self.open.push(OpenEntry { depth, of })?;
+        }
+        Ok(())
+    }
+
+    /// The block that an entry at a depth is in, if that is known.
+    fn block_around(&self, depth: u64) -> Option<BlockOfFunction> {
+        let last = self.open.last()?;
+        if last.depth.saturating_add(1) == depth {
+            last.of
+        } else {
+            None
+        }
+    }
+
+    /// Enters a function that has a frame and one range of addresses: a block of itself.
     fn enter_function<'a>(
         &mut self,
-        scope: &UnitScope<'_, '_, 'a>,
-        entry: &VariableEntry<'a>,
-    ) -> Result<Option<usize>, AllocError> {
+        scope: &UnitScope<'_, 'a>,
+        entry: &Entry<'a>,
+    ) -> Result<Option<BlockOfFunction>, AllocError> {
         let Some(function) = scope.function(entry) else {
             return Ok(None);
         };
@@ -267,14 +305,40 @@ impl VariableSearch {
             return Ok(None);
         }
         self.functions.push(function)?;
-        Ok(Some(place))
+        self.block_of(scope, entry, place)
     }
 
-    /// Enters a variable, where it has one place.
+    /// Enters a block of a function or an inlined call, at a depth.
+    fn enter_block<'a>(
+        &mut self,
+        scope: &UnitScope<'_, 'a>,
+        entry: &Entry<'a>,
+        depth: u64,
+    ) -> Result<Option<BlockOfFunction>, AllocError> {
+        match self.block_around(depth) {
+            Some(around) => self.block_of(scope, entry, around.function),
+            None => Ok(None),
+        }
+    }
+
+    /// The block with the addresses of an entry.
+    fn block_of<'a>(
+        &mut self,
+        scope: &UnitScope<'_, 'a>,
+        entry: &Entry<'a>,
+        function: usize,
+    ) -> Result<Option<BlockOfFunction>, AllocError> {
+        let ranges = Ranges::of(&scope.scope, scope.types.unit.version, entry);
+        let block = self.blocks.enter(ranges, &mut self.budget)?;
+        Ok(block.map(|block| BlockOfFunction { function, block }))
+    }
+
+    /// Enters a variable at a depth, where it has one place.
     fn enter_variable<'a>(
         &mut self,
-        scope: &UnitScope<'_, '_, 'a>,
-        entry: &VariableEntry<'a>,
+        scope: &UnitScope<'_, 'a>,
+        entry: &Entry<'a>,
+        depth: u64,
     ) -> Result<(), AllocError> {
         let expression = match entry.location {
             AttributeValue::Block(expression) => expression,
@@ -285,26 +349,24 @@ impl VariableSearch {
             _ => return Ok(()),
         };
         match scope.place_of(expression) {
-            Some(VariablePlace::Frame(base, offset)) => {
-                self.enter_local(scope, entry, base, offset)
-            }
+            Some(VariablePlace::Frame(base, offset)) => match self.block_around(depth) {
+                Some(of) => self.enter_local(scope, entry, &of, (base, offset)),
+                None => Ok(()),
+            },
             Some(VariablePlace::Image(addr)) => self.enter_object(scope, entry, addr),
             None => Ok(()),
         }
     }
 
-    /// Enters a variable of the function that is read, at an offset from a base, or from the
-    /// function's.
+    /// Enters a variable of a block, at an offset from a base, or from the function's.
     fn enter_local<'a>(
         &mut self,
-        scope: &UnitScope<'_, '_, 'a>,
-        entry: &VariableEntry<'a>,
-        base: Option<FrameBase>,
-        offset: u64,
+        scope: &UnitScope<'_, 'a>,
+        entry: &Entry<'a>,
+        of: &BlockOfFunction,
+        (base, offset): (Option<FrameBase>, u64),
     ) -> Result<(), AllocError> {
-        let Some(function) = self.open.last().and_then(|open| open.place) else {
-            return Ok(());
-        };
+        let BlockOfFunction { function, block } = *of;
         let own = self.functions.get(function).map(|function| function.base);
         let Some(base) = base.or(own) else {
             return Ok(());
@@ -314,6 +376,7 @@ impl VariableSearch {
             Some(size) if size.bytes > 0 && self.variables.len() < MOST => {
                 self.variables.push(FrameVariable {
                     function,
+                    block,
                     base,
                     offset,
                     size: size.bytes,
@@ -330,8 +393,8 @@ impl VariableSearch {
     /// Enters where a variable of the image is declared.
     fn enter_object<'a>(
         &mut self,
-        scope: &UnitScope<'_, '_, 'a>,
-        entry: &VariableEntry<'a>,
+        scope: &UnitScope<'_, 'a>,
+        entry: &Entry<'a>,
         addr: u64,
     ) -> Result<(), AllocError> {
         let entry = scope.whole(entry, &mut self.budget);
@@ -350,20 +413,16 @@ impl VariableSearch {
     }
 }
 
-impl<'t, 's, 'a> UnitScope<'t, 's, 'a> {
+impl<'t, 'a> UnitScope<'t, 'a> {
     /// A function that has a frame and one range of addresses.
-    fn function(&self, entry: &VariableEntry<'a>) -> Option<FrameFunction> {
+    fn function(&self, entry: &Entry<'a>) -> Option<FrameFunction> {
         let AttributeValue::Block(expression) = entry.frame else {
             return None;
         };
-        let low = self.address(&entry.low)?;
-        let high = match entry.high {
-            AttributeValue::Number(size) => low.checked_add(size)?,
-            _ => self.address(&entry.high)?,
-        };
+        let range = AddressRange::whole(&self.scope, entry)?;
         Some(FrameFunction {
-            low,
-            high,
+            low: range.start,
+            high: range.end,
             base: base_of(expression)?,
             is_optimized: false,
             first: 0,
@@ -381,7 +440,7 @@ impl<'t, 's, 'a> UnitScope<'t, 's, 'a> {
             AT_ADDRESS => VariablePlace::Image(operations.double_word()?),
             AT_NUMBERED_ADDRESS => {
                 let number = AttributeValue::AddressAt(number(&mut operations)?);
-                VariablePlace::Image(self.address(&number)?)
+                VariablePlace::Image(self.scope.address(&number)?)
             }
             _ => return None,
         };
@@ -392,22 +451,10 @@ impl<'t, 's, 'a> UnitScope<'t, 's, 'a> {
         }
     }
 
-    /// The address that a value is.
-    fn address(&self, value: &AttributeValue<'a>) -> Option<u64> {
-        match value {
-            AttributeValue::Address(address) => Some(*address),
-            AttributeValue::AddressAt(number) => {
-                let base = self.first.addresses.offset()?;
-                self.sections.numbered_address(base, *number)
-            }
-            _ => None,
-        }
-    }
-
     /// An entry with what another entry says that it refers to.
-    fn whole(&self, entry: &VariableEntry<'a>, budget: &mut Budget) -> VariableEntry<'a> {
+    fn whole(&self, entry: &Entry<'a>, budget: &mut Budget) -> Entry<'a> {
         match self.origin(entry, budget) {
-            Some(origin) => VariableEntry {
+            Some(origin) => Entry {
                 name: origin.name,
                 file: origin.file,
                 line: origin.line,
@@ -419,43 +466,29 @@ impl<'t, 's, 'a> UnitScope<'t, 's, 'a> {
     }
 
     /// The type of a variable, if that is known.
-    fn size(&self, entry: &VariableEntry<'a>, budget: &mut Budget) -> Option<TypeSize> {
+    fn size(&self, entry: &Entry<'a>, budget: &mut Budget) -> Option<TypeSize> {
         self.types.size(entry.type_.entry()?, budget)
     }
 
     /// The entry that an entry refers to, which says more.
-    fn origin(&self, entry: &VariableEntry<'a>, budget: &mut Budget) -> Option<VariableEntry<'a>> {
+    fn origin(&self, entry: &Entry<'a>, budget: &mut Budget) -> Option<Entry<'a>> {
         let mut entries = self.types.unit.entries_at(entry.origin.entry()?)?;
         let abbreviation = self.types.table.of(number(&mut entries)?)?;
-        VariableEntry::read(&abbreviation, &mut entries, budget)
-    }
-
-    /// The text that a value is.
-    fn text(&self, value: &AttributeValue<'a>) -> Option<&'a [u8]> {
-        let sections = self.sections;
-        match value {
-            AttributeValue::Text(text) => Some(*text),
-            AttributeValue::InfoText(at) => sections.text(*at, LONGEST),
-            AttributeValue::LineText(at) => sections.line_text(*at, LONGEST),
-            AttributeValue::TextAt(number) => {
-                sections.numbered_text(self.first.text_offsets.offset()?, *number, LONGEST)
-            }
-            _ => None,
-        }
+        Entry::read(&abbreviation, &mut entries, budget)
     }
 
     /// The name of an entry.
-    fn name(&self, entry: &VariableEntry<'a>) -> VariableName {
-        match self.text(&entry.name) {
+    fn name(&self, entry: &Entry<'a>) -> VariableName {
+        match self.scope.text(&entry.name, LONGEST) {
             Some(name) => VariableName::of(name),
             None => VariableName::NONE,
         }
     }
 
     /// Where the variable of an entry is declared.
-    fn declaration(&self, entry: &VariableEntry<'a>) -> Option<Declaration> {
+    fn declaration(&self, entry: &Entry<'a>) -> Option<Declaration> {
         Some(Declaration {
-            unit: self.first.lines.offset()?,
+            unit: self.lines?,
             file: entry.file.number()?,
             line: u32::try_from(entry.line.number()?).ok()?,
         })

@@ -1,7 +1,6 @@
 //! How many bytes a type has, by its entries (DWARF 5, 5.1 to 5.15).
 
-use crate::entry::VariableEntry;
-use debug_info::{Abbreviations, Budget, CompilationUnit, number};
+use debug_info::{Abbreviations, Budget, CompilationUnit, Entry, number};
 use debug_lines::Reader;
 
 /// How many types are followed, as a typedef's and an array's.
@@ -52,7 +51,7 @@ impl<'t, 'a> UnitTypes<'t, 'a> {
         for _ in 0..FOLLOWED {
             let mut entries = self.unit.entries_at(at)?;
             let abbreviation = self.table.of(number(&mut entries)?)?;
-            let entry = VariableEntry::read(&abbreviation, &mut entries, budget)?;
+            let entry = Entry::read(&abbreviation, &mut entries, budget)?;
             if let Some(size) = own_size(abbreviation.tag, &entry) {
                 return Some(TypeSize {
                     bytes: product(elements, size)?,
@@ -80,7 +79,7 @@ impl<'t, 'a> UnitTypes<'t, 'a> {
                 return Some(elements);
             }
             let abbreviation = self.table.of(code)?;
-            let entry = VariableEntry::read(&abbreviation, &mut entries, budget)?;
+            let entry = Entry::read(&abbreviation, &mut entries, budget)?;
             if abbreviation.tag != RANGE || abbreviation.has_children {
                 return None;
             }
@@ -91,7 +90,7 @@ impl<'t, 'a> UnitTypes<'t, 'a> {
 }
 
 /// The bytes of a type that says how many it has.
-fn own_size(tag: u64, entry: &VariableEntry<'_>) -> Option<u64> {
+fn own_size(tag: u64, entry: &Entry<'_>) -> Option<u64> {
     if POINTERS.contains(&tag) {
         return Some(POINTER);
     }
@@ -104,7 +103,7 @@ fn is_number(tag: u64) -> bool {
 }
 
 /// How many elements a dimension has.
-fn count_of(entry: &VariableEntry<'_>) -> Option<u64> {
+fn count_of(entry: &Entry<'_>) -> Option<u64> {
     match entry.count.number() {
         Some(count) => Some(count),
         None => entry.last.number()?.checked_add(1),

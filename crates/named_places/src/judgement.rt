@@ -133,10 +133,10 @@ impl NamedPlaces {
             let is_told = strictness.is_below;
             return misuse_if(is_told, PlaceMisuseKind::Underflow, addr, access, &text);
         }
-        if end <= text.end || is_part_of_word(&text, access) {
+        if end <= place.limit || is_part_of_word(place.limit, access) {
             return None;
         }
-        let wrong = addr.max(text.end);
+        let wrong = addr.max(place.limit);
         let is_other = strictness.is_lenient || place.is_unsure;
         let is_meant = is_other && self.is_in_other(place, addr, end);
         let is_told = strictness.is_above && !place.is_marked && !is_meant;
@@ -223,7 +223,7 @@ impl NamedPlaces {
         let Some(function) = function else {
             return false;
         };
-        match self.variables.variable_at(&function, &place.bases, addr) {
+        match self.variables.slot_at(&function, &place.bases, addr) {
             Some(placed) => last < placed.end,
             None => false,
         }
@@ -249,9 +249,9 @@ fn misuse_if(
     })
 }
 
-/// Whether an access is a read of an aligned word that begins in a variable. What is after the
-/// variable is read for nothing, as by functions that look for the end of a text.
-fn is_part_of_word(place: &PlaceText, access: AccessedBytes) -> bool {
+/// Whether an access is a read of an aligned word that begins in front of a variable's limit. What
+/// is after the variable is read for nothing, as by functions that look for the end of a text.
+fn is_part_of_word(limit: u64, access: AccessedBytes) -> bool {
     let addr = plain(access.addr);
     let is_aligned = match access.count {
         2 => addr % 2 == 0,
@@ -259,5 +259,5 @@ fn is_part_of_word(place: &PlaceText, access: AccessedBytes) -> bool {
         8 => addr % 8 == 0,
         _ => false,
     };
-    access.is_register && !access.is_write && is_aligned && addr < place.end
+    access.is_register && !access.is_write && is_aligned && addr < limit
 }

@@ -66,6 +66,8 @@ pub(crate) const NO_BASES: FrameBases = FrameBases {
 #[derive(Clone, Copy)]
 pub(crate) struct NamedPlace {
     pub(crate) text: PlaceText,
+    /// The address up to which an access may be one to it.
+    pub(crate) limit: u64,
     /// Whether its function has not returned.
     pub(crate) is_live: bool,
     /// Whether the function that made a pointer to it was not optimized.
@@ -86,10 +88,5 @@ impl NamedPlace {
     /// Whether the byte at a plain address is its own.
     pub(crate) fn has(&self, addr: u64) -> bool {
         self.text.start <= addr && addr < self.text.end
-    }
-
-    /// Whether it is these bytes.
-    pub(crate) fn is_at(&self, kind: PlaceKind, start: u64, end: u64) -> bool {
-        self.text.kind == kind && self.text.start == start && self.text.end == end
     }
 }

@@ -29,7 +29,7 @@ impl NamedPlaces {
         };
         let text = &place.text;
         let has_bounds = matches!(text.kind, PlaceKind::Object | PlaceKind::Variable);
-        let is_within = text.start <= addr && addr.saturating_add(bytes) <= text.end;
+        let is_within = text.start <= addr && addr.saturating_add(bytes) <= place.limit;
         place.is_live && (is_within || !has_bounds)
     }
 

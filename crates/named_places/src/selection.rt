@@ -100,7 +100,7 @@ impl NamedPlaces {
             let index = next?;
             let old = self.table.get(index)?;
             let is_frame = text.kind == PlaceKind::Frame && old.text.kind == PlaceKind::Frame;
-            if is_frame || old.is_at(text.kind, text.start, text.end) {
+            if is_frame || old.text == *text {
                 return Some(index);
             }
             next = old.next;
@@ -119,6 +119,7 @@ impl NamedPlaces {
                 declaration: None,
                 function: Some(at.pc),
             },
+            limit: frame.sp,
             is_live: true,
             is_exact: false,
             is_unsure: false,
@@ -129,7 +130,8 @@ impl NamedPlaces {
         }
     }
 
-    /// The place of the variable of the function that runs which has the byte at an address.
+    /// The place of the variable of the function that runs which has the byte at an address, and
+    /// whose block runs.
     fn variable_place(
         &self,
         at: &NotedInstruction<'_>,
@@ -138,12 +140,13 @@ impl NamedPlaces {
     ) -> Option<NamedPlace> {
         let running = self.running(at, frame)?;
         let RunningFunction { function, bases } = &running;
-        let placed = self.variables.variable_at(function, bases, addr)?;
+        let placed = self.variables.variable_at(function, bases, addr, at.pc)?;
         if placed.start < plain(at.after.sp) || placed.end > frame.sp {
             return None;
         }
         Some(NamedPlace {
             text: text_of(&placed, function.low),
+            limit: placed.limit.min(frame.sp),
             is_live: true,
             is_exact: !function.is_optimized,
             is_unsure: self.is_before_other(&running, &placed, addr),
@@ -165,7 +168,7 @@ impl NamedPlaces {
         let RunningFunction { function, bases } = running;
         let last = addr.saturating_add(ELEMENT);
         for start in placed.end..=last {
-            if let Some(next) = self.variables.variable_at(function, bases, start) {
+            if let Some(next) = self.variables.slot_at(function, bases, start) {
                 return !next.variable.is_single;
             }
         }

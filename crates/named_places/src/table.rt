@@ -145,6 +145,7 @@ fn neighbor(objects: &ImageObjects, variables: &FrameVariables, addr: u64) -> Ne
 fn fixed_place(text: PlaceText) -> NamedPlace {
     NamedPlace {
         text,
+        limit: text.end,
         is_live: true,
         is_exact: false,
         is_unsure: false,
