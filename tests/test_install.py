@@ -280,40 +280,13 @@ def test_many_sessions(moved: pathlib.Path, tmp_path: pathlib.Path) -> None:
     assert (ran.status, ran.output, ran.errors) == (0, wanted, "")
 
 
-def completed(moved: pathlib.Path, name: str, *words: str) -> set[str]:
-    """What bash offers for the last of the words."""
-    file = moved / "share" / "bash-completion" / "completions" / name
-    script = ('source "$1"; shift; COMP_WORDS=("$@"); COMP_CWORD=$(($# - 1)); '
-              'call=$(complete -p "$1"); call=${call#*-F }; ${call% *}; '
-              'printf "%s\\n" "${COMPREPLY[@]}"')
-    ran = succeed(["bash", "-c", script, "bash", file, name, *words])
-    return set(ran.output.splitlines()) - {""}
-
-
-@pytest.mark.parametrize("name", COMPLETED)
-def test_completions(moved: pathlib.Path, name: str) -> None:
-    """bash offers each option of the help; the files of zsh and fish have them too."""
-    asked = "mte_run" if name == "mte_why" else name
-    word = "--help-all" if asked == "mte_run" else "--help"
-    told = TENANTS.get(name) or succeed([moved / "bin" / asked, word]).output
-    options = set(re.findall(r"^ +(?:-\w, )?(--[\w+-]+)", told, re.M))
-    assert name in TENANTS or len(options) >= 2
-    assert {word.split("=")[0] for word in completed(moved, name, "--")} == options
-    share = moved / "share"
-    zsh = (share / "zsh" / "site-functions" / f"_{name}").read_text(encoding="utf-8")
-    assert zsh.startswith(f"#compdef {name}\n")
-    fish = (share / "fish" / "vendor_completions.d" / f"{name}.fish").read_text(encoding="utf-8")
-    assert set(re.findall(r"^    '(--[\w+-]+?)(?:=-)?\[", zsh, re.M)) == options
-    assert {f"--{it}" for it in re.findall(rf"^complete -c {name} -l (\S+)", fish, re.M)} == options
-
-
 def test_completion_of_values(moved: pathlib.Path, tmp_path: pathlib.Path) -> None:
     """Names of files behind an option that takes one, choices, and nothing for a number."""
     (tmp_path / "input.txt").touch()
     word = str(tmp_path / "inp")
-    assert completed(moved, "mte_run", "--input", word) == {str(tmp_path / "input.txt")}
-    assert completed(moved, "mte_run", "--ex") == {"--exact", "--exact=all", "--exact=writes"}
-    assert completed(moved, "mte_run", "--pages", "") == set()
+    assert installed.completed(moved, "mte_run", "--input", word) == {str(tmp_path / "input.txt")}
+    assert installed.completed(moved, "mte_run", "--ex") == {"--exact", "--exact=all", "--exact=writes"}
+    assert installed.completed(moved, "mte_run", "--pages", "") == set()
 
 
 @pytest.mark.parametrize("shell", ["zsh", "fish"])

@@ -9,7 +9,7 @@ from tests.support.cache import tenant_library
 from tests.support.library import static_library
 from tests.support.once import make_once
 from tests.support.places import ROOT, program
-from tests.support.running import Ran, run
+from tests.support.running import Ran, run, succeed
 from tests.support.tools import need
 
 INSTALLER = ROOT / "tools" / "install.sh"
@@ -76,3 +76,13 @@ def variables(place: pathlib.Path) -> dict[str, str]:
     path = f"{place}/bin{os.pathsep}{os.environ['PATH']}"
     return {"PATH": path, "PKG_CONFIG_PATH": f"{place}/lib/pkgconfig",
             "LD_LIBRARY_PATH": f"{place}/lib", "PYTHONPATH": f"{place}/share/tombolopan"}
+
+
+def completed(moved: pathlib.Path, name: str, *words: str) -> set[str]:
+    """What bash offers for the last of the words."""
+    file = moved / "share" / "bash-completion" / "completions" / name
+    script = ('source "$1"; shift; COMP_WORDS=("$@"); COMP_CWORD=$(($# - 1)); '
+              'call=$(complete -p "$1"); call=${call#*-F }; ${call% *}; '
+              'printf "%s\\n" "${COMPREPLY[@]}"')
+    ran = succeed(["bash", "-c", script, "bash", file, name, *words])
+    return set(ran.output.splitlines()) - {""}
