@@ -2,6 +2,7 @@
 stopped, hostile names, no network, links, contrast, and sizes."""
 
 import gzip
+import itertools
 import json
 import os
 import pathlib
@@ -13,7 +14,7 @@ from collections.abc import Iterator, Sequence
 import pytest
 from wasm import archive, command, page as html_page, sources, table
 
-from tests.support import host_frames, places, playground
+from tests.support import host_frames, page_speed, places, playground
 from tests.support.acts import EVERY_IMAGE
 from tests.support.browser import Browser
 from tests.support.pages import read_page
@@ -28,6 +29,7 @@ FIRST_SECONDS, STOP_SECONDS = 2.0, 1.0
 # How many times as long things take where more runs than there are processors.
 CROWD = max(1.0, os.getloadavg()[0] / (os.cpu_count() or 1))
 # How many images the two browsers run in each form; 50 of the suite by hand.
+ALL_IMAGES, LEAST_SHARE = 50, 0.4
 COUNT = int(os.environ.get("TOMBOLOPAN_BROWSER_IMAGES", "4"))
 DONE = "document.body.dataset.status !== undefined"
 CONTRAST = 4.5
@@ -56,12 +58,20 @@ def fixture_opened(request: pytest.FixtureRequest, whole: pathlib.Path,
     return browser
 
 
-@pytest.fixture(name="chromium")
-def fixture_chromium(whole: pathlib.Path, tmp_path: pathlib.Path) -> Iterator[Browser]:
-    """The page in a browser whose events are seen."""
-    with Browser(whole, tmp_path / "profile") as browser:
-        browser.wait(DONE)
+@pytest.fixture(scope="module", name="started")
+def fixture_started(whole: pathlib.Path,
+                    tmp_path_factory: pytest.TempPathFactory) -> Iterator[Browser]:
+    """A browser whose events are seen."""
+    with Browser(whole, tmp_path_factory.mktemp("profile")) as browser:
         yield browser
+
+
+@pytest.fixture(name="chromium")
+def fixture_chromium(started: Browser, whole: pathlib.Path) -> Browser:
+    """The page in a new tab of it."""
+    started.open(whole)
+    started.wait(DONE)
+    return started
 
 
 def image_named(source: str, build: str) -> bytes:
@@ -146,6 +156,20 @@ def test_the_first_explanation_is_there_soon(whole: pathlib.Path, tmp_path: path
             browser.wait(DONE)
             seconds.append(browser.value("Number(document.body.dataset.first)") / 1000)
     assert min(seconds) < FIRST_SECONDS * CROWD, seconds
+
+
+def test_steps_a_second(whole: pathlib.Path, alone: pathlib.Path, tmp_path: pathlib.Path) -> None:
+    """A plain run of compiled code makes at least 0.4 times the native program's steps a second in
+    one of both browsers."""
+    if COUNT < ALL_IMAGES:
+        give_up(f"TOMBOLOPAN_BROWSER_IMAGES is not {ALL_IMAGES}: speeds are for a quiet machine")
+    shares = {}
+    for name, kind in BROWSERS.items():
+        with kind(whole, tmp_path / name) as browser:
+            browser.wait(DONE)
+            shares[name] = page_speed.share_of_native(browser, alone, tmp_path)
+    print(shares)
+    assert max(shares.values()) >= LEAST_SHARE, shares
 
 
 HOSTILE = """#include "tenant.h"
@@ -256,7 +280,7 @@ def test_a_session(chromium: Browser, host: pathlib.Path, tmp_path: pathlib.Path
     assert printed.count("tenant") == 3 and chromium.text("output-text") == printed
     alone = chromium.value("document.getElementById('tenants').textContent")
     assert alone.count("Run alone it has the same lines.") == 3
-    assert "of tenant 1" in chromium.value("Array.from(document.querySelectorAll("
+    assert "; tenant 1 had " in chromium.value("Array.from(document.querySelectorAll("
                                            "'#host-frames h4')).find(it => /tenant 3/.test("
                                            "it.textContent)).textContent")
     link = chromium.value("runToText(currentRun())")
@@ -534,23 +558,26 @@ def contrast(one: list[int], other: list[int]) -> float:
 
 @pytest.mark.parametrize("scheme", ["light", "dark"])
 def test_contrast(chromium: Browser, scheme: str) -> None:
-    """Each text has 4.5 to 1 to its background, in each tab, in a lesson and in the help; and no
+    """Each text has 4.5 to 1 to its background, in each tab, in lessons and in the help; and no
     width makes the page wider than the window."""
-    chromium.value("openLesson(4)")
-    chromium.wait(DONE)
     chromium.value("void (document.getElementById('options').open = true)")
-    for width in (360, 800, 1280):
-        chromium.show_as(width, scheme=scheme)
-        for tab in ("why", "report", "output", "made"):
+    for lesson, tabs in ((4, ("why", "report", "output", "made")), (5, ("session",))):
+        chromium.value(f"openLesson({lesson})")
+        chromium.wait(DONE)
+        for width, tab in itertools.product((360, 800, 1280), tabs):
+            chromium.show_as(width, scheme=scheme)
             chromium.value(f"showTab(document.getElementById('tab-{tab}'))")
             assert chromium.value("document.documentElement.scrollWidth") <= width, tab
-            rows = chromium.value(LIGHT)
-            wrong = [row for row in rows if not row[3] and (
-                row[2] is None or contrast(row[1], row[2]) < CONTRAST)]
-            assert len(rows) > 20 and not wrong, wrong
+            assert_contrast(chromium)
     chromium.value("document.getElementById('help').showModal()")
-    rows = chromium.value(LIGHT)
-    assert not [row for row in rows if not row[3] and contrast(row[1], row[2]) < CONTRAST]
+    assert_contrast(chromium)
+
+
+def assert_contrast(chromium: Browser) -> None:
+    """Of what is shown now."""
+    rows = [row for row in chromium.value(LIGHT) if not row[3]]
+    wrong = [row for row in rows if row[2] is None or contrast(row[1], row[2]) < CONTRAST]
+    assert len(rows) > 20 and not wrong, wrong
 
 
 def test_keys(chromium: Browser) -> None:

@@ -36,6 +36,7 @@ class Browser:
         os.close(answers)
         self.rest, self.number = b"", 0
         self.session: Optional[str] = None
+        self.tab: Optional[str] = None
         self.events: list[Any] = []
         self.open(page)
 
@@ -50,11 +51,14 @@ class Browser:
         os.close(self.answers)
 
     def open(self, page: pathlib.Path) -> None:
-        """Opens the page, and waits until it is loaded."""
-        targets = self.call("Target.getTargets")["targetInfos"]
-        target = next(it["targetId"] for it in targets if it["type"] == "page")
-        self.session = self.call("Target.attachToTarget", targetId=target, flatten=True)[
+        """Opens the page in a new tab, in place of the one before, and waits until it is loaded."""
+        before, self.session = self.tab, None
+        self.tab = self.call("Target.createTarget", url="about:blank")["targetId"]
+        if before is not None:
+            self.call("Target.closeTarget", targetId=before)
+        self.session = self.call("Target.attachToTarget", targetId=self.tab, flatten=True)[
             "sessionId"]
+        self.events = []
         for domain in ("Page", "Runtime", "Log", "Network"):
             self.call(f"{domain}.enable")
         self.call("Page.navigate", url=page.as_uri())

@@ -42,8 +42,8 @@ const otherOwners = it => [...new Set(it.before.map(held => held.id))].filter(
 function ownersText(frames) {
   const counts = new Map();
   for (const id of frames.flatMap(otherOwners)) counts.set(id, (counts.get(id) || 0) + 1);
-  const parts = [...counts].map(([id, count]) => count + ' of tenant ' + id);
-  return parts.length ? ', before that ' + parts.join(', ') : '';
+  const parts = [...counts].map(([id, count]) => 'tenant ' + id + ' had ' + count);
+  return parts.length ? '; ' + parts.join(', ') + ' of them before' : '';
 }
 
 function putFrames(area, title, frames, about, colourOf) {
