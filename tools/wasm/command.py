@@ -31,7 +31,7 @@ def sum_of_sources() -> str:
                          stdout=subprocess.PIPE, text=True)
     held = hashlib.sha256(ran.stdout.encode() + str(mark.toolchain()).encode())
     tools = ROOT / "tools"
-    own = sorted((tools / "wasm" / lowered.SESSION).rglob("*.rt"))
+    own = sorted((tools / "wasm" / lowered.SESSION).glob("*.txt"))
     made_by = [tools / it for it in ("unproved.py", "unchecked.py", "wasm/lowered.py",
                                      "wasm/module.py")]
     for path in (*made_by, *own):

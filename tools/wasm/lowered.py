@@ -49,9 +49,17 @@ def dependencies(checkout: pathlib.Path, name: str) -> list[str]:
     return ["core", "std", *found[1].split()]
 
 
-def folder_of(checkout: pathlib.Path, name: str) -> pathlib.Path:
-    """Where a program is written."""
-    return HERE / name if name in OWN else checkout / "crates" / name
+def folder_of(checkout: pathlib.Path, work: pathlib.Path, name: str) -> pathlib.Path:
+    """Where a program is written. One of the page's own is copied, since a checkout has sources of
+    the toolchain in its crates alone."""
+    if name not in OWN:
+        return checkout / "crates" / name
+    folder = work / "own" / name
+    if not folder.exists():
+        (folder / "src").mkdir(parents=True)
+        for path in (HERE / name).glob("*.txt"):
+            shutil.copy(path, folder / "src" / f"{path.stem}.rt")
+    return folder
 
 
 def library(checkout: pathlib.Path, kit: pathlib.Path, crate: str) -> pathlib.Path:
@@ -88,7 +96,7 @@ def lower_proved(checkout: pathlib.Path, work: pathlib.Path, name: str) -> pathl
                            KEEPER.format(module=kept, clang=clang))
     path = f"{kit}/bin:{os.environ['PATH']}"
     ran = subprocess.run(
-        build_words(checkout, kit, work, name), cwd=folder_of(checkout, name), text=True,
+        build_words(checkout, kit, work, name), cwd=folder_of(checkout, work, name), text=True,
         stdout=subprocess.PIPE, stderr=subprocess.STDOUT, check=False,
         env={**os.environ, "PATH": path})
     if not kept.exists():
@@ -104,7 +112,7 @@ def with_own(checkout: pathlib.Path, work: pathlib.Path, name: str) -> pathlib.P
     root = work / "checkout"
     shutil.copytree(checkout / "crates", root / "crates", symlinks=True,
                     ignore=shutil.ignore_patterns("out", "must-fail", "proofs"))
-    shutil.copytree(folder_of(checkout, name), root / "crates" / name)
+    shutil.copytree(folder_of(checkout, work, name), root / "crates" / name)
     shutil.copy(checkout / "HANDLES", root)
     listed = (checkout / "crates.txt").read_text(encoding="utf-8")
     (root / "crates.txt").write_text(f"{listed}\n{name}: {' '.join(OWN[name])}\n",
