@@ -27,7 +27,7 @@ LEVELS = ("-O0", "-O1", "-O2", "-O3")
 CSMITH = ("-DCSMITH_MINIMAL", "-DNO_PRINTF", "-DUSE_MATH_MACROS", "-I.", "-I/usr/include/csmith")
 GIVEN = {
     "custom_stdint_x86.h": "#include <stdint.h>\n", "custom_limits.h": "#include <limits.h>\n",
-    "print.c": "int putchar(int byte) { return byte; }\n",
+    "print.c": "int putchar(int it) { return it; }\nint printf(const char *it) { return *it; }\n",
 }
 STEPS = "3000000"
 # How far in front of the next variable a pointer may be that counts from 1.
