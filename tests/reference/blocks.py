@@ -16,7 +16,9 @@ NONE = 0xFFFF
 HEAD = """
 #include "tenant.h"
 #define NEVER __attribute__((noinline))
+#ifndef ALWAYS
 #define ALWAYS __attribute__((always_inline)) inline
+#endif
 struct big { unsigned long all[12]; };
 struct wide { unsigned char all[40]; };
 static int wrong;

@@ -55,8 +55,9 @@ pub struct PlacedVariable {
     pub start: u64,
     /// The address after its last byte.
     pub end: u64,
-    /// The address up to which an access is not known to be one to another: where a function was
-    /// optimized, the next variable's, since what has no name may share the place.
+    /// The address up to which an access is not known to be one to another: the next variable's
+    /// where a function was optimized or has inlined calls, since what has no name may share the
+    /// place.
     pub limit: u64,
 }
 
@@ -71,6 +72,8 @@ pub struct FrameFunction {
     pub(crate) base: FrameBase,
     /// Whether its unit was optimized, as far as that shows.
     pub is_optimized: bool,
+    /// Whether calls are inlined in it.
+    pub(crate) has_inlined: bool,
     /// The number of its first slot, and how many there are.
     pub(crate) first: usize,
     pub(crate) count: usize,
@@ -248,9 +251,10 @@ impl FrameVariables {
         }
     }
 
-    /// The variable of a function that has the byte at an address, by the values of its bases, and
-    /// whose block has the counter; several of which that is so are one. `None` where the address
-    /// is in two slots, which are counted from different bases.
+    /// The variable of a function that has the byte at an address, by the values of its bases. Of
+    /// those that share bytes, and where the function was optimized, it is the one whose block has
+    /// the counter; several of which that is so are one. `None` where the address is in two slots,
+    /// which are counted from different bases.
     pub fn variable_at(
         &self,
         function: &FrameFunction,
@@ -260,9 +264,13 @@ impl FrameVariables {
     ) -> Option<PlacedVariable> {
         let slot = self.one_slot(function, bases, addr)?;
         let value = bases.of(slot.whole.base);
-        let variable = self.variable_in(&slot, place_of(addr, value), pc)?;
+        let variable = if slot.count == 1 && !function.is_optimized {
+            slot.whole
+        } else {
+            self.variable_in(&slot, place_of(addr, value), pc)?
+        };
         let mut placed = variable.placed(value)?;
-        if function.is_optimized {
+        if function.is_optimized || function.has_inlined {
             placed.limit = self.next_start(function, bases, addr).max(placed.end);
         }
         Some(placed)

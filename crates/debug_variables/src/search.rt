@@ -256,6 +256,9 @@ impl VariableSearch {
                 self.open(abbreviation, depth, of)
             }
             BLOCK | INLINED => {
+                if abbreviation.tag == INLINED {
+                    self.note_inlined(depth);
+                }
                 let of = self.enter_block(scope, entry, depth)?;
                 self.open(abbreviation, depth, of)
             }
@@ -318,6 +321,15 @@ impl VariableSearch {
         match self.block_around(depth) {
             Some(around) => self.block_of(scope, entry, around.function),
             None => Ok(None),
+        }
+    }
+
+    /// Notes that a call at a depth is inlined.
+    fn note_inlined(&mut self, depth: u64) {
+        if let Some(around) = self.block_around(depth) {
+            if let Some(function) = self.functions.get_mut(around.function) {
+                function.has_inlined = true;
+            }
         }
     }
 
@@ -425,6 +437,7 @@ impl<'t, 'a> UnitScope<'t, 'a> {
             high: range.end,
             base: base_of(expression)?,
             is_optimized: false,
+            has_inlined: false,
             first: 0,
             count: 0,
         })
