@@ -64,6 +64,12 @@ class Watched:
     within a slice and says how far it came; a second one ends it at once."""
 
     def __init__(self, program: str, words: Sequence[str], keeps_output: bool) -> None:
+        self.signal: Optional[signal.Signals] = None
+        self.is_killed = False
+        self.kill: Callable[[], None] = lambda: None
+        self.output = self.errors = b""
+        for number in SIGNALS:
+            signal.signal(number, self.take)
         self.lines, end = os.pipe()
         try:
             self.child = subprocess.Popen(
@@ -72,17 +78,13 @@ class Watched:
                 pass_fds=(end,), preexec_fn=ignore_signals)
         finally:
             os.close(end)
-        self.signal: Optional[signal.Signals] = None
-        self.is_killed = False
-        self.output = self.errors = b""
-        for number in SIGNALS:
-            signal.signal(number, self.take)
+        self.kill = self.child.kill
 
     def take(self, number: int, _: Optional[FrameType]) -> None:
         """Takes a signal."""
         if self.signal is not None:
             self.is_killed = True
-            self.child.kill()
+            self.kill()
         self.signal = signal.Signals(number)
 
     def wait(self, read: Callable[[bytes], None]) -> int:
