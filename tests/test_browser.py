@@ -619,6 +619,13 @@ def test_sizes_and_sums(whole: pathlib.Path) -> None:
     assert html_page.make_page(module, session, b'"no-proof" hidden' in text) == text.decode()
 
 
+def test_each_name_is_declared_once() -> None:
+    """A second function of a name would take the place of the first, without a word."""
+    text = "".join(html_page.text_of(f"{name}.js") for name in html_page.SCRIPTS)
+    names = re.findall(r"^(?:async )?(?:function|const|let) (\w+)", text, re.M)
+    assert len(names) > 100 and len(names) == len(set(names))
+
+
 def test_laws_of_the_lessons() -> None:
     """The laws that lessons name are those of the README."""
     named = set(re.findall(r"<code>(\w+)</code>", html_page.text_of("lessons.html")))

@@ -34,7 +34,7 @@ def pages_of(run: dict[str, Any]) -> set[int]:
     """The numbers of the pages that a tenant has at the end of a run of its own, by its JSON."""
     found: set[int] = set()
     for row in run["pages"]:
-        found |= set(range(int(row["first"], 16) // PAGE, int(row["last"], 16) // PAGE))
+        found |= set(range(int(row["first"], 16) // PAGE, int(row["last"], 16) // PAGE + 1))
     return found
 
 

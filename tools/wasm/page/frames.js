@@ -28,7 +28,7 @@ function framesAfter(moves, event) {
 const pageText = it => '0x' + (it.page * 4096).toString(16) + ' (' + it.place + ') of tenant ' +
   it.id;
 
-function frameText({frame, now, before}) {
+function heldText({frame, now, before}) {
   const held = before.map(it => pageText(it) + ' from event ' + it.since + ' to ' + it.until);
   return 'Frame ' + frame + ': ' + (now ? 'the page ' + pageText(now) + ' since event ' + now.since
     : 'free') + (held.length ? '; before that ' + held.reverse().join(', ') : '');
@@ -50,7 +50,7 @@ function putFrames(area, title, frames, about, colourOf) {
   put(area, 'h4', title + ': ' + frames.length + ownersText(frames));
   const cells = put(area, 'div', undefined, 'pages');
   for (const it of frames.slice(0, MOST_CELLS)) {
-    const others = otherOwners(it), text = frameText(it), own = it.now ? it.now.place : 'free';
+    const others = otherOwners(it), text = heldText(it), own = it.now ? it.now.place : 'free';
     const cell = putButton(cells, own.charAt(0), 'cell ' + (it.now ? colourOf(it.now.id) : 'none'),
       () => { about.textContent = text; });
     for (const id of others.slice(-1)) put(cell, 'sub', id, 'was ' + colourOf(id));
