@@ -83,7 +83,9 @@ def page_of(texts: Texts) -> str:
     page = read_page(texts.page)
     if not texts.part:
         return page
-    return re.findall(rf"^## {re.escape(texts.part)}\n(.*?)(?=^## |\Z)", page, re.M | re.S)[0]
+    found = re.search(rf"^## {re.escape(texts.part)}\n(.*?)(?=^## |\Z)", page, re.M | re.S)
+    assert found, texts.part
+    return found[1]
 
 
 @pytest.mark.parametrize("name", PROGRAMS)
