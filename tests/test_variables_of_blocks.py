@@ -79,6 +79,7 @@ def test_a_write_past_an_array_is_told(
     may count the next array's elements from 1."""
     for seed in SEEDS:
         path = drawn_image(tmp_path, compiler, "-O0", seed, "-DALWAYS=NEVER")
+        assert "Cause" not in check(alone, path, blocks.NONE).errors, seed
         for number, size in enumerate(blocks.drawn(seed).sizes):
             told = check(alone, path, number)
             wanted = f": Buffer Overflow, 0 bytes right of the {size}-byte variable `a{number}` at "

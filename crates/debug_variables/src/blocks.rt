@@ -6,8 +6,9 @@ use std::alloc::{AllocError, Global};
 /// The most ranges of blocks that are kept.
 const MOST: usize = 262_144;
 
-/// A block of a function, an inlined call, or a function as a whole: some ranges of addresses.
-#[derive(Clone, Copy, PartialEq, Eq)]
+/// A block of a function, an inlined call, or a function as a whole: some ranges of addresses. It
+/// is less than those in it.
+#[derive(Clone, Copy, PartialEq, Eq, PartialOrd, Ord)]
 pub struct Block {
     /// The number of its first range, and how many there are.
     first: usize,

@@ -252,9 +252,9 @@ impl FrameVariables {
     }
 
     /// The variable of a function that has the byte at an address, by the values of its bases. Of
-    /// those that share bytes, and where the function was optimized, it is the one whose block has
-    /// the counter; several of which that is so are one. `None` where the address is in two slots,
-    /// which are counted from different bases.
+    /// those that share bytes, and where the function was optimized, it is the one of the innermost
+    /// block that has the counter; several of one block are one. `None` where the address is in two
+    /// slots, which are counted from different bases.
     pub fn variable_at(
         &self,
         function: &FrameFunction,
@@ -345,15 +345,19 @@ impl FrameVariables {
         Some((slots, behind))
     }
 
-    /// The variables of a slot with the byte at a place whose blocks have the counter, as one.
+    /// The variables of a slot with the byte at a place in the innermost block that has the
+    /// counter, as one.
     fn variable_in(&self, slot: &Slot, place: u64, pc: u64) -> Option<FrameVariable> {
         let end = slot.first.saturating_add(slot.count);
         let mut found = None;
         for variable in self.variables.get(slot.first..end)? {
             if variable.has(slot.whole.base, place) && self.blocks.has(&variable.block, pc) {
                 found = match found {
-                    Some(first) => Some(union_of(&first, variable)),
-                    None => Some(*variable),
+                    Some(other) if other.block == variable.block => {
+                        Some(union_of(&other, variable))
+                    }
+                    Some(other) if variable.block < other.block => found,
+                    _ => Some(*variable),
                 };
             }
         }
