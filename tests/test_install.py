@@ -285,7 +285,8 @@ def test_completion_of_values(moved: pathlib.Path, tmp_path: pathlib.Path) -> No
     (tmp_path / "input.txt").touch()
     word = str(tmp_path / "inp")
     assert installed.completed(moved, "mte_run", "--input", word) == {str(tmp_path / "input.txt")}
-    assert installed.completed(moved, "mte_run", "--ex") == {"--exact", "--exact=all", "--exact=writes"}
+    exact = {"--exact", "--exact=all", "--exact=writes"}
+    assert installed.completed(moved, "mte_run", "--ex") == exact
     assert installed.completed(moved, "mte_run", "--pages", "") == set()
 
 

@@ -1,5 +1,5 @@
-"""Runs that are watched and stopped: what `mte_run --progress` writes, compared with runs of as many
-steps, and how `tenant-run` ends a run on a signal and says how far it is.
+"""Runs that are watched and stopped: what `mte_run --progress` writes, compared with runs of as
+many steps, and how `tenant-run` ends a run on a signal and says how far it is.
 
 TOMBOLOPAN_DRAWN is how many runs are drawn of 20 times as many, from seed 0 on.
 """
