@@ -64,7 +64,7 @@ def manual_of(moved: pathlib.Path, name: str) -> set[str]:
     page = (moved / "share" / "man" / "man1" / f"{name}.1").read_text(encoding="utf-8")
     part = re.findall(r"^\.SH OPTIONS\n(.*?)(?=^\.SH )", page, re.M | re.S)[0]
     entries = re.findall(r"^\.B (.*)$", part.replace("\\-", "-").replace("\\&", ""), re.M)
-    return {NAME.findall(it)[0] for it in entries}
+    return {name for it in entries for name in NAME.findall(it)[:1]}
 
 
 def shells(moved: pathlib.Path, name: str) -> list[set[str]]:
