@@ -55,9 +55,8 @@ pub struct PlacedVariable {
     pub start: u64,
     /// The address after its last byte.
     pub end: u64,
-    /// The address up to which an access is not known to be one to another: the next variable's
-    /// where a function was optimized or has inlined calls, since what has no name may share the
-    /// place.
+    /// The address up to which an access is not known to be one to another: where a function was
+    /// optimized, the next variable's, since what has no name may share the place.
     pub limit: u64,
 }
 
@@ -70,10 +69,8 @@ pub struct FrameFunction {
     pub high: u64,
     /// The base of its variables' places where these name no other.
     pub(crate) base: FrameBase,
-    /// Whether its unit was optimized, as far as that shows.
+    /// Whether it was optimized, as far as that shows, or has inlined calls.
     pub is_optimized: bool,
-    /// Whether calls are inlined in it.
-    pub(crate) has_inlined: bool,
     /// The number of its first slot, and how many there are.
     pub(crate) first: usize,
     pub(crate) count: usize,
@@ -270,7 +267,7 @@ impl FrameVariables {
             self.variable_in(&slot, place_of(addr, value), pc)?
         };
         let mut placed = variable.placed(value)?;
-        if function.is_optimized || function.has_inlined {
+        if function.is_optimized {
             placed.limit = self.next_start(function, bases, addr).max(placed.end);
         }
         Some(placed)

@@ -168,7 +168,7 @@ impl VariableSearch {
             .get_mut(functions..)
             .unwrap_or(&mut [])
         {
-            function.is_optimized = is_optimized;
+            function.is_optimized = function.is_optimized || is_optimized;
         }
         Ok(())
     }
@@ -257,7 +257,7 @@ impl VariableSearch {
             }
             BLOCK | INLINED => {
                 if abbreviation.tag == INLINED {
-                    self.note_inlined(depth);
+                    self.note_optimized(depth);
                 }
                 let of = self.enter_block(scope, entry, depth)?;
                 self.open(abbreviation, depth, of)
@@ -324,11 +324,11 @@ impl VariableSearch {
         }
     }
 
-    /// Notes that a call at a depth is inlined.
-    fn note_inlined(&mut self, depth: u64) {
+    /// Notes that the function that an entry at a depth is in was optimized.
+    fn note_optimized(&mut self, depth: u64) {
         if let Some(around) = self.block_around(depth) {
             if let Some(function) = self.functions.get_mut(around.function) {
-                function.has_inlined = true;
+                function.is_optimized = true;
             }
         }
     }
@@ -355,7 +355,7 @@ impl VariableSearch {
         let expression = match entry.location {
             AttributeValue::Block(expression) => expression,
             AttributeValue::Offset(_) | AttributeValue::ListAt(_) => {
-                self.is_optimized = true;
+                self.note_optimized(depth);
                 return Ok(());
             }
             _ => return Ok(()),
@@ -437,7 +437,6 @@ impl<'t, 'a> UnitScope<'t, 'a> {
             high: range.end,
             base: base_of(expression)?,
             is_optimized: false,
-            has_inlined: false,
             first: 0,
             count: 0,
         })
