@@ -349,7 +349,7 @@ impl FrameVariables {
     /// counter, as one.
     fn variable_in(&self, slot: &Slot, place: u64, pc: u64) -> Option<FrameVariable> {
         let end = slot.first.saturating_add(slot.count);
-        let mut found = None;
+        let mut found: Option<FrameVariable> = None;
         for variable in self.variables.get(slot.first..end)? {
             if variable.has(slot.whole.base, place) && self.blocks.has(&variable.block, pc) {
                 found = match found {
