@@ -50,7 +50,8 @@ def drawn_image(
 ) -> pathlib.Path:
     """A drawn program as a tenant."""
     (folder / "drawn.c").write_text(blocks.text_of(blocks.drawn(seed)), encoding="utf-8")
-    return image(folder, compiler, level, *words)
+    (folder / "given.c").write_text(blocks.GIVEN, encoding="utf-8")
+    return image(folder, compiler, level, *words, "./given.c")
 
 
 def check(alone: pathlib.Path, path: pathlib.Path, number: int) -> Ran:

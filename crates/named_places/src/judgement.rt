@@ -86,7 +86,7 @@ impl NamedPlaces {
         let is_shared = is_at_constant && self.may_be_of_top(at, index);
         Strictness {
             is_above: (is_exact && !is_shared) || is_above,
-            is_below: is_exact && self.is_below(index, is_indexed && is_fresh),
+            is_below: is_exact && !is_shared && self.is_below(index, is_indexed && is_fresh),
             is_lenient: !is_exact && is_own,
         }
     }
