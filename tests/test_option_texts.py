@@ -104,6 +104,13 @@ def test_options_of_each_text(moved: pathlib.Path, name: str) -> None:
         assert set(NAME.findall(" ".join(table))) == told - texts.but
 
 
+@pytest.mark.parametrize(("name", "like"), [("mte_why", "mte_run"), ("tenant-c++", "tenant-cc")])
+def test_completions_like_another_program(moved: pathlib.Path, name: str, like: str) -> None:
+    """The shells offer the options of the program that it calls."""
+    for offered in shells(moved, name):
+        assert offered == set(options_of(help_of(moved, like)))
+
+
 def near(source: random.Random, options: "list[str]") -> str:
     """A word that is almost an option: with a letter too many or another one."""
     while True:
