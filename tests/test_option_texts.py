@@ -128,11 +128,11 @@ def test_wrong_words(moved: pathlib.Path, name: str) -> None:
     for _ in range(DRAWN):
         word = near(source, list(told))
         said = refused(run([program, word, "x"]))
-        assert word in said and set(NAME.findall(said)) <= {*told, word}, said
+        assert word in said and set(NAME.findall(said)) <= {*told, word, "--help"}, said
     for option, form in told.items():
         if form.startswith((" ", "=")) and form.strip():
             said = refused(run([program, option]))
-            assert set(NAME.findall(said)) <= set(told)
+            assert set(NAME.findall(said)) <= {*told, "--help"}
             assert option in said
             assert not name.startswith("mte_") or f"'{option}{form}'" in said
 
