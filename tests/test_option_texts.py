@@ -83,7 +83,9 @@ def page_of(texts: Texts) -> str:
     page = read_page(texts.page)
     if not texts.part:
         return page
-    return re.findall(rf"^## {re.escape(texts.part)}\n(.*?)(?=^## |\Z)", page, re.M | re.S)[0]
+    found: list[str] = re.findall(rf"^## {re.escape(texts.part)}\n(.*?)(?=^## |\Z)", page,
+                                  re.M | re.S)
+    return found[0]
 
 
 @pytest.mark.parametrize("name", PROGRAMS)
