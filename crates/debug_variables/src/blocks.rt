@@ -9,7 +9,7 @@ const MOST: usize = 262_144;
 /// A block of a function, an inlined call, or a function as a whole: some ranges of addresses. It
 /// is less than those in it.
 #[derive(Clone, Copy, PartialEq, Eq, PartialOrd, Ord)]
-pub struct Block {
+pub struct LexicalBlock {
     /// The number of its first range, and how many there are.
     first: usize,
     count: usize,
@@ -34,14 +34,14 @@ impl BlockTable {
         &mut self,
         mut ranges: Ranges<'_>,
         budget: &mut Budget,
-    ) -> Result<Option<Block>, AllocError> {
+    ) -> Result<Option<LexicalBlock>, AllocError> {
         let first = self.ranges.len();
         for _ in first..MOST {
             match ranges.step() {
                 Some(range) if budget.spend(1).is_some() => self.ranges.push(range)?,
                 _ => {
                     let count = self.ranges.len().saturating_sub(first);
-                    return Ok(Some(Block { first, count }).filter(|block| block.count > 0));
+                    return Ok(Some(LexicalBlock { first, count }).filter(|block| block.count > 0));
                 }
             }
         }
@@ -49,7 +49,7 @@ impl BlockTable {
     }
 
     /// Whether an address is one of a block.
-    pub fn has(&self, block: &Block, address: u64) -> bool {
+    pub fn has(&self, block: &LexicalBlock, address: u64) -> bool {
         let end = block.first.saturating_add(block.count);
         let ranges = self.ranges.get(block.first..end).unwrap_or(&[]);
         ranges.iter().any(|range| range.has(address))

@@ -1,6 +1,6 @@
 //! The variables in the frames of functions.
 
-use crate::blocks::{Block, BlockTable};
+use crate::blocks::{BlockTable, LexicalBlock};
 use crate::declaration::{Declaration, VariableName};
 use crate::search::VariableSearch;
 use debug_info::DebugSections;
@@ -82,7 +82,7 @@ pub struct FrameVariable {
     /// The function, by its place among those that were found.
     pub(crate) function: usize,
     /// The block that it is declared in.
-    pub(crate) block: Block,
+    pub(crate) block: LexicalBlock,
     /// The base of its place.
     pub(crate) base: FrameBase,
     /// How far its first byte is from that, modulo 2^64.
@@ -131,7 +131,7 @@ impl FrameVariable {
 
 /// Bytes of a frame that variables of one base have: one, or several that share some.
 #[derive(Clone, Copy)]
-struct Slot {
+struct FrameSlot {
     /// All of them as one.
     whole: FrameVariable,
     /// The number of the first of them, and how many there are.
@@ -139,7 +139,7 @@ struct Slot {
     count: usize,
 }
 
-impl Slot {
+impl FrameSlot {
     /// Whether a variable shares bytes with it that does not begin in front of it.
     fn shares_with(&self, other: &FrameVariable) -> bool {
         let whole = &self.whole;
@@ -156,7 +156,7 @@ pub struct FrameVariables {
     functions: Vec<FrameFunction>,
     /// Those of one function and one base together, the lowest first; none has a byte of another of
     /// these.
-    slots: Vec<Slot>,
+    slots: Vec<FrameSlot>,
     /// Those of one slot together, the lowest first.
     variables: Vec<FrameVariable>,
     blocks: BlockTable,
@@ -294,7 +294,12 @@ impl FrameVariables {
     }
 
     /// The slot of a function with the byte at an address, unless two have it.
-    fn one_slot(&self, function: &FrameFunction, bases: &FrameBases, addr: u64) -> Option<Slot> {
+    fn one_slot(
+        &self,
+        function: &FrameFunction,
+        bases: &FrameBases,
+        addr: u64,
+    ) -> Option<FrameSlot> {
         let mut found = None;
         for base in BASES {
             let place = place_of(addr, bases.of(base));
@@ -334,7 +339,7 @@ impl FrameVariables {
         function: &FrameFunction,
         base: FrameBase,
         place: u64,
-    ) -> Option<(&[Slot], usize)> {
+    ) -> Option<(&[FrameSlot], usize)> {
         let end = function.first.saturating_add(function.count);
         let slots = self.slots.get(function.first..end)?;
         let behind = slots.partition_point(|slot| (slot.whole.base, slot.whole.place())
@@ -344,7 +349,7 @@ impl FrameVariables {
 
     /// The variables of a slot with the byte at a place in the innermost block that has the
     /// counter, as one.
-    fn variable_in(&self, slot: &Slot, place: u64, pc: u64) -> Option<FrameVariable> {
+    fn variable_in(&self, slot: &FrameSlot, place: u64, pc: u64) -> Option<FrameVariable> {
         let end = slot.first.saturating_add(slot.count);
         let mut found: Option<FrameVariable> = None;
         for variable in self.variables.get(slot.first..end)? {
@@ -390,15 +395,15 @@ fn place_of(addr: u64, value: u64) -> u64 {
 
 /// The slots of variables in order, which have those that are counted from the same base and share
 /// bytes.
-fn joined(alloc: Global, sorted: &[FrameVariable]) -> Result<Vec<Slot>, AllocError> {
-    let mut all: Vec<Slot> = Vec::with_capacity(alloc, sorted.len())?;
+fn joined(alloc: Global, sorted: &[FrameVariable]) -> Result<Vec<FrameSlot>, AllocError> {
+    let mut all: Vec<FrameSlot> = Vec::with_capacity(alloc, sorted.len())?;
     for (index, variable) in sorted.iter().enumerate() {
         match all.last_mut() {
             Some(last) if last.shares_with(variable) => {
                 last.whole = union_of(&last.whole, variable);
                 last.count = last.count.saturating_add(1);
             }
-            _ => all.push(Slot {
+            _ => all.push(FrameSlot {
                 whole: *variable,
                 first: index,
                 count: 1,
@@ -429,7 +434,7 @@ fn union_of(first: &FrameVariable, other: &FrameVariable) -> FrameVariable {
 }
 
 /// Enters in functions which slots are theirs.
-fn count_slots(functions: &mut [FrameFunction], slots: &[Slot]) {
+fn count_slots(functions: &mut [FrameFunction], slots: &[FrameSlot]) {
     for (index, slot) in slots.iter().enumerate() {
         if let Some(function) = functions.get_mut(slot.whole.function) {
             if function.count == 0 {

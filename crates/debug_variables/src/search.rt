@@ -1,6 +1,6 @@
 //! The search for variables through `.debug_info`.
 
-use crate::blocks::{Block, BlockTable};
+use crate::blocks::{BlockTable, LexicalBlock};
 use crate::declaration::{Declaration, VariableName};
 use crate::frame_table::{DeclaredObject, FrameBase, FrameFunction, FrameVariable};
 use crate::types::{TypeSize, UnitTypes};
@@ -58,7 +58,7 @@ const REGISTER_31: u8 = 0x6F;
 
 /// A function, a block or an inlined call whose entries are being read.
 #[derive(Clone, Copy)]
-struct OpenEntry {
+struct OpenScope {
     /// How many entries it is in.
     depth: u64,
     /// Where its variables are, if its function has a frame and its addresses are known.
@@ -69,7 +69,7 @@ struct OpenEntry {
 #[derive(Clone, Copy)]
 struct BlockOfFunction {
     function: usize,
-    block: Block,
+    block: LexicalBlock,
 }
 
 /// A unit, what its values mean, and its types.
@@ -92,7 +92,7 @@ pub struct VariableSearch {
     pub declared: Vec<DeclaredObject>,
     pub blocks: BlockTable,
     /// The functions and blocks around the entry that is read, the outermost first.
-    open: Vec<OpenEntry>,
+    open: Vec<OpenScope>,
     /// Whether something says that the unit was optimized.
     is_optimized: bool,
 }
@@ -279,7 +279,7 @@ impl VariableSearch {
         of: Option<BlockOfFunction>,
     ) -> Result<(), AllocError> {
         if abbreviation.has_children && self.open.len() < DEEPEST {
-            self.open.push(OpenEntry { depth, of })?;
+            self.open.push(OpenScope { depth, of })?;
         }
         Ok(())
     }

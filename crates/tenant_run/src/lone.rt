@@ -6,7 +6,7 @@ use crate::bench::{TenantBench, WatchLevel};
 use crate::ending::TenantEnding;
 use crate::observer::Observer;
 use crate::output_stream::OutputStream;
-use crate::progress::Progress;
+use crate::progress::ProgressLog;
 use crate::slices::run_slices;
 use crate::store_watcher::StoreWatcher;
 use crate::survey::Survey;
@@ -112,7 +112,7 @@ impl<'x> LoneTenant<'x> {
         bench: &mut TenantBench,
         observer: &mut Observer<'_>,
     ) -> Result<(), Failure<'a>> {
-        let mut out = OutputStream::new(rt, Progress::open(rt, options)?);
+        let mut out = OutputStream::new(rt, ProgressLog::open(rt, options)?);
         observer.shown = observer.needs();
         run_slices(bench, observer, &mut out, options, options.length.steps);
         if wants_second_run(bench, options, observer) {

@@ -1,6 +1,6 @@
 //! The output of a tenant, on standard output, and how far it is.
 
-use crate::progress::Progress;
+use crate::progress::ProgressLog;
 use mte_tenant::{Output, TenantParts};
 use std::io::Write;
 
@@ -15,12 +15,12 @@ pub struct OutputStream<'r> {
     /// Whether a write failed; after that there are no more.
     pub has_failed: bool,
     /// Where a line after each slice goes.
-    progress: Progress,
+    progress: ProgressLog,
 }
 
 impl<'r> OutputStream<'r> {
     /// One that writes to standard output.
-    pub fn new(rt: &'r HostRuntime, progress: Progress) -> OutputStream<'r> {
+    pub fn new(rt: &'r HostRuntime, progress: ProgressLog) -> OutputStream<'r> {
         OutputStream {
             rt: Some(rt),
             count: 0,
@@ -35,7 +35,7 @@ impl<'r> OutputStream<'r> {
             rt: None,
             count: 0,
             has_failed: false,
-            progress: Progress::none(),
+            progress: ProgressLog::none(),
         }
     }
 

@@ -10,7 +10,7 @@ use std::io::{BufWriter, Write};
 /// Writes a line after a slice, of each number of steps once, whichever run of the tenant it comes
 /// from. Where one cannot be written, no run of the tenant goes on from there.
 #[derive(Drop)]
-pub(crate) struct Progress {
+pub(crate) struct ProgressLog {
     /// None where nothing is written.
     out: Option<BufWriter<File>>,
     /// The steps of the last line.
@@ -19,10 +19,10 @@ pub(crate) struct Progress {
     pub(crate) stopped: Option<u64>,
 }
 
-impl Progress {
+impl ProgressLog {
     /// One that writes nothing.
-    pub(crate) fn none() -> Progress {
-        Progress {
+    pub(crate) fn none() -> ProgressLog {
+        ProgressLog {
             out: None,
             told: 0,
             stopped: None,
@@ -33,8 +33,8 @@ impl Progress {
     pub(crate) fn open<'a>(
         rt: &HostRuntime,
         options: &'a Options,
-    ) -> Result<Progress, Failure<'a>> {
-        let mut progress = Progress::none();
+    ) -> Result<ProgressLog, Failure<'a>> {
+        let mut progress = ProgressLog::none();
         if let Some(name) = &options.length.progress {
             let file = create(rt, name.as_str())?;
             progress.out = Some(BufWriter::new(rt.alloc(), file)?);
