@@ -38,13 +38,15 @@ EXAMPLE_ROWS = sources.read_examples()
 
 @pytest.fixture(scope="session", name="whole")
 def fixture_made(alone: pathlib.Path, shared: pathlib.Path) -> pathlib.Path:
-    """The page of the programs that are tested."""
+    """The page of the programs that are tested. It is not built by each run of the suite."""
     assert alone.exists()
+    if places.BUILT is None and "TOMBOLOPAN_BROWSER" not in os.environ:
+        give_up("TOMBOLOPAN_BROWSER is not set: a page takes some ten minutes of a processor")
     return playground.playground(shared)
 
 
 def test_the_page_is_made(whole: pathlib.Path) -> None:
-    """Which takes a worker some minutes (tests/conftest.py has it begin with that)."""
+    """It takes a worker some minutes (tests/conftest.py has it begin with that)."""
     assert whole.exists()
 
 
