@@ -110,7 +110,7 @@ impl<'a> Traveller<'a> {
             if !self.now.can_go_on() {
                 break;
             }
-            if until == Until::Point && self.is_skipping(alloc, points) {
+            if until == Until::Point && self.skip_slices(alloc, points) {
                 return Ok(StopReason::Breakpoint);
             }
         }
@@ -155,7 +155,7 @@ impl<'a> Traveller<'a> {
 
     /// Moves it forwards over the slices that meet no point; whether it came to a breakpoint.
     /// Another one passes them first; where there is no memory for that one, it stays.
-    fn is_skipping(&mut self, alloc: Global, points: &Points) -> bool {
+    fn skip_slices(&mut self, alloc: Global, points: &Points) -> bool {
         let before = self.now.steps();
         let steps = self.steps_to_skip(alloc, points).unwrap_or(before);
         self.move_to(alloc, steps);

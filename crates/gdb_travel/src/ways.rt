@@ -27,8 +27,9 @@ fn run_slices(tenant: &mut Debuggee<'_>, steps: u64) {
     }
 }
 
-/// Attempts the slice that comes next; whether it meets a point, or none comes or one goes on.
-fn is_met_by_slice(tenant: &mut Debuggee<'_>, points: &Points) -> bool {
+/// Attempts the slice that comes next. `false` where it meets no point; `true` also where no slice
+/// is attempted, since none comes or one goes on.
+fn try_slice(tenant: &mut Debuggee<'_>, points: &Points) -> bool {
     let mut screen = points.screen();
     tenant.forget_hit();
     let is_attempted = tenant.attempt_slice_watched(&mut screen);
@@ -40,7 +41,7 @@ fn is_met_by_slice(tenant: &mut Debuggee<'_>, points: &Points) -> bool {
 pub fn pass_slices(tenant: &mut Debuggee<'_>, points: &Points) -> u64 {
     let mut steps = tenant.steps();
     for _ in 0..u64::MAX {
-        if is_met_by_slice(tenant, points) || !tenant.can_go_on() {
+        if try_slice(tenant, points) || !tenant.can_go_on() {
             return steps;
         }
         steps = tenant.steps();
@@ -106,7 +107,7 @@ pub fn last_point(tenant: &mut Debuggee<'_>, points: &Points, steps: u64) -> Opt
         let found = if end > steps || !tenant.is_between_slices() {
             let found = last_attempted(tenant, points, end.min(steps));
             found.map(|(step, stop)| LastPoint::At(step, stop))
-        } else if is_met_by_slice(tenant, points) {
+        } else if try_slice(tenant, points) {
             Some(LastPoint::In(before, tenant.steps()))
         } else {
             None
