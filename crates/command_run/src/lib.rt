@@ -4,7 +4,6 @@
 
 mod core_dump;
 mod debugging;
-mod lost;
 mod map;
 mod running;
 mod telling;

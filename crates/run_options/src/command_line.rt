@@ -34,8 +34,9 @@ fn print_text(rt: &HostRuntime, error: &Error) -> EarlyEnd {
     }
 }
 
-/// Reads the words of a command line; `None` where an allocation failed.
-fn parse(alloc: Global, words: &[String]) -> Result<Option<Options>, Error> {
+/// Reads the words of a command line, of which the first is the program's name; `None` where an
+/// allocation failed.
+pub fn parse(alloc: Global, words: &[String]) -> Result<Option<Options>, Error> {
     if words.iter().any(|word| word.as_str() == "--help-all") {
         return parse_by(alloc, &mut command(alloc, true)?, &HELP);
     }

@@ -8,5 +8,5 @@ mod option_rows;
 mod table;
 mod values;
 
-pub use command_line::read_command_line;
+pub use command_line::{parse, read_command_line};
 pub use mte_program::EarlyEnd;

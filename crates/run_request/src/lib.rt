@@ -3,7 +3,6 @@
 #![tactic(auto)]
 
 mod files;
-mod refusal;
 mod replay;
 mod request;
 mod session_course;

@@ -1,6 +1,5 @@
 //! Why an image is refused, and why a session never admits a tenant.
 
-use crate::refusal::remedy_of;
 use crate::replay::decide;
 use common::Obstacle;
 use mte_sched::Host;
@@ -9,7 +8,7 @@ use mte_tenant::{AdmitError, Refusal, Terms, charge};
 use run_terms::{Failure, Replay};
 use std::alloc::Global;
 use std::fmt;
-use tenant_run::REFUSED;
+use tenant_run::{REFUSED, RefusalLines, remedy_of};
 
 /// An admission that is refused.
 #[derive(Clone, Copy)]
@@ -51,9 +50,8 @@ impl fmt::Display for RefusedAdmission {
 
 /// Says why an image is refused, and returns the exit status.
 pub fn refuse(rt: &HostRuntime, error: AdmitError) -> u8 {
-    let remedy = remedy_of(error);
-    let _ = eprintln!(rt; "mte_run: the tenant is refused: {error}{remedy}");
-    let _ = eprintln!(rt; "mte_run: ended by refusal, status {REFUSED}");
+    let lines = RefusalLines(error);
+    let _ = eprint!(rt; "{lines}");
     REFUSED
 }
 

@@ -111,7 +111,7 @@ impl<'a> Failure<'a> {
     }
 
     /// The exit status.
-    fn status(&self) -> u8 {
+    pub fn status(&self) -> u8 {
         match self {
             Failure::Memory | Failure::Check(_) => 4,
             Failure::Read(_, _) => 5,

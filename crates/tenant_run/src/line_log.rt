@@ -35,6 +35,17 @@ pub fn observer_of<'a, 'i>(
     Ok(observer_with(rt.alloc(), output, tracer, &terms)?)
 }
 
+/// The records of a tenant, as the options request them, of which no line is written while it runs.
+pub fn quiet_observer<'i>(
+    alloc: Global,
+    output: &OutputOptions,
+    terms: &CheckTerms<'i>,
+) -> Result<Observer<'i>, AllocError> {
+    let mut observer = observer_with(alloc, output, None, terms)?;
+    observer.sees_all = output.traced.is_some();
+    Ok(observer)
+}
+
 /// The log with the writer of its lines.
 fn observer_with<'i>(
     alloc: Global,

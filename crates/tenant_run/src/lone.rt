@@ -48,9 +48,25 @@ pub struct LoneTenant<'x> {
 }
 
 impl<'x> LoneTenant<'x> {
-    /// A tenant of an image at its first instruction, under the seed of the run that is reported:
-    /// of several the first under which it does not exit. A line says how the runs under several
-    /// seeds ended.
+    /// A tenant of an image under the seed of the run that is reported: of several the first under
+    /// which it does not exit. How the runs under several seeds ended, where there were some.
+    pub fn chosen(
+        alloc: Global,
+        options: &Options,
+        image: &'x [u8],
+        input: &'x [u8],
+        suppressions: &'x Suppressions,
+    ) -> Result<(LoneTenant<'x>, Option<Survey>), Obstacle<AdmitError>> {
+        let seed = options.run.terms.seed;
+        if options.run.seeds < 2 {
+            return Ok((LoneTenant { image, input, seed }, None));
+        }
+        let survey = Survey::of(alloc, options, image, input, suppressions)?;
+        let seed = survey.seed(seed);
+        Ok((LoneTenant { image, input, seed }, Some(survey)))
+    }
+
+    /// Such a tenant at its first instruction. A line says how the runs under several seeds ended.
     pub fn admitted(
         rt: &HostRuntime,
         options: &Options,
@@ -58,21 +74,16 @@ impl<'x> LoneTenant<'x> {
         input: &'x [u8],
         suppressions: &'x Suppressions,
     ) -> Result<(LoneTenant<'x>, TenantBench), Obstacle<AdmitError>> {
-        let given = options.run.terms.seed;
-        let seed = if options.run.seeds < 2 {
-            given
-        } else {
-            let survey = Survey::of(rt.alloc(), options, image, input, suppressions)?;
+        let (tenant, survey) = LoneTenant::chosen(rt.alloc(), options, image, input, suppressions)?;
+        if let Some(survey) = survey {
             let _ = eprintln!(rt; "mte_run: {survey}");
-            survey.seed(given)
-        };
-        let tenant = LoneTenant { image, input, seed };
+        }
         let bench = tenant.bench(rt.alloc(), options)?;
         Ok((tenant, bench))
     }
 
     /// The tenant at its first instruction.
-    fn bench(&self, alloc: Global, options: &Options) -> Result<TenantBench, Obstacle<AdmitError>> {
+    pub fn bench(&self, alloc: Global, options: &Options) -> Result<TenantBench, Obstacle<AdmitError>> {
         let admission = admission_of(options, self.image, self.input, self.seed);
         TenantBench::new(alloc, &admission)
     }
@@ -113,13 +124,7 @@ impl<'x> LoneTenant<'x> {
         observer: &mut Observer<'_>,
     ) -> Result<(), Failure<'a>> {
         let mut out = OutputStream::new(rt, ProgressLog::open(rt, options)?);
-        observer.shown = observer.needs();
-        run_slices(bench, observer, &mut out, options, options.length.steps);
-        if wants_second_run(bench, options, observer) {
-            self.run_again(rt.alloc(), options, bench, observer, &mut out)?;
-        }
-        self.run_to_finding(rt.alloc(), options, bench, observer, &mut out)?;
-        self.find_store(rt.alloc(), options, bench, observer)?;
+        self.run_into(rt.alloc(), options, bench, observer, &mut out)?;
         if out.has_failed {
             return Err(Failure::Write);
         }
@@ -129,6 +134,35 @@ impl<'x> LoneTenant<'x> {
             );
         }
         Ok(())
+    }
+
+    /// Runs the tenant so, and writes nothing of its output.
+    pub fn run_silently<'a>(
+        &self,
+        alloc: Global,
+        options: &Options,
+        bench: &mut TenantBench,
+        observer: &mut Observer<'_>,
+    ) -> Result<(), Failure<'a>> {
+        self.run_into(alloc, options, bench, observer, &mut OutputStream::silent())
+    }
+
+    /// Runs the tenant so, and writes its output to where it goes.
+    fn run_into<'a>(
+        &self,
+        alloc: Global,
+        options: &Options,
+        bench: &mut TenantBench,
+        observer: &mut Observer<'_>,
+        out: &mut OutputStream<'_>,
+    ) -> Result<(), Failure<'a>> {
+        observer.shown = observer.needs();
+        run_slices(bench, observer, out, options, options.length.steps);
+        if wants_second_run(bench, options, observer) {
+            self.run_again(alloc, options, bench, observer, out)?;
+        }
+        self.run_to_finding(alloc, options, bench, observer, out)?;
+        self.find_store(alloc, options, bench, observer)
     }
 
     /// The second run, which shows what the first one did not.

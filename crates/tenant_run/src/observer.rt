@@ -41,6 +41,8 @@ pub struct Observer<'a> {
     turns: Option<HeapCircularBuffer<Turn>>,
     /// The lines.
     tracer: Option<Tracer<'a>>,
+    /// Whether it is shown each attempt, also where it writes no line.
+    pub sees_all: bool,
     /// The bounds of chunks, where accesses are to keep to them.
     exact: Option<Exact>,
     /// Where pointers come from, where each is to be used as its own chunk allows.
@@ -74,6 +76,7 @@ impl<'a> Observer<'a> {
             last: HeapCircularBuffer::with_capacity(alloc, count.max(LEAST))?,
             turns,
             tracer,
+            sees_all: false,
             exact,
             checker,
             statistics: None,
@@ -92,7 +95,7 @@ impl<'a> Observer<'a> {
     pub fn needs(&self) -> WatchLevel {
         let judges_accesses = self.exact.is_some() || self.statistics.is_some();
         let counts_and_checks = self.statistics.is_some() && self.checker.is_some();
-        if self.tracer.is_some() || counts_and_checks {
+        if self.sees_all || self.tracer.is_some() || counts_and_checks {
             WatchLevel::Attempts
         } else if !judges_accesses && self.checker.is_none() {
             WatchLevel::Nothing

@@ -1,10 +1,25 @@
-//! The text of a tenant's refusal.
+//! The texts of a tenant's refusal.
 
+use crate::ending::REFUSED;
 use mte_elf::ElfError;
 use mte_tenant::AdmitError;
+use std::fmt;
+
+/// The lines of a tenant alone that is refused.
+#[derive(Clone, Copy)]
+pub struct RefusalLines(pub AdmitError);
+
+impl fmt::Display for RefusalLines {
+    fn fmt<W: fmt::Write>(&self, f: &mut fmt::Formatter<W>) -> fmt::Result {
+        let error = self.0;
+        let remedy = remedy_of(error);
+        write!(f, "mte_run: the tenant is refused: {error}{remedy}\n")?;
+        write!(f, "mte_run: ended by refusal, status {REFUSED}\n")
+    }
+}
 
 /// The text after the name of a refusal.
-pub(crate) fn remedy_of(error: AdmitError) -> &'static str {
+pub fn remedy_of(error: AdmitError) -> &'static str {
     match error {
         AdmitError::Image(error) => remedy_of_image(error),
         AdmitError::ReservationTooSmall => ": --pages gives it more",
