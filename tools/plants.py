@@ -195,7 +195,7 @@ def build_switched(work: pathlib.Path, count: int, seed: int) -> tuple[bytes, li
     text, crates = module.read_text(encoding="utf-8"), switches.crates_that_explain(ROOT)
     places = switches.draw(text, crates, count, seed)
     module.write_text(switches.with_switches(text, crates, places), encoding="utf-8")
-    unproved.compile_module(module, work / "mte_run", False)
+    unproved.compile_module(module, work / "mte_run")
     return (work / "mte_run").read_bytes(), places
 
 

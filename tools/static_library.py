@@ -1,11 +1,12 @@
 #!/usr/bin/env python3
-"""Builds the static library of the crate tombolopan_c over the libraries that `rt ci` has proved.
+"""Builds the static library of the crates tombolopan_c and explain_c over the libraries that `rt
+ci` has proved.
 
     tools/static_library.py OUT.a
 
 `rt ci` proves a static library and builds no archive, and `rt lib` would prove all crates below it
-once more, since it takes none of the gate's. This proves tombolopan_c itself again, in two minutes
-of one processor, over crates/*/out/rlib as the gate left them, and builds the archive. It trusts
+once more, since it takes none of the gate's. This proves the two crates again, in three minutes of
+one processor, over crates/*/out/rlib as the gate left them, and builds the archive. It trusts
 what rt ci itself trusts between crates, the statements of the libraries below, and takes nothing
 else from an earlier run. A library that is older than its sources is refused.
 """
@@ -22,7 +23,7 @@ from types import ModuleType
 from typing import Any
 
 ROOT = pathlib.Path(__file__).resolve().parent.parent
-CRATE = ROOT / "crates" / "tombolopan_c"
+CRATES = [ROOT / "crates" / name for name in ("tombolopan_c", "explain_c")]
 
 
 def stop(why: str) -> None:
@@ -80,7 +81,28 @@ def build(rtlib: ModuleType, folder: pathlib.Path, crate: Any, archive: pathlib.
     if "--backend" in rtlib.help_of("build"):
         words += ["--backend", "llvm"]
     whole = [*rtlib.guarded(), rtlib.RATTLE, "build", *words, "-o", str(archive)]
-    return subprocess.run(whole, cwd=CRATE, stdin=subprocess.DEVNULL, check=False).returncode
+    ran = subprocess.run(whole, cwd=crate.folder, stdin=subprocess.DEVNULL, check=False)
+    return ran.returncode
+
+
+def join(parts: list[pathlib.Path], out: pathlib.Path) -> None:
+    """One archive of the objects of several."""
+    script = "".join([f"create {out}\n", *(f"addlib {part}\n" for part in parts), "save\nend\n"])
+    subprocess.run(["ar", "-M"], input=script, text=True, check=True)
+
+
+def build_crate(rtlib: ModuleType, folder: pathlib.Path, path: pathlib.Path,
+                archive: pathlib.Path) -> int:
+    """Builds the archive of a crate, while no other command changes what is below it."""
+    crates = rtlib.crates_below(str(path))
+    held = rtlib.lock(crates)
+    crate = next(it for it in crates if it.name == path.name)
+    for it in crate.below():
+        look_at(it)
+    status = build(rtlib, folder, crate, archive)
+    for it in held:
+        os.close(it)
+    return status
 
 
 def main() -> int:
@@ -91,20 +113,17 @@ def main() -> int:
     folder = kit()
     rtlib = toolchain(folder)
     os.chdir(ROOT)
-    crates = rtlib.crates_below(str(CRATE))
-    held = rtlib.lock(crates)
-    crate = next(it for it in crates if it.name == CRATE.name)
-    for it in crate.below():
-        look_at(it)
     with tempfile.TemporaryDirectory(prefix="static-library-") as room:
-        archive = pathlib.Path(room) / "archive.a"
-        status = build(rtlib, folder, crate, archive)
-        if status == 0:
-            out.parent.mkdir(parents=True, exist_ok=True)
-            shutil.copyfile(archive, out)
-    for it in held:
-        os.close(it)
-    return status
+        parts = [pathlib.Path(room) / f"{path.name}.a" for path in CRATES]
+        for path, part in zip(CRATES, parts):
+            status = build_crate(rtlib, folder, path, part)
+            if status != 0:
+                return status
+        whole = pathlib.Path(room) / "whole.a"
+        join(parts, whole)
+        out.parent.mkdir(parents=True, exist_ok=True)
+        shutil.copyfile(whole, out)
+    return 0
 
 
 if __name__ == "__main__":
