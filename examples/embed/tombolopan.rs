@@ -1197,3 +1197,102 @@ pub fn disassemble(word: u32, pc: u64) -> Option<String> {
 pub fn heap_calls(setup: &HeapSetup, calls: &mut [HeapCall]) -> u32 {
     unsafe { tb_heap_calls(setup, calls.as_mut_ptr(), calls.len()) }
 }
+
+/// The form of an answer of `explain`.
+#[derive(Clone, Copy, Debug, PartialEq, Eq)]
+#[repr(u32)]
+pub enum AnswerForm {
+    /// The lines that `mte_run` writes on standard error.
+    Report = 0,
+    /// The tenant's output.
+    Output = 1,
+    /// The document of `--json`.
+    Json = 2,
+    /// The log of `--sarif`.
+    Sarif = 3,
+    /// The page of `--html`.
+    Page = 4,
+    /// The picture of `--map`.
+    Picture = 5,
+}
+
+/// An image, what it may read, the name that is told as that of its file, and options of a command
+/// line of `mte_run`.
+#[derive(Clone, Copy, Debug)]
+pub struct Question<'a> {
+    pub image: &'a [u8],
+    pub input: &'a [u8],
+    pub name: &'a str,
+    pub options: &'a [&'a str],
+    pub form: AnswerForm,
+}
+
+/// What is told of a run.
+#[derive(Clone, Debug, PartialEq, Eq)]
+pub struct Explained {
+    /// The text; where the code is `TB_BAD_ARGUMENT`, what is wrong.
+    pub text: Vec<u8>,
+    /// How many instructions the tenant attempted.
+    pub steps: u64,
+    /// `TB_OK`, `TB_BAD_ARGUMENT` or `TB_OUT_OF_MEMORY`.
+    pub code: u32,
+    /// The status that `mte_run` exits with.
+    pub status: u32,
+}
+
+#[repr(C)]
+struct RawQuestion {
+    image: *const u8,
+    image_length: usize,
+    input: *const u8,
+    input_length: usize,
+    name: *const u8,
+    name_length: usize,
+    options: *const u8,
+    options_length: usize,
+    form: u32,
+}
+
+#[repr(C)]
+#[derive(Default)]
+struct RawExplainEnd {
+    length: u64,
+    steps: u64,
+    code: u32,
+    status: u32,
+}
+
+const _: () = assert!(size_of::<RawQuestion>() == 72);
+const _: () = assert!(size_of::<RawExplainEnd>() == 24);
+
+unsafe extern "C" {
+    fn tb_explain(
+        question: *const RawQuestion,
+        answer: *mut u8,
+        room: usize,
+        end: *mut RawExplainEnd,
+    ) -> u32;
+}
+
+/// Runs an image alone, and tells what `mte_run` tells of it.
+pub fn explain(question: &Question<'_>) -> Explained {
+    let options: String = question.options.iter().map(|it| format!("{it}\n")).collect();
+    let raw = RawQuestion {
+        image: question.image.as_ptr(),
+        image_length: question.image.len(),
+        input: question.input.as_ptr(),
+        input_length: question.input.len(),
+        name: question.name.as_ptr(),
+        name_length: question.name.len(),
+        options: options.as_ptr(),
+        options_length: options.len(),
+        form: question.form as u32,
+    };
+    let mut end = RawExplainEnd::default();
+    let mut text = vec![0; 1 << 16];
+    while unsafe { tb_explain(&raw, text.as_mut_ptr(), text.len(), &mut end) } == TB_NO_ROOM {
+        text.resize(end.length as usize, 0);
+    }
+    text.truncate(end.length as usize);
+    Explained { text, steps: end.steps, code: end.code, status: end.status }
+}

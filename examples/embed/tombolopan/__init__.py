@@ -133,6 +133,7 @@ from .enums import (
     text, trespass_name,
 )
 from .examples import example
+from .explaining import AnswerForm, Chunk, Explained, Explanation, Frame, explain, why
 from .faults import Fault, MappingError, Refused, ScriptError
 from .fuzzing import Fuzz, FuzzFinding, FuzzRun
 from .heaps import HeapAnswer, heap_calls
@@ -148,25 +149,25 @@ from .traces import Access, access_size, trace, trace_step
 
 __all__ = [
     "ABORT", "ACCESS_READ", "ACCESS_READ_TAG", "ACCESS_WRITE", "ACCESS_WRITE_TAG", "ALIGNMENT",
-    "ALREADY_FREE", "ALREADY_MAPPED", "Access", "AccessKind", "Answer", "Attrs", "BAD_ARGUMENT",
-    "BAD_HEADERS", "BAD_NUMBER", "BAD_RESERVATION", "BREAKPOINT", "Block", "CALLOC", "CODES",
-    "Code", "EXEC", "FAULT", "FAULT_KINDS", "FREE", "FREED", "Fault", "FaultKind", "Fuzz",
-    "FuzzFinding", "FuzzRun", "HEADER_CORRUPT", "HEAP_ABORTS", "Heap", "HeapAbort", "HeapAnswer",
-    "HeapCall", "HeapOp", "Hooked", "ILLEGAL", "INTERPRETER", "INVALID_STATE", "Instruction",
-    "LOAD", "LOAD_TAG", "LiveChunk", "MALLOC", "MEMALIGN", "MISALIGNED", "Machine", "MappingError",
-    "Memory", "NOT_AARCH64", "NOT_A_BLOCK", "NOT_ELF64", "NOT_EXEC", "NOT_MAPPED", "NO_CHUNK",
-    "NO_ENTRY", "NO_MACHINE", "NO_ROOM", "NO_SUCH_FILE", "OK", "OUT_OF_MEMORY", "OVERLAP",
-    "PAST_SIZE", "PC_ALIGNMENT", "PERMISSION", "READ", "REALLOC", "REFUSALS", "REFUSED",
-    "RESERVATION_TOO_SMALL", "Refusal", "Refused", "Region", "Regs", "Replay", "SCRIPT",
-    "SCRIPT_FAULTS", "SEGMENT_RANGE", "SHORT", "SP_ALIGNMENT", "STATUSES", "STATUS_ABORT",
-    "STATUS_ASYNC", "STATUS_BREAK", "STATUS_EXIT", "STATUS_FAULT", "STATUS_ILLEGAL",
-    "STATUS_RUNNING", "STOPPED", "STORE", "SVC", "SYNTAX", "ScriptError", "ScriptFault", "Session",
-    "Stop", "TAGGED", "TAG_CHECK", "TOO_MANY_EVENTS", "TRANSLATION", "TRESPASSES", "Tenant",
-    "TenantStatus", "TracedAccess", "Trespass", "UNMAPPED", "USABLE_SIZE", "VERSION", "WRITE",
-    "access_size", "alone", "build_info", "disassemble", "example", "fault_kind_name",
-    "heap_abort_name", "heap_calls", "hook_block", "hook_code", "hook_mem", "refusal_name", "run",
-    "script_fault_name", "session", "step", "tenant_status_name", "text", "trace", "trace_step",
-    "trespass_name",
+    "ALREADY_FREE", "ALREADY_MAPPED", "Access", "AccessKind", "Answer", "AnswerForm", "Attrs",
+    "BAD_ARGUMENT", "BAD_HEADERS", "BAD_NUMBER", "BAD_RESERVATION", "BREAKPOINT", "Block", "CALLOC",
+    "CODES", "Chunk", "Code", "EXEC", "Explained", "Explanation", "FAULT", "FAULT_KINDS", "FREE",
+    "FREED", "Fault", "FaultKind", "Frame", "Fuzz", "FuzzFinding", "FuzzRun", "HEADER_CORRUPT",
+    "HEAP_ABORTS", "Heap", "HeapAbort", "HeapAnswer", "HeapCall", "HeapOp", "Hooked", "ILLEGAL",
+    "INTERPRETER", "INVALID_STATE", "Instruction", "LOAD", "LOAD_TAG", "LiveChunk", "MALLOC",
+    "MEMALIGN", "MISALIGNED", "Machine", "MappingError", "Memory", "NOT_AARCH64", "NOT_A_BLOCK",
+    "NOT_ELF64", "NOT_EXEC", "NOT_MAPPED", "NO_CHUNK", "NO_ENTRY", "NO_MACHINE", "NO_ROOM",
+    "NO_SUCH_FILE", "OK", "OUT_OF_MEMORY", "OVERLAP", "PAST_SIZE", "PC_ALIGNMENT", "PERMISSION",
+    "READ", "REALLOC", "REFUSALS", "REFUSED", "RESERVATION_TOO_SMALL", "Refusal", "Refused",
+    "Region", "Regs", "Replay", "SCRIPT", "SCRIPT_FAULTS", "SEGMENT_RANGE", "SHORT", "SP_ALIGNMENT",
+    "STATUSES", "STATUS_ABORT", "STATUS_ASYNC", "STATUS_BREAK", "STATUS_EXIT", "STATUS_FAULT",
+    "STATUS_ILLEGAL", "STATUS_RUNNING", "STOPPED", "STORE", "SVC", "SYNTAX", "ScriptError",
+    "ScriptFault", "Session", "Stop", "TAGGED", "TAG_CHECK", "TOO_MANY_EVENTS", "TRANSLATION",
+    "TRESPASSES", "Tenant", "TenantStatus", "TracedAccess", "Trespass", "UNMAPPED", "USABLE_SIZE",
+    "VERSION", "WRITE", "access_size", "alone", "build_info", "disassemble", "example", "explain",
+    "fault_kind_name", "heap_abort_name", "heap_calls", "hook_block", "hook_code", "hook_mem",
+    "refusal_name", "run", "script_fault_name", "session", "step", "tenant_status_name", "text",
+    "trace", "trace_step", "trespass_name", "why",
 ]
 # Their names in tracebacks and in what is pickled.
 for _it in (Fault, MappingError, Refused, ScriptError, Memory, Region, Regs, Session, Answer,
