@@ -19,7 +19,7 @@ LONGEST = 1_023
 # Expressions and types that are not understood: the whole name is shown as the linker has it.
 NOT_UNDERSTOOD = (
     "step", "alignment", "rare_cast", "made_of", "selected", "creation", "index", "vendor",
-    "choice", "construction",
+    "choice",
 )
 # Names that c++filt does not read as the ABI has them, and llvm-cxxfilt does. It counts a type
 # without a name twice for `S_`, gives a constructor of a lambda the name around it, writes a comma
@@ -29,13 +29,11 @@ AS_THE_ABI = (
     "unnamed", "member_of_none", "empty_pack", "noexcept_reference", "no_exception",
     "alignment_of_type",
 )
-# Where mte_run differs from both, which cases below hold.
-DIFFERENT = ("const_reference", "const_function", "size", "tagged_class")
 LAMBDA = re.compile(r"'lambda(\d*)'(\([^()]*(?:\([^()]*\)[^()]*)*\))")
+# A number of one digit after a local name, and a digit: c++filt reads them as one number.
+LOCAL_NUMBER = re.compile(r"_[03]\d")
 UNNAMED = re.compile(r"'unnamed(\d*)'")
 CLONES = re.compile(r" \(((?:\.[a-z]+(?:\.\d+)*)+)\)$")
-# A class of the library, in front of a letter that could begin the name of its constructor.
-SHORT_CLASS = re.compile("S[absiod][CD]")
 
 
 def drawn(seed: int, without: tuple[str, ...]) -> list[str]:
@@ -43,7 +41,7 @@ def drawn(seed: int, without: tuple[str, ...]) -> list[str]:
     names, source = set[str](), Names(seed, frozenset(without))
     while len(names) < DRAWN:
         name = source.whole()
-        if len(name) <= LONGEST and not SHORT_CLASS.search(name):
+        if len(name) <= LONGEST:
             names.add(name)
     return sorted(names)
 
@@ -91,7 +89,7 @@ def test_names_are_those_of_cxxfilt(alone: pathlib.Path, tmp_path: pathlib.Path)
     """Nested and local names, templates, operators, lambdas, function types, expressions,
     references, tables and thunks are told as c++filt writes them, where it understands them."""
     need("c++filt")
-    names = drawn(1, (*NOT_UNDERSTOOD, *AS_THE_ABI, *DIFFERENT))
+    names = [it for it in drawn(1, (*NOT_UNDERSTOOD, *AS_THE_ABI)) if not LOCAL_NUMBER.search(it)]
     rows = list(zip(names, filtered("c++filt", names), told(alone, tmp_path, names)))
     understood = [row for row in rows if row[0] != row[1]]
     assert len(understood) > len(rows) * 98 // 100
@@ -101,10 +99,11 @@ def test_names_are_those_of_cxxfilt(alone: pathlib.Path, tmp_path: pathlib.Path)
 
 def test_names_are_those_of_the_abi(alone: pathlib.Path, tmp_path: pathlib.Path) -> None:
     """Where c++filt differs, what is told is what llvm-cxxfilt writes, but for blanks and forms.
-    It has other parentheses in expressions, and no name for a constructor of a class with a tag, so
-    neither is drawn."""
+    It has other parentheses in expressions, no name for a constructor of a class with a tag, and
+    qualifiers of a function after what its result has behind the name, so none is drawn."""
     need("c++filt", "llvm-cxxfilt")
-    names = drawn(2, (*NOT_UNDERSTOOD, *DIFFERENT, "computed", "deduced", "member_of_tagged"))
+    names = drawn(2, (*NOT_UNDERSTOOD, "computed", "deduced", "member_of_tagged",
+                      "qualified_returns"))
     rows = list(zip(names, filtered("c++filt", names), filtered("llvm-cxxfilt", names),
                     told(alone, tmp_path, names)))
     other = [row for row in rows if row[1] != row[3]
@@ -119,7 +118,7 @@ def test_names_that_are_not_understood(
 ) -> None:
     """What mte_run does not understand is shown as the linker has it, and never in part."""
     need("c++filt")
-    names = drawn(3, tuple(it for it in (*NOT_UNDERSTOOD, *AS_THE_ABI, *DIFFERENT) if it != kind))
+    names = drawn(3, tuple(it for it in (*NOT_UNDERSTOOD, *AS_THE_ABI) if it != kind))
     rows = list(zip(names, filtered("c++filt", names), told(alone, tmp_path, names)))
     other = [row for row in rows if row[1] != row[0] and row[2] not in row[:2]]
     assert not other, shown(other)
@@ -136,10 +135,8 @@ def test_legacy_names_of_rust(alone: pathlib.Path, tmp_path: pathlib.Path) -> No
     assert not other, shown(other)
 
 
-# ---- where mte_run differs from c++filt, and mostly from llvm-cxxfilt too
-
-# A kind of difference, and the smallest name that shows it.
-UNLIKE = {
+# The smallest name of each kind that is easily written in another way.
+SMALL = {
     "a class of the library before D": "_Z1fSsDi",
     "`&` behind `const`": "_Z1fPKFvvRE",
     "a function that returns an array": "_ZNK1A1fIiEERA3_iv",
@@ -152,9 +149,8 @@ UNLIKE = {
 }
 
 
-@pytest.mark.parametrize("name", UNLIKE.values(), ids=[it.replace(" ", "-") for it in UNLIKE])
-@pytest.mark.xfail(strict=True, reason="mte_run does not write the name as c++filt does")
-def test_differences(alone: pathlib.Path, tmp_path: pathlib.Path, name: str) -> None:
+def test_small_names(alone: pathlib.Path, tmp_path: pathlib.Path) -> None:
     """docs/REPORT.md: names are written as `c++filt -i` writes them."""
     need("c++filt")
-    assert told(alone, tmp_path, [name]) == filtered("c++filt", [name])
+    names = list(SMALL.values())
+    assert told(alone, tmp_path, names) == filtered("c++filt", names)

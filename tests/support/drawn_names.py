@@ -204,15 +204,8 @@ class Names:
         reference = self.source.choice(("", "", "", "R", "O"))
         if exempt:
             reference = "" if exempt == "Do" and "noexcept_reference" in self.without else reference
-            reference = "" if exempt != "Do" and "const_reference" in self.without else reference
-        result = "scalar" if exempt or reference else self.source.choice(("scalar", "pointer"))
-        made = f"{exempt}F{self.one('scalar', result)}{self.signature()}{reference}E"
-        self.seen += "F"
-        return made
-
-    def simple_procedure(self) -> str:
-        """A type of functions that return no pointer."""
-        made = f"F{self.one('scalar', 'own_class')}{self.signature()}E"
+        result = self.returned(bool(exempt or reference))
+        made = f"{exempt}F{result}{self.signature()}{reference}E"
         self.seen += "F"
         return made
 
@@ -229,13 +222,13 @@ class Names:
     def array(self) -> str:
         """A type of arrays."""
         made = f"A{self.source.choice(('', '3', '40'))}_" + \
-            self.one("scalar", "plain_class", "tagged_class", "pointer", "array")
+            self.one("scalar", "own_class", "pointer", "array")
         self.seen += "F"
         return made
 
     def member(self) -> str:
         """A pointer to a member."""
-        made = "M" + self.one("named") + self.one("scalar", "named", "simple_procedure")
+        made = "M" + self.one("named") + self.one("scalar", "named", "procedure", "array")
         self.seen += "O"
         return made
 
@@ -295,16 +288,6 @@ class Names:
         """A type that was before, but no reference of C++."""
         return self.reference("CFO") or "i"
 
-    def plain_class(self) -> str:
-        """A class without a tag."""
-        self.seen += "C"
-        return self.bare()
-
-    def tagged_class(self) -> str:
-        """A class with a tag."""
-        self.seen += "C"
-        return self.bare() + "B5cxx11"
-
     def own_class(self) -> str:
         """A class in no other."""
         made = self.own_word()
@@ -320,8 +303,10 @@ class Names:
         return self.one("scalar", "scalar", "pointer", "qualified", "named", "named", "again",
                         "again", "parameter", "member", "deduced", "vendor")
 
-    def result(self) -> str:
-        """A type that a function can return."""
+    def returned(self, has_qualifiers: bool) -> str:
+        """A type that a function can return, which may have qualifiers."""
+        if has_qualifiers and "qualified_returns" in self.without:
+            return self.one("scalar", "own_class")
         return self.one("scalar", "pointer", "referred", "named", "parameter", "member")
 
     def kind(self) -> str:
@@ -460,8 +445,6 @@ class Names:
         self.parameter_of = ""
         if self.source.random() < 0.5:
             qualifiers = self.source.choice(("", "", "K", "VKR"))
-            if "const_function" in self.without:
-                qualifiers = ""
             return f"N{qualifiers}{self.prefix()}{self.last()}E{self.signature()}"
         return self.simple() + self.signature()
 
@@ -472,8 +455,7 @@ class Names:
         result = ""
         if self.has_arguments:
             self.parameter_of = self.first
-            kinds = ("scalar", "named") if self.has_qualifiers else ("scalar", "result")
-            result = "" if self.is_bare else self.one(*kinds)
+            result = "" if self.is_bare else self.returned(self.has_qualifiers)
         made = name + result + self.signature()
         self.parameter_of, self.has_arguments = "", False
         return made
@@ -491,8 +473,7 @@ class Names:
         if kind in ("GV", "TH", "TW"):
             return kind + self.variable()
         if kind == "TC":
-            first = self.one("named" if "construction" not in self.without else "own_class")
-            return f"{kind}{first}16_{self.one('named')}"
+            return f"{kind}{self.one('named')}16_{self.one('named')}"
         offset = {"Th": "Thn16_", "Tv": "Tv0_n24_", "Tc": "Tch8_v16_n32_"}[kind]
         return offset + self.function()
 

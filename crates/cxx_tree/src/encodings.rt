@@ -170,15 +170,20 @@ impl<'a> Parser<'a> {
         self.node(Node::Qualified(inner, letters))
     }
 
-    /// Reads which of several entities of a function's name one is (`<discriminator>`).
+    /// Reads which of several entities of a function's name one is (`<discriminator>`): one digit
+    /// after `_`, or a number between `__` and `_`.
     pub(crate) fn discriminator(&mut self) -> Option<()> {
         if self.reader.eat("__") {
             self.reader.number()?;
             return self.reader.expect("_");
         }
-        if self.reader.eat("_") {
-            self.reader.number()?;
+        if !self.reader.eat("_") {
+            return Some(());
         }
+        if !self.reader.peek().is_ascii_digit() {
+            return None;
+        }
+        self.reader.take(1)?;
         Some(())
     }
 }

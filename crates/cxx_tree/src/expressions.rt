@@ -21,7 +21,7 @@ impl<'a> Parser<'a> {
         match letters {
             "sr" => self.scoped_name(),
             "st" => self.schedule(&[Task::Type, Task::Between("sizeof (", ")")]),
-            "sz" => self.schedule(&[Task::Expression, Task::Between("sizeof (", ")")]),
+            "sz" => self.schedule(&[Task::Expression, Task::Unary("sizeof ")]),
             "at" => self.schedule(&[Task::Type, Task::Between("alignof (", ")")]),
             "nx" => self.schedule(&[Task::Expression, Task::Between("noexcept (", ")")]),
             "sp" => self.schedule(&[Task::Expression, Task::Expansion]),

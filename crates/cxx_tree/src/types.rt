@@ -59,7 +59,7 @@ impl<'a> Parser<'a> {
             b'P' => self.pointer("*"),
             b'R' => self.pointer("&"),
             b'O' => self.pointer("&&"),
-            b'F' => self.function_type(""),
+            b'F' => self.function_type("", ""),
             b'A' => self.array(),
             b'M' => {
                 self.reader.take(1)?;
@@ -94,7 +94,7 @@ impl<'a> Parser<'a> {
     fn qualified_type(&mut self) -> Option<()> {
         let letters = self.reader.take_of("rVK")?;
         if self.reader.peek() == b'F' {
-            return self.function_type(letters);
+            return self.function_type(letters, "");
         }
         self.schedule(&[Task::Type, Task::Qualified(letters), Task::Substitution])
     }
@@ -104,24 +104,25 @@ impl<'a> Parser<'a> {
         self.schedule(&[Task::Type, Task::Pointer(sign), Task::Substitution])
     }
 
-    /// Reads the type of a function with qualifiers.
-    fn function_type(&mut self, letters: &'a str) -> Option<()> {
+    /// Reads the type of a function with qualifiers: those in front of its `&`, and those after.
+    fn function_type(&mut self, before: &'a str, after: &'a str) -> Option<()> {
         self.reader.expect("F")?;
         self.reader.eat("Y");
         let list = Task::List(self.values.len(), ListKind::Parameters);
-        let end = Task::FunctionEnd;
-        if letters.is_empty() {
+        let end = Task::FunctionEnd(before);
+        if after.is_empty() {
             return self.schedule(&[list, end, Task::Substitution]);
         }
-        self.schedule(&[list, end, Task::Qualified(letters), Task::Substitution])
+        self.schedule(&[list, end, Task::Qualified(after), Task::Substitution])
     }
 
     /// Reads what is after the types of a function.
-    pub(crate) fn function_end(&mut self) -> Option<()> {
+    pub(crate) fn function_end(&mut self, before: &'a str) -> Option<()> {
         let letters = self.reader.take_of("RO")?;
         self.reader.expect("E")?;
         let list = self.values.pop()?;
         let function = self.function_of(list, true)?;
+        let function = self.qualified(function, before)?;
         let function = self.qualified(function, letters)?;
         self.values.try_push(function).ok()
     }
@@ -179,8 +180,8 @@ impl<'a> Parser<'a> {
         let letter = self.reader.peek_at(1);
         self.reader.take(2)?;
         match letter {
-            b'o' => self.function_type("N"),
-            b'x' => self.function_type(""),
+            b'o' => self.function_type("", "N"),
+            b'x' => self.function_type("", ""),
             b'p' => self.schedule(&[Task::Type, Task::Expansion, Task::Substitution]),
             b't' | b'T' => {
                 let words = Task::Between("decltype (", ")");
@@ -218,7 +219,12 @@ impl<'a> Parser<'a> {
     /// Reads a name of the standard library, at its letter.
     fn known(&mut self, letter: u8) -> Option<()> {
         self.reader.take(1)?;
-        let is_class = matches!(self.reader.peek(), b'C' | b'D');
+        let behind = self.reader.peek_at(1);
+        let is_class = match self.reader.peek() {
+            b'C' => behind == b'I' || behind.is_ascii_digit(),
+            b'D' => behind.is_ascii_digit(),
+            _ => false,
+        };
         self.put(known_name(letter, is_class)?)
     }
 

@@ -25,6 +25,12 @@ pub enum NamePart<'a> {
     Apart(&'static str),
     /// The bracket in front of an array's length.
     Bracket,
+    /// The bracket after an array's length.
+    EndOfArray,
+    /// The parenthesis in front of the sign of a pointer to a function.
+    Opening,
+    /// A blank, where none is there.
+    Blank,
 }
 
 /// A part, and which member of a pack it is of.

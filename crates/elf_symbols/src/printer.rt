@@ -33,6 +33,8 @@ pub struct Printer<'n, 'a> {
     nodes: Nodes<'n, 'a>,
     pieces: ArrayVec<NamePiece<'a>, PIECES>,
     text: ArrayString<LONGEST>,
+    /// Where the length of the newest array ended.
+    array_end: usize,
 }
 
 impl<'n, 'a> Printer<'n, 'a> {
@@ -42,6 +44,7 @@ impl<'n, 'a> Printer<'n, 'a> {
             nodes,
             pieces: ArrayVec::new(),
             text: ArrayString::new(),
+            array_end: 0,
         }
     }
 
@@ -76,13 +79,16 @@ impl<'n, 'a> Printer<'n, 'a> {
             NamePart::Number(number) => write!(self.text, "{number}").ok(),
             NamePart::Apart(sign) => self.apart(sign),
             NamePart::Bracket => {
-                let before = if self.text.as_str().ends_with("]") {
-                    "["
-                } else {
-                    " ["
-                };
-                push(&mut self.text, before)
+                let follows = self.text.len() == self.array_end;
+                push(&mut self.text, if follows { "[" } else { " [" })
             }
+            NamePart::EndOfArray => {
+                push(&mut self.text, "]")?;
+                self.array_end = self.text.len();
+                Some(())
+            }
+            NamePart::Opening => self.opened(),
+            NamePart::Blank => self.blank(),
             NamePart::Qualifiers(letters) => self.qualifiers(letters),
             NamePart::Whole(id) => self.whole(id, pack),
             NamePart::Left(id) => self.left(id, pack),
@@ -99,6 +105,24 @@ impl<'n, 'a> Printer<'n, 'a> {
             push(&mut self.text, " ")?;
         }
         push(&mut self.text, sign)
+    }
+
+    /// Writes the parenthesis in front of the sign of a pointer, and a blank in front of it where
+    /// it is neither in another nor after a pointer.
+    fn opened(&mut self) -> Option<()> {
+        let text = self.text.as_str();
+        if !(text.ends_with("(") || text.ends_with("*")) {
+            self.blank()?;
+        }
+        push(&mut self.text, "(")
+    }
+
+    /// Writes a blank, where none is there.
+    fn blank(&mut self) -> Option<()> {
+        if self.text.as_str().ends_with(" ") {
+            return Some(());
+        }
+        push(&mut self.text, " ")
     }
 
     fn qualifiers(&mut self, letters: &str) -> Option<()> {
@@ -165,15 +189,14 @@ impl<'n, 'a> Printer<'n, 'a> {
             }
             Node::Pointer(inner, sign) => self.pointer(inner, sign, pack),
             Node::Member(class, inner) => {
-                let open = match self.opening(inner, pack) {
-                    "" => " ",
-                    open => open,
+                let (class, sign) = (NamePart::Whole(class), NamePart::Text("::*"));
+                let (blank, open) = match plain_type(&self.nodes, inner, pack) {
+                    Node::Function(..) => (NamePart::Blank, "("),
+                    Node::Array(..) => (NamePart::Text(" "), "("),
+                    _ => (NamePart::Blank, ""),
                 };
-                let (class, open) = (NamePart::Whole(class), NamePart::Text(open));
-                self.write(
-                    pack,
-                    &[NamePart::Left(inner), open, class, NamePart::Text("::*")],
-                )
+                let open = NamePart::Text(open);
+                self.write(pack, &[NamePart::Left(inner), blank, open, class, sign])
             }
             Node::Function(0, _) => Some(()),
             Node::Function(result_type, _) => {
@@ -190,28 +213,15 @@ impl<'n, 'a> Printer<'n, 'a> {
     fn right(&mut self, id: Id, pack: Option<usize>) -> Option<()> {
         let id = resolve(&self.nodes, id, pack);
         match self.nodes.at(id) {
-            Node::Qualified(inner, letters) if self.is_function(inner, pack) => {
-                self.write(
-                    pack,
-                    &[NamePart::Right(inner), NamePart::Qualifiers(letters)],
-                )
-            }
-            Node::Qualified(inner, _) => self.write(pack, &[NamePart::Right(inner)]),
+            Node::Qualified(inner, letters) => self.behind_qualified(inner, letters, pack),
             Node::Pointer(inner, sign) => {
                 let (inner, _) = self.collapsed(inner, sign, pack);
                 self.behind_pointer(inner, pack)
             }
             Node::Member(_, inner) => self.behind_pointer(inner, pack),
-            Node::Function(result_type, parameters) => {
-                let parameters = NamePart::Items(parameters, true);
-                let (open, close) = (NamePart::Text("("), NamePart::Text(")"));
-                self.write(
-                    pack,
-                    &[open, parameters, close, NamePart::Right(result_type)],
-                )
-            }
+            Node::Function(..) => self.parameters(id, "", "", pack),
             Node::Array(element, length) => {
-                let (length, close) = (NamePart::Whole(length), NamePart::Text("]"));
+                let (length, close) = (NamePart::Whole(length), NamePart::EndOfArray);
                 self.write(
                     pack,
                     &[NamePart::Bracket, length, close, NamePart::Right(element)],
@@ -221,27 +231,70 @@ impl<'n, 'a> Printer<'n, 'a> {
         }
     }
 
+    /// Writes what a type with qualifiers has after a name: those of a function are after its
+    /// parameters.
+    fn behind_qualified(&mut self, inner: Id, letters: &'a str, pack: Option<usize>) -> Option<()> {
+        let inner = resolve(&self.nodes, inner, pack);
+        match self.nodes.at(inner) {
+            Node::Qualified(function, first) if self.is_function(function, pack) => {
+                self.parameters(function, first, letters, pack)
+            }
+            _ => self.parameters(inner, letters, "", pack),
+        }
+    }
+
+    /// Writes the parameters of a function with its qualifiers, and what its result has after a
+    /// name; of what is no function only that.
+    fn parameters(
+        &mut self,
+        function: Id,
+        first: &'a str,
+        letters: &'a str,
+        pack: Option<usize>,
+    ) -> Option<()> {
+        let Node::Function(result_type, parameters) = self.nodes.at(function) else {
+            return self.write(pack, &[NamePart::Right(function)]);
+        };
+        let (open, close) = (NamePart::Text("("), NamePart::Text(")"));
+        let (first, rest) = (NamePart::Qualifiers(first), NamePart::Qualifiers(letters));
+        let parameters = NamePart::Items(parameters, true);
+        self.write(
+            pack,
+            &[
+                open,
+                parameters,
+                close,
+                first,
+                rest,
+                NamePart::Right(result_type),
+            ],
+        )
+    }
+
     fn is_function(&self, id: Id, pack: Option<usize>) -> bool {
         matches!(plain_type(&self.nodes, id, pack), Node::Function(..))
     }
 
-    /// The text between a type and the sign of a pointer to it.
-    fn opening(&self, inner: Id, pack: Option<usize>) -> &'static str {
+    /// What is between a type and the sign of a pointer to it.
+    fn opening(&self, inner: Id, pack: Option<usize>) -> NamePart<'a> {
         match plain_type(&self.nodes, inner, pack) {
-            Node::Function(..) => "(",
-            Node::Array(..) => " (",
-            _ => "",
+            Node::Function(..) => NamePart::Opening,
+            Node::Array(..) => NamePart::Text(" ("),
+            _ => NamePart::Text(""),
         }
     }
 
     fn pointer(&mut self, inner: Id, sign: &'a str, pack: Option<usize>) -> Option<()> {
         let (inner, sign) = self.collapsed(inner, sign, pack);
-        let open = NamePart::Text(self.opening(inner, pack));
+        let open = self.opening(inner, pack);
         self.write(pack, &[NamePart::Left(inner), open, NamePart::Text(sign)])
     }
 
     fn behind_pointer(&mut self, inner: Id, pack: Option<usize>) -> Option<()> {
-        let has_opening = !self.opening(inner, pack).is_empty();
+        let has_opening = matches!(
+            plain_type(&self.nodes, inner, pack),
+            Node::Function(..) | Node::Array(..)
+        );
         let close = NamePart::Text(if has_opening { ")" } else { "" });
         self.write(pack, &[close, NamePart::Right(inner)])
     }
@@ -348,7 +401,9 @@ impl<'n, 'a> Printer<'n, 'a> {
             Node::Literal(of_type, digits) => self.literal(of_type, digits, pack),
             Node::Unary(sign, value) => {
                 let value = match (sign, self.nodes.at(value)) {
-                    ("&", Node::Encoding(name, _)) if self.is_scoped(name) => NamePart::Whole(name),
+                    ("&", Node::Encoding(name, function)) if self.is_plain(name, function) => {
+                        NamePart::Whole(name)
+                    }
                     _ => NamePart::Value(value),
                 };
                 self.write(pack, &[NamePart::Text(sign), value])
@@ -383,8 +438,10 @@ impl<'n, 'a> Printer<'n, 'a> {
         }
     }
 
-    fn is_scoped(&self, name: Id) -> bool {
-        matches!(self.nodes.at(name), Node::Scope(..))
+    /// Whether a function is in a scope and has no qualifiers.
+    fn is_plain(&self, name: Id, function: Id) -> bool {
+        let has_qualifiers = matches!(self.nodes.at(function), Node::Qualified(..));
+        matches!(self.nodes.at(name), Node::Scope(..)) && !has_qualifiers
     }
 
     /// Writes a value that is a part of another: between brackets, but for a name.
