@@ -89,7 +89,11 @@ fn copied(told: &Answer, answer: &mut [u8]) -> ExplainEnd
     ExplainEnd {
         length: bytes.len() as u64,
         steps: told.steps,
-        code: if bytes.len() <= answer.len() { code } else { NO_ROOM },
+        code: if bytes.len() <= answer.len() {
+            code
+        } else {
+            NO_ROOM
+        },
         status: u32::from(told.status),
     }
 }

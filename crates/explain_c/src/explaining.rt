@@ -30,10 +30,7 @@ pub(crate) struct Question<'x> {
 }
 
 /// Runs an image alone, and tells why it ended.
-pub(crate) fn explain<'a>(
-    alloc: Global,
-    question: &Question<'_>,
-) -> Result<Answer, Failure<'a>> {
+pub(crate) fn explain<'a>(alloc: Global, question: &Question<'_>) -> Result<Answer, Failure<'a>> {
     let suppressions = Suppressions::none(alloc);
     let (image, input) = (question.image, question.input);
     match LoneTenant::chosen(alloc, question.options, image, input, &suppressions) {

@@ -57,7 +57,10 @@ impl<'x> RunAccount<'x> {
     /// Writes whether output was cut.
     pub fn write_cut<W: Write>(&self, out: &mut W) -> io::Result<()> {
         if self.report.is_cut {
-            writeln!(out, "mte_run: output was cut: there was no more room (--out)")?;
+            writeln!(
+                out,
+                "mte_run: output was cut: there was no more room (--out)"
+            )?;
         }
         Ok(())
     }
@@ -89,7 +92,8 @@ impl<'x> RunAccount<'x> {
     pub fn write_end<W: Write>(&self, out: &mut W) -> io::Result<()> {
         let log = &self.report.parts.history;
         if self.may_be_unseen() && may_have_spare_bytes(&log.calls) {
-            writeln!(out,
+            writeln!(
+                out,
                 "mte_run: no tag differed; a tag is that of 16 bytes, so up to 15 bytes past a \
                  chunk's size are compared by --exact alone"
             )?;
@@ -98,7 +102,10 @@ impl<'x> RunAccount<'x> {
             ending: self.ending(),
             log,
             status: self.status(),
-            finder: self.report.finding.map(|finding| finding.wrong.violation.finder()),
+            finder: self
+                .report
+                .finding
+                .map(|finding| finding.wrong.violation.finder()),
         };
         if line.is_told() {
             writeln!(out, "mte_run: {line}")?;

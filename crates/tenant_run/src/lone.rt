@@ -83,7 +83,11 @@ impl<'x> LoneTenant<'x> {
     }
 
     /// The tenant at its first instruction.
-    pub fn bench(&self, alloc: Global, options: &Options) -> Result<TenantBench, Obstacle<AdmitError>> {
+    pub fn bench(
+        &self,
+        alloc: Global,
+        options: &Options,
+    ) -> Result<TenantBench, Obstacle<AdmitError>> {
         let admission = admission_of(options, self.image, self.input, self.seed);
         TenantBench::new(alloc, &admission)
     }
