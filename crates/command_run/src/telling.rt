@@ -8,7 +8,7 @@ use debuggee::CoreSubject;
 use heap_bounds::{Allocation, made_by};
 use mte_backtrace::Names;
 use mte_flat::Flat;
-use mte_report::Report;
+use mte_report::{FindingList, Report};
 use mte_svc::{AnsweredCall, HeapCalls, TenantParts};
 use mte_tags::Paged;
 use mte_tenant::Status;
@@ -88,6 +88,7 @@ fn tell_parts<'a>(
         image: run.image.name,
         seed: run.seed,
         finding: observer.finding(),
+        findings: findings_of(observer, options),
         store: observer.store.as_ref(),
         statistics: observer.table(reserved),
         is_cut: observer.is_cut,
@@ -95,8 +96,19 @@ fn tell_parts<'a>(
     tell(request, &report, &subject, lost.as_slice(), memory)
 }
 
+/// What was found, where the run went on after it.
+fn findings_of<'o>(observer: &'o Observer<'_>, options: &Options) -> Option<FindingList<'o>> {
+    if !options.output.continues {
+        return None;
+    }
+    Some(FindingList {
+        findings: &observer.findings,
+        hidden: observer.hidden(),
+    })
+}
+
 /// The failure to note more of the tenant's pointers.
-fn failure_of<'a>(full: Full) -> Failure<'a> {
+pub(crate) fn failure_of<'a>(full: Full) -> Failure<'a> {
     match full {
         Full::OutOfMemory => Failure::Memory,
         Full::Chunks => Failure::Check("it keeps 655,360 chunks"),
@@ -121,6 +133,7 @@ fn tell<'a>(
     memory: &mut Flat,
 ) -> Result<u8, Failure<'a>> {
     let (rt, options) = (request.rt, request.options);
+    tell_findings(rt, report)?;
     let has_lost = tell_lost(rt, report, lost, request.suppressions)?;
     if is_reported(report) {
         let mut out = BufWriter::new(rt.alloc(), rt.stderr())?;
@@ -143,6 +156,7 @@ fn ending_of(report: &Report<'_>, options: &Options) -> TenantEnding {
         return TenantEnding::Exact;
     }
     match TenantEnding::of(&report.parts.history, report.limit) {
+        TenantEnding::Exit if report.has_findings() => TenantEnding::Exact,
         TenantEnding::Exit if report.is_cut && options.output.is_whole => TenantEnding::Cut,
         ending => ending,
     }
@@ -156,6 +170,7 @@ fn status_of(report: &Report<'_>, options: &Options, ending: TenantEnding, has_l
         Some(finding) if !finding.wrong.violation.is_of_bounds() => {
             options.output.found_status.unwrap_or(own)
         }
+        None if ending == TenantEnding::Exact => options.output.found_status.unwrap_or(own),
         None if has_lost && ending == TenantEnding::Exit => {
             options.output.lost_status.unwrap_or(own)
         }
@@ -168,11 +183,21 @@ fn is_told(parts: &TenantParts, observer: &Observer<'_>, options: &Options) -> b
     let output = &options.output;
     !matches!(parts.history.status, Status::Exited(_))
         || observer.finding().is_some()
+        || !observer.findings.is_empty()
         || output.leaks
         || output.map.is_some()
         || output.json.is_some()
         || output.sarif.is_some()
         || output.page.is_some()
+}
+
+/// Writes what was found in a run that went on after it, on standard error.
+fn tell_findings(rt: &HostRuntime, report: &Report<'_>) -> io::Result<()> {
+    if report.findings.is_none() {
+        return Ok(());
+    }
+    let mut out = BufWriter::new(rt.alloc(), rt.stderr())?;
+    report.write_findings(rt.alloc(), &mut out)
 }
 
 /// Writes the chunks that nothing reaches, on standard error, but for those that are suppressed.

@@ -17,7 +17,7 @@ mod whole_file;
 
 pub use bench::{TenantBench, WatchLevel, Watcher};
 pub use ending::{LastLine, REFUSED, TenantEnding};
-pub use line_log::observer_of;
+pub use line_log::{finder_of, observer_of};
 pub use lone::{LoneTenant, admission_of, wants_second_run};
 pub use observer::Observer;
 pub use store_watcher::StoreWatcher;
