@@ -68,6 +68,11 @@ def wanted(calls: "list[Made]") -> "list[tuple[str, str, int]]":
     return [(f"wrong{made.function}", MISTAKES[made.mistake][2], made.times) for made in calls]
 
 
+def maker(stack: "list[dict[str, str]]") -> str:
+    """The function of a mistake, of those that led to it."""
+    return next(it["function"] for it in stack if it["function"].startswith("wrong"))
+
+
 @pytest.mark.parametrize("seed", range(6))
 def test_all_mistakes_are_told(alone: pathlib.Path, tmp_path: pathlib.Path, seed: int) -> None:
     """In their order and with their numbers, in words and in JSON; the status is that of a finding,
@@ -80,8 +85,7 @@ def test_all_mistakes_are_told(alone: pathlib.Path, tmp_path: pathlib.Path, seed
     ran = run([alone, KINDS, "--continue", "--json", log, image])
     assert ran.status == FOUND, ran.errors
     told = json.loads(log.read_text(encoding="utf-8"))["findings"]
-    found = [(it["stack"][it["user"]]["function"], it["status"]["name"], it["count"])
-             for it in told]
+    found = [(maker(it["stack"]), it["status"]["name"], it["count"]) for it in told]
     assert found == wanted(calls), ran.errors
     causes = re.findall(r"^Cause: \[check\]: (.*)$", ran.errors, re.M)
     assert [f"[check]: {cause}" for cause in causes] == [it["cause"] for it in told]
