@@ -177,7 +177,7 @@ def test_lost_chunks(alone: pathlib.Path, tmp_path: pathlib.Path, build: str) ->
     told = check(alone, image(tmp_path, build, "pointer_bugs.c", "BUG=32"))
     lost = "lost at the end: 1 chunk, 24 bytes; by these alone was led to 1 chunk, 24 bytes"
     assert told.status == 0 and f"mte_run: {lost}" in told.errors.splitlines()
-    assert "  1 chunk, 24 bytes, the first by call 1" in told.errors.splitlines()
+    assert "\n  1 chunk, 24 bytes, the first by call 1, in " in told.errors
 
 
 @pytest.mark.parametrize("compiler", ("clang", "gcc"))

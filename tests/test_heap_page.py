@@ -154,17 +154,17 @@ def test_the_tags_of_a_page_are_those_of_the_memory(
 def test_a_chunk_that_is_freed_before_what_is_remembered(
     alone: pathlib.Path, tmp_path: pathlib.Path
 ) -> None:
-    """Its tag is not in the data, and no wrong one is."""
+    """Its tag is in the data, and is the memory's where nothing changed it later."""
     text = LONG.replace("i < 20", "i < 2000").replace("node->name[i]", "node->name[i % 20]")
     page = tmp_path / "late.html"
     assert run([alone, "--html", page, image_of(tmp_path, "late", text)]).status == FAULT
     data = read_page(page).data
     assert 1 < data["first"] == data["run"]["steps"] - len(data["steps"]) + 1
     ended = [call for call in data["calls"] if "ended" in call]
-    assert ended and all(("drawn" in call) == (call["step"] >= data["first"] - 1) for call in ended)
+    assert any(call["step"] < data["first"] for call in ended)
     held = tags_at_end(data)
     for at, tag in heap_at_end(data).tags.items():
-        assert tag is None or at not in held or held[at] == tag, hex(at)
+        assert at not in held or held[at] == tag, hex(at)
 
 
 def test_many_heap_calls(alone: pathlib.Path, tmp_path: pathlib.Path) -> None:

@@ -29,7 +29,7 @@ PLACE = re.compile(r"(0x[0-9a-f]{16}) is in (.*)$")
 TAGS = re.compile(r"tags from (0x[0-9a-f]+), of 16 bytes each: (.*)$")
 REGISTER = re.compile(r"  (x\d{1,2}|sp|pc) +([0-9a-f]{16})(?!\w)")
 PAGES = re.compile(r"  (0x[0-9a-f]{8}) to (0x[0-9a-f]{8})  ([rwxt-]{4})  (.*)$")
-LEAK = re.compile(r"  (\d+) chunks?, (\d+) bytes, the first by call (\d+)$")
+LEAK = re.compile(r"  (\d+) chunks?, (\d+) bytes, the first by call (\d+)(?:, in .*)?$")
 
 
 @dataclass(frozen=True)

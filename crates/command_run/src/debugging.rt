@@ -2,11 +2,13 @@
 
 ghost use Rattle.std.specs.Prelude.{◌<◌};
 
+use crate::first_finding::first_finding;
 use common::{MAX_STEPS, Obstacle};
 use debuggee::{Cuts, Debuggee};
 use gdb_front::{Front, serve};
 use gdb_travel::DebugSubject;
 use mte_tenant::Admission;
+use run_cause::Finding;
 use run_request::{RunRequest, end_unadmitted, read_course, read_input, refuse};
 use run_terms::{Failure, Options, Replay};
 use std::alloc::{AllocError, Global};
@@ -38,7 +40,7 @@ fn debug_alone<'a>(request: &RunRequest<'a, '_>) -> Result<u8, Failure<'a>> {
         seed: Some(seed),
     };
     let admission = admission_of(options, image.bytes, input.as_slice(), seed);
-    debug(request.rt, &admission, &cuts, subject)
+    debug(request, &admission, &cuts, subject)
 }
 
 /// Answers GDB of a tenant of a session, and returns the exit status.
@@ -61,7 +63,7 @@ fn debug_replay<'a>(request: &RunRequest<'a, '_>, replay: &'a Replay) -> Result<
         name: request.options.file_name(admitted.image),
         seed: None,
     };
-    debug(request.rt, &admission, &cuts, subject)
+    debug(request, &admission, &cuts, subject)
 }
 
 /// The slices that are named and have steps.
@@ -87,15 +89,19 @@ fn others_of(options: &Options) -> u32 {
 
 /// Answers GDB of a tenant that is admitted like this.
 fn debug<'a, 'x>(
-    rt: &HostRuntime,
+    request: &RunRequest<'a, '_>,
     admission: &Admission<'x>,
     cuts: &Cuts<'x>,
     subject: DebugSubject<'x>,
 ) -> Result<u8, Failure<'a>>
     requires { 0 < admission.now.terms.pages }
 {
+    let rt = request.rt;
     match Debuggee::new(rt.alloc(), admission, cuts) {
-        Ok(tenant) => debug_tenant(rt, tenant, subject),
+        Ok(tenant) => {
+            let finding = first_finding(request, admission, cuts)?;
+            debug_tenant(rt, tenant, subject, finding)
+        }
         Err(Obstacle::OutOfMemory) => Err(Failure::Memory),
         Err(Obstacle::Refused(error)) => Ok(refuse(rt, error)),
     }
@@ -106,8 +112,9 @@ fn debug_tenant<'a, 'x>(
     rt: &HostRuntime,
     tenant: Debuggee<'x>,
     subject: DebugSubject<'x>,
+    finding: Option<Finding>,
 ) -> Result<u8, Failure<'a>> {
-    let mut front = Front::new(rt.alloc(), tenant, subject);
+    let mut front = Front::new(rt.alloc(), tenant, subject, finding);
     match serve(rt.alloc(), &mut front, &mut rt.stdin(), &mut rt.stdout()) {
         Ok(()) => Ok(0),
         Err(error) => Err(Failure::from(error)),

@@ -4,6 +4,7 @@
 
 mod core_dump;
 mod debugging;
+mod first_finding;
 mod map;
 mod running;
 mod telling;

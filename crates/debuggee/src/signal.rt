@@ -4,7 +4,8 @@ ghost use Rattle.std.specs.Prelude.{◌≡◌};
 ghost use Rattle.debuggee.specs.Flags.{word_of_mode};
 
 use mte_svc::Status;
-use mte_tags::{FaultKind, MemFault, TagMode, with_tag};
+use mte_tags::{FaultKind, MemFault, TagMode, tag_of, with_tag};
+use run_cause::{Finding, Violation};
 
 /// How many bytes a `siginfo_t` has.
 pub const INFO_SIZE: usize = 128;
@@ -33,6 +34,19 @@ impl Signal {
             Status::Breakpoint(_, pc) => Signal::new(5, 1, *pc),
             Status::Aborted(_, _, _) => Signal::new(6, SENT_BY_ITSELF, 0),
             Status::Running | Status::Exited(_) | Status::Stopped => Signal::new(5, 0, 0),
+        }
+    }
+
+    /// The signal of what a check found: SIGSEGV with SEGV_BNDERR of an access, else SIGABRT, as of
+    /// what the heap refuses.
+    pub fn of_finding(finding: &Finding) -> Signal {
+        let wrong = &finding.wrong;
+        match &wrong.violation {
+            Violation::Undefined(_) | Violation::Arithmetic(_) => {
+                Signal::new(6, SENT_BY_ITSELF, 0)
+            }
+            violation if violation.is_free() => Signal::new(6, SENT_BY_ITSELF, 0),
+            _ => Signal::new(11, 3, with_tag(wrong.addr, tag_of(wrong.span.addr) % 16)),
         }
     }
 

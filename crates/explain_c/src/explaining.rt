@@ -54,6 +54,7 @@ fn explain_tenant<'a>(
                 image: question.image,
                 kinds: question.options.output.check,
                 suppressions,
+                continues: question.options.output.continues,
             };
             let asked = Asked {
                 question,

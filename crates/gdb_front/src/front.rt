@@ -7,6 +7,7 @@ use crate::text::TextBuffer;
 use debuggee::Debuggee;
 use gdb_packets::{Command, parse_command};
 use gdb_travel::{DebugSubject, Points, StopReason, Traveller};
+use run_cause::Finding;
 use std::alloc::Global;
 
 /// A tenant, and what GDB knows of it.
@@ -31,10 +32,15 @@ pub struct Front<'a> {
 }
 
 impl<'a> Front<'a> {
-    /// A front of a tenant at its first instruction.
-    pub fn new(alloc: Global, tenant: Debuggee<'a>, subject: DebugSubject<'a>) -> Front<'a> {
+    /// A front of a tenant at its first instruction, and of what a check of its run finds first.
+    pub fn new(
+        alloc: Global,
+        tenant: Debuggee<'a>,
+        subject: DebugSubject<'a>,
+        finding: Option<Finding>,
+    ) -> Front<'a> {
         Front {
-            tenant: Traveller::new(tenant),
+            tenant: Traveller::new(tenant, finding),
             points: Points::new(alloc),
             stop: StopReason::Step,
             shown: 0,

@@ -5,7 +5,6 @@ use crate::front::Front;
 use crate::parts::put_part;
 use crate::reply::Reply;
 use crate::text::TextBuffer;
-use debuggee::Signal;
 use gdb_packets::{Command, read_register};
 use std::alloc::Global;
 
@@ -86,8 +85,7 @@ impl Front<'_> {
                 put_part(&mut reply.answer, self.subject.name.as_bytes(), offset, len);
             }
             b"siginfo" => {
-                let signal = Signal::of(&self.tenant.parts().history.status);
-                put_part(&mut reply.answer, &signal.info(), offset, len);
+                put_part(&mut reply.answer, &self.signal().info(), offset, len);
             }
             _ => {}
         }

@@ -17,7 +17,9 @@ impl Front<'_> {
         let signal = self.signal();
         match self.stop {
             StopReason::Exit(code) => put_exit(&mut reply.answer, code),
-            StopReason::End | StopReason::Ended => self.put_halt(signal, reply),
+            StopReason::End | StopReason::Finding | StopReason::Ended => {
+                self.put_halt(gdb_number(&signal), reply);
+            }
             StopReason::Limit => self.put_halt(LIMIT, reply),
             _ => self.put_halt(TRAP, reply),
         }
@@ -43,9 +45,12 @@ impl Front<'_> {
         }
     }
 
-    /// GDB's number of the signal of its end.
-    fn signal(&self) -> u8 {
-        gdb_number(&Signal::of(&self.tenant.parts().history.status))
+    /// The signal of its end.
+    pub(crate) fn signal(&self) -> Signal {
+        match self.tenant.finding() {
+            Some(finding) => Signal::of_finding(finding),
+            None => Signal::of(&self.tenant.parts().history.status),
+        }
     }
 }
 

@@ -100,7 +100,7 @@ impl Front<'_> {
     pub(crate) fn tell_end(&mut self, alloc: Global, reply: &mut Reply) {
         let mut out = Vec::new(alloc);
         let told = match self.stop {
-            StopReason::End | StopReason::Limit => tell_why(
+            StopReason::End | StopReason::Finding | StopReason::Limit => tell_why(
                 alloc,
                 &mut out,
                 &self.tenant,

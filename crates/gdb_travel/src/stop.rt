@@ -21,6 +21,8 @@ pub enum StopReason {
     Exit(u8),
     /// It ended otherwise.
     End,
+    /// It came to what a check of its run finds first, which ends it.
+    Finding,
     /// It had ended before it was to move forwards, otherwise than by an exit, and stayed.
     Ended,
     /// Its slices or its steps are over.

@@ -10,6 +10,7 @@ use a64_bits::plain;
 use debuggee::{Debuggee, MappedRegion};
 use mte_tags::TagMode;
 use mte_tenant::{Status, TenantParts};
+use run_cause::Finding;
 use std::alloc::{AllocError, Global};
 
 /// A tenant that is moved forwards and backwards. To go back it begins at a checkpoint, or at its
@@ -26,17 +27,36 @@ pub struct Traveller<'a> {
     is_exit_told: bool,
     /// Whether the last instruction before its end was done. It is known once it has ended.
     is_last_done: bool,
+    /// What a check of the whole run finds first: there it has ended.
+    finding: Option<Finding>,
 }
 
 impl<'a> Traveller<'a> {
-    /// A tenant that has not been moved.
-    pub fn new(tenant: Debuggee<'a>) -> Traveller<'a> {
+    /// A tenant that has not been moved, and what a check of its run finds first.
+    pub fn new(tenant: Debuggee<'a>, finding: Option<Finding>) -> Traveller<'a> {
         Traveller {
             now: tenant,
             ahead: None,
             checkpoints: Checkpoints::new(),
             is_exit_told: false,
             is_last_done: false,
+            finding,
+        }
+    }
+
+    /// What was found of its last instruction, where it has come to that.
+    pub fn finding(&self) -> Option<&Finding> {
+        let steps = self.now.steps();
+        self.finding
+            .as_ref()
+            .filter(|finding| finding.step <= steps)
+    }
+
+    /// After how many steps it moves no further: the instruction of what is found is the last.
+    fn last_step(&self) -> u64 {
+        match &self.finding {
+            Some(finding) => finding.step,
+            None => u64::MAX,
         }
     }
 
@@ -57,7 +77,7 @@ impl<'a> Traveller<'a> {
 
     /// Whether it is running, and has steps left.
     pub fn can_go_on(&self) -> bool {
-        self.now.can_go_on()
+        self.finding().is_none() && self.now.can_go_on()
     }
 
     /// How many instructions were done: all that were attempted, but for one that ended it and did
@@ -99,12 +119,19 @@ impl<'a> Traveller<'a> {
         points: &Points,
         until: Until,
     ) -> Result<StopReason, AllocError> {
+        if self.finding().is_some() {
+            return Ok(StopReason::Ended);
+        }
         if !self.now.parts().is_running() {
             return Ok(self.stop_again());
         }
         for _ in 0..u64::MAX {
-            let end = self.now.slice_end();
-            if let Some(stop) = self.look(alloc, points, until, end)? {
+            let end = self.now.slice_end().min(self.last_step());
+            let stop = self.look(alloc, points, until, end)?;
+            if self.finding().is_some() {
+                return Ok(StopReason::Finding);
+            }
+            if let Some(stop) = stop {
                 return Ok(stop);
             }
             if !self.now.can_go_on() {
@@ -162,11 +189,12 @@ impl<'a> Traveller<'a> {
         steps > before && points.is_breakpoint(plain(self.now.regs().pc))
     }
 
-    /// How many steps come before the next slice that meets a point, or in which it ends.
+    /// How many steps come before the next slice that meets a point, or in which it ends or comes
+    /// to what is found.
     fn steps_to_skip(&mut self, alloc: Global, points: &Points) -> Result<u64, AllocError> {
         let mut scout = self.take_ahead(alloc)?;
         scout.watch(points.watchpoints())?;
-        Ok(pass_slices(&mut scout, points))
+        Ok(pass_slices(&mut scout, points, self.last_step()))
     }
 
     /// Moves it forwards to a number of steps, or its end. After many it leaves a checkpoint an
@@ -235,10 +263,14 @@ impl<'a> Traveller<'a> {
     /// that comes before.
     pub fn go_to(&mut self, alloc: Global, steps: u64) -> Result<StopReason, AllocError> {
         self.is_exit_told = false;
+        let steps = steps.min(self.last_step());
         if steps < self.now.steps() {
             self.go_back(alloc, steps)?;
         } else {
             self.move_to(alloc, steps);
+        }
+        if self.finding().is_some() {
+            return Ok(StopReason::Finding);
         }
         if self.now.can_go_on() {
             Ok(StopReason::Step)

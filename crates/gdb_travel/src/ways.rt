@@ -36,12 +36,12 @@ fn try_slice(tenant: &mut Debuggee<'_>, points: &Points) -> bool {
     !is_attempted || screen.is_met || tenant.hit().is_some()
 }
 
-/// Moves a tenant on by whole slices, up to the end of the first that meets a point or its own end;
-/// returns how many steps it had attempted before that slice.
-pub fn pass_slices(tenant: &mut Debuggee<'_>, points: &Points) -> u64 {
+/// Moves a tenant on by whole slices, up to the end of the first that meets a point or its own end,
+/// or up to one with the step `last`; returns how many steps it had attempted before that slice.
+pub fn pass_slices(tenant: &mut Debuggee<'_>, points: &Points, last: u64) -> u64 {
     let mut steps = tenant.steps();
     for _ in 0..u64::MAX {
-        if try_slice(tenant, points) || !tenant.can_go_on() {
+        if tenant.slice_end() >= last || try_slice(tenant, points) || !tenant.can_go_on() {
             return steps;
         }
         steps = tenant.steps();

@@ -6,7 +6,7 @@ use debuggee::Debuggee;
 use mte_backtrace::Names;
 use mte_report::Report;
 use mte_tenant::{Status, TenantParts};
-use run_cause::{LastStore, StoreWatch, TargetLoad};
+use run_cause::{Finding, LastStore, StoreWatch, TargetLoad};
 use run_records::{Book, Moment};
 use std::alloc::{AllocError, Global};
 use std::io;
@@ -36,12 +36,15 @@ pub fn tell_why<W: Write>(
         return writeln!(out, "it is running, after {steps} steps");
     }
     let (past, mut remembered) = retold(alloc, tenant)?;
-    remembered.store = store_of(
-        alloc,
-        tenant,
-        &past.parts().history.status,
-        &remembered.last,
-    )?;
+    remembered.finding = tenant.finding().copied();
+    if remembered.finding.is_none() {
+        remembered.store = store_of(
+            alloc,
+            tenant,
+            &past.parts().history.status,
+            &remembered.last,
+        )?;
+    }
     let limit = past.limit();
     let (parts, mut memory) = past.into_machine();
     let names = Names::of(alloc, subject.image)?;
@@ -68,6 +71,8 @@ struct Remembered {
     last: HeapCircularBuffer<Moment>,
     /// The store that wrote the target last of the jump to no code that ended it, if it is known.
     store: Option<LastStore>,
+    /// What a check of it found, where that ended it.
+    finding: Option<Finding>,
 }
 
 /// The report of a machine, by what is remembered of it, under the name of its image's file.
@@ -89,7 +94,8 @@ fn report_of<'x, 'n>(
         names,
         image: name,
         seed,
-        finding: None,
+        finding: remembered.finding.as_ref(),
+        findings: None,
         store: remembered.store.as_ref(),
         statistics: None,
         is_cut: false,
@@ -106,6 +112,7 @@ fn retold<'a>(
         book: Book::new(alloc)?,
         last: HeapCircularBuffer::with_capacity(alloc, LAST)?,
         store: None,
+        finding: None,
     };
     for done in 0..steps {
         if steps - done <= LAST as u64 {

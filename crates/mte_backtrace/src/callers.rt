@@ -18,7 +18,15 @@ pub struct Callers {
     pub(crate) records: [u64; DEPTH],
 }
 
+/// How many frame records say which calls are the same.
+const INNERMOST: usize = 3;
+
 impl Callers {
+    /// Whether the innermost four calls are those of another instruction.
+    pub fn shares_innermost(&self, other: &Callers) -> bool {
+        self.link == other.link && self.records[..INNERMOST] == other.records[..INNERMOST]
+    }
+
     /// The callers of the instruction that is next.
     pub fn of<M: Tagged>(memory: &mut M, regs: &Regs) -> Callers
         ensures memory { M.memory memory.new ≡ M.memory memory.old }

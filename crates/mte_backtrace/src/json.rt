@@ -98,6 +98,17 @@ impl CallStack {
         }
         write!(out, "]")
     }
+
+    /// Writes the number of the user's frame in that array as a key, after a comma.
+    pub fn write_json_user<W: Write>(&self, out: &mut W, names: &FrameNames<'_>) -> io::Result<()> {
+        match self.user_frame(names) {
+            Some(found) => {
+                let number = found.number;
+                write!(out, ",\"user\":{number}")
+            }
+            None => Ok(()),
+        }
+    }
 }
 
 /// Writes an object for each frame of an address, with what is in front of the first.

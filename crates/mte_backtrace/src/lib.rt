@@ -5,10 +5,11 @@ mod call_stack;
 mod callers;
 mod frames;
 mod json;
+mod library_sources;
 mod names;
 mod prologue;
 mod sarif;
-mod told_frame;
+mod user_frame;
 mod walk;
 
 pub use call_stack::CallStack;
@@ -16,3 +17,4 @@ pub use callers::Callers;
 pub use frames::{FrameName, FramesAt, StackFrame};
 pub use json::Quoted;
 pub use names::{Frame, FrameAddresses, FrameNames, Names};
+pub use user_frame::NumberedFrame;

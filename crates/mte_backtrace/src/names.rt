@@ -1,5 +1,7 @@
 //! The names of an image's addresses.
 
+use crate::call_stack::CallStack;
+use crate::callers::Callers;
 use crate::frames::FramesAt;
 use debug_info::{DebugInfo, InlinedCalls};
 use debug_lines::{DebugLines, SourceLines, SourceOrigin};
@@ -97,6 +99,16 @@ impl<'a> FrameNames<'a> {
             label: self.symbols.place_after(return_address, CALL).label(),
             origin: self.lines.origin(call),
         }
+    }
+
+    /// The calls that led to a heap call, whose SVC is at an address.
+    pub fn heap_call_stack(
+        &self,
+        alloc: Global,
+        pc: u64,
+        callers: &Callers,
+    ) -> Result<CallStack, AllocError> {
+        CallStack::of_heap_call(alloc, pc, callers, self.symbols)
     }
 
     /// The frames of an instruction, the innermost first.

@@ -109,7 +109,7 @@ impl CallStack {
         write!(out, "]")
     }
 
-    /// Writes the location of the innermost frame whose source line is known, with a message.
+    /// Writes the location of the user's frame, with a message.
     pub fn write_sarif_location<W: Write>(
         &self,
         out: &mut W,
@@ -118,8 +118,8 @@ impl CallStack {
     ) -> io::Result<()> {
         let message = Quoted(message);
         write!(out, "{{\"message\":{{\"text\":{message}}}")?;
-        if let Some(frame) = self.told_frame(names) {
-            let parts = FrameParts(frame);
+        if let Some(found) = self.user_frame(names) {
+            let parts = FrameParts(found.frame);
             write!(out, "{parts}")?;
         }
         write!(out, "}}")

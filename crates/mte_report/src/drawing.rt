@@ -47,14 +47,16 @@ impl<'a> Report<'a> {
         }
     }
 
-    /// The names of the instructions that made chunks.
+    /// The names of the calls that led to those which made chunks.
     fn extent_names(
         &self,
         alloc: Global,
         extents: &[Extent],
     ) -> Result<FrameNames<'a>, AllocError> {
         let mut frames = FrameAddresses::new(alloc);
-        push_makers(&mut frames, extents)?;
+        for extent in extents {
+            self.push_entry(alloc, &mut frames, &extent.chunk.made)?;
+        }
         self.names.of_frames(alloc, &frames)
     }
 
@@ -96,14 +98,6 @@ impl<'a> Report<'a> {
             None => mark_of(&self.parts.history.status),
         }
     }
-}
-
-/// Adds the instructions that made chunks.
-fn push_makers(frames: &mut FrameAddresses, extents: &[Extent]) -> Result<(), AllocError> {
-    for extent in extents {
-        frames.push_instruction(extent.chunk.made.pc)?;
-    }
-    Ok(())
 }
 
 /// The access or pointer that a status names.

@@ -97,7 +97,7 @@ impl<'a> Report<'a> {
     }
 
     /// Adds the addresses of the calls that led to the heap calls of a cause.
-    fn push_cause(
+    pub(crate) fn push_cause(
         &self,
         alloc: Global,
         frames: &mut FrameAddresses,

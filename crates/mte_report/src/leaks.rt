@@ -241,11 +241,17 @@ impl<'a> Context<'a> {
         out.flush()
     }
 
-    /// Writes a place.
+    /// Writes a place: the user's frame, then all calls.
     fn write_place<W: Write>(&self, out: &mut W, place: &LeakPlace) -> io::Result<()> {
         let (chunks, bytes) = (chunk_count(place.chunks), Bytes(place.bytes));
         let number = place.entry.number;
-        writeln!(out, "  {chunks}, {bytes}, the first by call {number}")?;
-        self.tell_stack(out, &place.entry)
+        let stack = self.report.stack_of(self.alloc, &place.entry)?;
+        write!(out, "  {chunks}, {bytes}, the first by call {number}")?;
+        if let Some(user) = stack.user_frame(self.names) {
+            let frame = user.frame;
+            write!(out, ", in {frame}")?;
+        }
+        writeln!(out)?;
+        stack.write(out, self.names, "    ")
     }
 }

@@ -5,6 +5,7 @@
 mod context;
 mod drawing;
 mod explanation;
+mod findings;
 mod hints;
 mod leaks;
 mod report;
@@ -13,5 +14,6 @@ mod story;
 
 pub use context::Context;
 pub use explanation::Explanation;
+pub use findings::FindingList;
 pub use report::Report;
 pub use tenant_map::PictureForm;

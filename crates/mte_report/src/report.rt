@@ -1,6 +1,7 @@
 //! The report of a tenant that did not exit, in words.
 
 use crate::explanation::Explanation;
+use crate::findings::FindingList;
 use a64_access::AccessForm;
 use a64_bits::plain;
 use a64_decode::decode;
@@ -49,6 +50,8 @@ pub struct Report<'a> {
     pub seed: Option<u64>,
     /// The access that ended it beyond what its tags forbid, if one did.
     pub finding: Option<&'a Finding>,
+    /// What was found, where the run went on after it.
+    pub findings: Option<FindingList<'a>>,
     /// The store that wrote the target last of the jump to no code that ended it, if it is known.
     pub store: Option<&'a LastStore>,
     /// The numbers of the run, where they are requested.
@@ -167,7 +170,7 @@ impl<'a> Report<'a> {
     }
 
     /// The next instruction's address.
-    fn here(&self) -> At<'a> {
+    pub(crate) fn here(&self) -> At<'a> {
         self.at(self.regs().pc)
     }
 
@@ -180,7 +183,7 @@ impl<'a> Report<'a> {
 
 /// An instruction's address and its place.
 #[derive(Clone, Copy)]
-struct At<'a> {
+pub(crate) struct At<'a> {
     pc: u64,
     place: SymbolOffset<'a>,
 }
@@ -212,7 +215,11 @@ impl<'a> fmt::Display for At<'a> {
 }
 
 /// An access that a chunk's bounds forbid, of the instruction at an address.
-fn tell_wrong<W: Write>(out: &mut W, wrong: &ForbiddenAccess, at: At<'_>) -> io::Result<()> {
+pub(crate) fn tell_wrong<W: Write>(
+    out: &mut W,
+    wrong: &ForbiddenAccess,
+    at: At<'_>,
+) -> io::Result<()> {
     let (addr, first) = (wrong.addr, plain(wrong.span.addr));
     let (finder, why) = (wrong.violation.finder(), wrong.violation.words());
     if matches!(wrong.violation, Violation::Undefined(_)) {

@@ -29,7 +29,7 @@ impl<'a> Report<'a> {
         let made = chunk.map(|chunk| &chunk.made);
         let freed = chunk.and_then(|chunk| chunk.freed.as_ref());
         let story = Story {
-            end: told.stack.told_frame(&told.names),
+            end: told.stack.user_frame(&told.names).map(|found| found.frame),
             made: self.scene(alloc, made, &told.names)?,
             freed: self.scene(alloc, freed, &told.names)?,
         };
@@ -47,11 +47,12 @@ impl<'a> Report<'a> {
             return Ok(None);
         };
         let stack = self.stack_of(alloc, entry)?;
-        let frame = stack.requesting_frame(names);
-        Ok(frame.map(|frame| Scene {
-            call: entry.number,
-            frame,
-        }))
+        Ok(
+            stack.user_frame(names).map(|found| Scene {
+                call: entry.number,
+                frame: found.frame,
+            }),
+        )
     }
 }
 

@@ -8,7 +8,7 @@ use mte_flat::Flat;
 use mte_report::{Context, Explanation, Report};
 use mte_svc::Status;
 use mte_tags::MemFault;
-use run_cause::{Cause, Finding};
+use run_cause::{Cause, CountedFinding, Finding};
 use run_records::{BookChunk, BookEntry, Nzcv, Object};
 use std::alloc::Global;
 use std::io::Write;
@@ -56,6 +56,7 @@ fn write_explained<W: Write>(
     };
     write_end(out, report, explanation)?;
     write_cause(out, &context, explanation)?;
+    write_findings(alloc, out, report)?;
     write_store(out, &context)?;
     write_registers(out, report.regs())?;
     write_tags(out, report.address(), memory)?;
@@ -73,6 +74,7 @@ fn write_end<W: Write>(
     write_status(out, report)?;
     write!(out, "\"stack\":")?;
     explanation.stack.write_json(out, &explanation.names)?;
+    explanation.stack.write_json_user(out, &explanation.names)?;
     writeln!(out, ",")
 }
 
@@ -113,6 +115,48 @@ fn write_judged<W: Write>(out: &mut W, context: &Context<'_>, cause: &Cause) -> 
     writeln!(out, "],")
 }
 
+/// Writes what was found in a run that went on after it, where that is requested.
+fn write_findings<W: Write>(alloc: Global, out: &mut W, report: &Report<'_>) -> io::Result<()> {
+    if report.findings.is_none() {
+        return Ok(());
+    }
+    write!(out, "\"findings\":[")?;
+    let mut front = "";
+    for place in report.found_places() {
+        write!(out, "{front}")?;
+        write_place(alloc, out, report, place)?;
+        front = ",";
+    }
+    writeln!(out, "],")
+}
+
+/// Writes what was found at a place.
+fn write_place<'a, W: Write>(
+    alloc: Global,
+    out: &mut W,
+    report: &Report<'a>,
+    place: &'a CountedFinding,
+) -> io::Result<()> {
+    let explanation = report.explain_found(alloc, place)?;
+    let (status, count, step) = (
+        FindingObject(&place.finding),
+        place.count,
+        place.finding.step,
+    );
+    write!(
+        out,
+        "{{\"status\":{status},\"count\":{count},\"step\":{step},"
+    )?;
+    let report = report.at_finding(place);
+    let found = report.found(&place.cause);
+    let text = format!(in alloc; "{found}")?;
+    let text = Quoted(text.as_str());
+    write!(out, "\"cause\":{text},\"stack\":")?;
+    explanation.stack.write_json(out, &explanation.names)?;
+    explanation.stack.write_json_user(out, &explanation.names)?;
+    write!(out, "}}")
+}
+
 /// Writes what wrote the target last of a jump to no code, where it is known, and the calls that
 /// led to it.
 fn write_store<W: Write>(out: &mut W, context: &Context<'_>) -> io::Result<()> {
@@ -126,6 +170,7 @@ fn write_store<W: Write>(out: &mut W, context: &Context<'_>) -> io::Result<()> {
     )?;
     let stack = context.report.stack_of_store(context.alloc, store)?;
     stack.write_json(out, context.names)?;
+    stack.write_json_user(out, context.names)?;
     writeln!(out, "}},")
 }
 
@@ -191,6 +236,7 @@ fn write_call<W: Write>(out: &mut W, context: &Context<'_>, entry: &BookEntry) -
     write!(out, "\"step\":{step},\"stack\":")?;
     let stack = context.report.stack_of(context.alloc, entry)?;
     stack.write_json(out, context.names)?;
+    stack.write_json_user(out, context.names)?;
     write!(out, "}}")
 }
 

@@ -18,24 +18,45 @@ const SCHEMA: &str = "https://json.schemastore.org/sarif-2.1.0.json";
 impl<'a> Document<'a> {
     /// Writes it as a log with one run. It has no result for a tenant that exited; else one, with
     /// the calls that led to its end and to the heap calls of its cause, and a flow through these.
+    /// In front of it is one for each place of what was found in a run that went on after it.
     pub fn write_sarif<W: Write>(&self, out: &mut W, memory: &mut Flat) -> io::Result<()> {
         write_head(out)?;
         let report = self.report;
         let is_clean = report.finding.is_none()
             && matches!(report.parts.history.status, Status::Exited(_));
-        if is_clean {
-            write!(out, "}}}},\n\"results\":[]")?;
+        if report.has_findings() {
+            write_found(self.alloc, out, report)?;
+            if !is_clean {
+                write!(out, ",")?;
+                write_result(self.alloc, out, report, memory)?;
+            }
+        } else if is_clean {
+            write!(out, "}}}},\n\"results\":[")?;
         } else {
             write_result(self.alloc, out, report, memory)?;
         }
         write!(
             out,
-            ",\n\"invocations\":[{{\"executionSuccessful\":{is_clean},"
+            "],\n\"invocations\":[{{\"executionSuccessful\":{is_clean},"
         )?;
         let exit_status = self.exit_status;
         writeln!(out, "\"exitCode\":{exit_status}}}]}}]}}")?;
         out.flush()
     }
+}
+
+/// Writes a result for each place of what was found in a run that went on after it.
+fn write_found<W: Write>(alloc: Global, out: &mut W, report: &Report<'_>) -> io::Result<()> {
+    write!(out, "}}}},\n\"results\":[")?;
+    let mut front = "";
+    for place in report.found_places() {
+        write!(out, "{front}")?;
+        let explanation = report.explain_found(alloc, place)?;
+        let report = report.at_finding(place);
+        write_explained(alloc, out, &report, &explanation, false)?;
+        front = ",";
+    }
+    Ok(())
 }
 
 /// Writes the rule and the result.
@@ -46,15 +67,17 @@ fn write_result<W: Write>(
     memory: &mut Flat,
 ) -> io::Result<()> {
     let explanation = report.explain(alloc, memory)?;
-    write_explained(alloc, out, report, &explanation)
+    let has_rules = !report.has_findings();
+    write_explained(alloc, out, report, &explanation, has_rules)
 }
 
-/// Writes the rule and the result, by what is known of the end.
+/// Writes the rule, where the log has rules, and the result, by what is known of the end.
 fn write_explained<W: Write>(
     alloc: Global,
     out: &mut W,
     report: &Report<'_>,
     explanation: &Explanation<'_>,
+    has_rules: bool,
 ) -> io::Result<()> {
     match &explanation.cause {
         Some(cause) => {
@@ -63,7 +86,7 @@ fn write_explained<W: Write>(
                 report,
                 names: &explanation.names,
             };
-            write_rule(out, cause.rule())?;
+            write_rule(out, cause.rule(), has_rules)?;
             write_judged(out, &context, &explanation.stack, cause)
         }
         None => {
@@ -73,7 +96,7 @@ fn write_explained<W: Write>(
                 names: &explanation.names,
                 stack: &explanation.stack,
             };
-            write_rule(out, words.rule)?;
+            write_rule(out, words.rule, has_rules)?;
             end.write_end(out)?;
             begin_flow(out)?;
             end.write_last(out)
@@ -161,8 +184,11 @@ fn write_head<W: Write>(out: &mut W) -> io::Result<()> {
     write!(out, "\"version\":\"1.0\"")
 }
 
-/// Writes the rule of a result, and what a result begins with.
-fn write_rule<W: Write>(out: &mut W, rule: &str) -> io::Result<()> {
+/// Writes the rule of a result, where the log has rules, and what a result begins with.
+fn write_rule<W: Write>(out: &mut W, rule: &str, has_rules: bool) -> io::Result<()> {
+    if !has_rules {
+        return writeln!(out, "{{\"ruleId\":\"{rule}\",\"level\":\"error\",");
+    }
     writeln!(out, ",\"rules\":[{{\"id\":\"{rule}\"}}]}}}},")?;
     write!(out, "\"results\":[{{\"ruleId\":\"{rule}\",")?;
     writeln!(out, "\"ruleIndex\":0,\"level\":\"error\",")
@@ -217,6 +243,6 @@ impl<'a> Site<'a> {
 
     /// Writes the last location of the flow, and ends the result.
     fn write_last<W: Write>(&self, out: &mut W) -> io::Result<()> {
-        self.write_step(out, "]}]}]}]")
+        self.write_step(out, "]}]}]}")
     }
 }

@@ -44,6 +44,10 @@ pub struct Checker<'a> {
     /// The suppressed findings, where there are some.
     silence: Option<Silence<'a>>,
     finding: Option<Finding>,
+    /// What was found of the last attempt, where the run goes on after it.
+    passed: Option<Finding>,
+    /// How many findings were suppressed.
+    hidden: u64,
     full: Option<Full>,
 }
 
@@ -143,6 +147,8 @@ impl<'a> Checker<'a> {
             bits,
             followed: FollowedInstruction::new(alloc)?,
             finding: None,
+            passed: None,
+            hidden: 0,
             full: None,
         })
     }
@@ -161,6 +167,16 @@ impl<'a> Checker<'a> {
     /// The first such thing, if there was one.
     pub fn finding(&self) -> Option<&Finding> {
         self.finding.as_ref()
+    }
+
+    /// What was found of the last attempt, where the run goes on after it. It is given once.
+    pub fn take_passed(&mut self) -> Option<Finding> {
+        self.passed.take()
+    }
+
+    /// How many findings were suppressed.
+    pub fn hidden(&self) -> u64 {
+        self.hidden
     }
 
     /// Why no more could be noted, if that is so.
@@ -217,20 +233,32 @@ impl<'a> Checker<'a> {
     ) {
         match self.is_silent(violation, attempt.step.before.pc, &callers) {
             Ok(true) => {
-                self.forget(violation);
-                self.enter(attempt);
+                self.hidden = self.hidden.saturating_add(1);
+                self.pass(violation, attempt);
             }
             Ok(false) => {
-                self.finding = Some(Finding {
+                let finding = Some(Finding {
                     wrong: forbidden(violation),
                     step,
                     before: *attempt.step.before,
                     after: *attempt.step.after,
                     callers,
                 });
+                if self.terms.continues {
+                    self.passed = finding;
+                    self.pass(violation, attempt);
+                } else {
+                    self.finding = finding;
+                }
             }
             Err(_) => self.full = Some(Full::OutOfMemory),
         }
+    }
+
+    /// Goes on after what is wrong with an attempt.
+    fn pass(&mut self, violation: &Violation, attempt: &Attempt<'_>) {
+        self.forget(violation);
+        self.enter(attempt);
     }
 
     /// Whether what is wrong with the instruction at an address is not told.

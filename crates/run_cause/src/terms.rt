@@ -15,6 +15,8 @@ pub struct CheckTerms<'a> {
     pub kinds: CheckKinds,
     /// The findings that are suppressed.
     pub suppressions: &'a Suppressions,
+    /// Whether the run goes on after a finding.
+    pub continues: bool,
 }
 
 /// The findings that are suppressed, and the names by which they are known.

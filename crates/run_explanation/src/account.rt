@@ -30,6 +30,7 @@ impl<'x> RunAccount<'x> {
             return TenantEnding::Exact;
         }
         match TenantEnding::of(&report.parts.history, report.limit) {
+            TenantEnding::Exit if report.has_findings() => TenantEnding::Exact,
             TenantEnding::Exit if report.is_cut && self.options.output.is_whole => {
                 TenantEnding::Cut
             }
@@ -47,6 +48,7 @@ impl<'x> RunAccount<'x> {
             Some(finding) if !finding.wrong.violation.is_of_bounds() => {
                 output.found_status.unwrap_or(own)
             }
+            None if ending == TenantEnding::Exact => output.found_status.unwrap_or(own),
             None if !self.lost.is_empty() && ending == TenantEnding::Exit => {
                 output.lost_status.unwrap_or(own)
             }
@@ -65,7 +67,7 @@ impl<'x> RunAccount<'x> {
         Ok(())
     }
 
-    /// Writes what happened: the lost chunks, why the tenant ended, where it did not exit, the live
+    /// Writes what happened: what was found, where the run went on after it, the lost chunks, why the tenant ended, where it did not exit, the live
     /// chunks and the numbers of the run, where they are requested.
     pub fn write_story<W: Write>(
         &self,
@@ -74,6 +76,9 @@ impl<'x> RunAccount<'x> {
         memory: &mut Flat,
     ) -> io::Result<()> {
         let report = self.report;
+        if report.findings.is_some() {
+            report.write_findings(alloc, out)?;
+        }
         if !self.lost.is_empty() {
             write!(out, "mte_run: ")?;
             report.write_lost(alloc, out, self.lost)?;

@@ -1,7 +1,7 @@
 //! A run that has ended, and its report.
 
 use mte_backtrace::Names;
-use mte_report::Report;
+use mte_report::{FindingList, Report};
 use mte_svc::{Status, TenantParts};
 use run_terms::Options;
 use tenant_run::Observer;
@@ -28,11 +28,23 @@ impl<'x> EndedRun<'x> {
         let output = &self.options.output;
         !matches!(self.parts.history.status, Status::Exited(_))
             || self.observer.finding().is_some()
+            || !self.observer.findings.is_empty()
             || output.leaks
             || output.map.is_some()
             || output.json.is_some()
             || output.sarif.is_some()
             || output.page.is_some()
+    }
+
+    /// What was found, where the run went on after it.
+    fn findings(&self) -> Option<FindingList<'x>> {
+        if !self.options.output.continues {
+            return None;
+        }
+        Some(FindingList {
+            findings: &self.observer.findings,
+            hidden: self.observer.hidden(),
+        })
     }
 
     /// The report of a tenant with `reserved` pages, with the names of its image.
@@ -48,6 +60,7 @@ impl<'x> EndedRun<'x> {
             image: self.image,
             seed: self.seed,
             finding: self.observer.finding(),
+            findings: self.findings(),
             store: self.observer.store.as_ref(),
             statistics: self.observer.table(reserved),
             is_cut: self.observer.is_cut,

@@ -12,7 +12,8 @@ pub enum Fault {
     Trace,
     /// A word is no kind of what is checked.
     Check,
-    /// The report of findings is off, or they have an exit status, but nothing is checked.
+    /// The report of findings is off, they have an exit status, or the run goes on after them, but
+    /// nothing is checked.
     Unchecked,
     /// Lost chunks have an exit status, but are not looked for.
     Lost,
@@ -35,7 +36,7 @@ impl Fault {
             Fault::Seed => "the seed is not a number of 1 to 16 hexadecimal digits",
             Fault::Trace => "the trace is not FROM-TO, two step numbers, the lower one first",
             Fault::Check => CHECK_FAULT,
-            Fault::Unchecked => "--suppressions and --check-status are for --check",
+            Fault::Unchecked => "--suppressions, --continue and --check-status are for --check",
             Fault::Lost => "--lost-status is for --check with leaks",
             Fault::Frames => "--frames is for a session: it wants --script",
             Fault::RawOutput => "--raw-output is for a session: it wants --script",
@@ -64,7 +65,9 @@ pub(crate) fn fault_of(options: &Options) -> Option<Fault> {
 
 /// The fault of a check's options.
 fn check_fault(output: &OutputOptions) -> Option<Fault> {
-    let has_terms = output.suppressions.is_some() || output.found_status.is_some();
+    let has_terms = output.suppressions.is_some()
+        || output.found_status.is_some()
+        || output.continues;
     if output.check.is_none() && has_terms {
         Some(Fault::Unchecked)
     } else if output.lost_status.is_some() && !output.check.leaks {

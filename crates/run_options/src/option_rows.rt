@@ -5,7 +5,7 @@ use crate::table::{OptionForm, OptionRow};
 use run_terms::CHECK_HELP;
 
 /// All options: a static, since a proof writes out a constant wherever it is named.
-pub(crate) static OPTIONS: [OptionRow; 31] = [
+pub(crate) static OPTIONS: [OptionRow; 32] = [
     OptionRow {
         name: "input",
         form: OptionForm::Text("FILE"),
@@ -82,6 +82,13 @@ pub(crate) static OPTIONS: [OptionRow; 31] = [
         group: "What it looks for",
         is_first: false,
         help: "Does not tell what has a kind, a function and a source file of these lines",
+    },
+    OptionRow {
+        name: "continue",
+        form: OptionForm::Flag,
+        group: "What it looks for",
+        is_first: false,
+        help: "Goes on after what --check finds, and lists it at the end",
     },
     OptionRow {
         name: "check-status",

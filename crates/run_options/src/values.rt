@@ -168,6 +168,7 @@ fn output_of(alloc: Global, matches: &ArgMatches<'_>) -> Result<OutputOptions, O
         is_raw: matches.get_flag("raw-output"),
         check,
         suppressions: name_of(alloc, matches, "suppressions")?,
+        continues: matches.get_flag("continue"),
         found_status: status_of(matches, "check-status"),
         lost_status: status_of(matches, "lost-status"),
         exact: match matches.get_str("exact") {

@@ -26,6 +26,7 @@ entry_of parts call callers = record {
   step = parts.history.steps;
   pc = (parts.regs.pc + 2 ^ 64 - 4) % 2 ^ 64;
   call = call;
+  drawn = parts.regs.rgsr.tag;
   callers = callers;
 }
 

@@ -30,6 +30,8 @@ pub struct BookEntry {
     pub pc: u64,
     /// The call.
     pub call: AnsweredCall,
+    /// The tag of the generator after it: of a chunk of a block that it freed the granules' tag.
+    pub drawn: u8,
     /// The calls that led to it.
     pub callers: Callers,
 }
@@ -199,6 +201,7 @@ impl Book {
             step: parts.history.steps,
             pc: parts.regs.pc.wrapping_sub(4),
             call,
+            drawn: parts.regs.rgsr.tag,
             callers,
         });
         Some(call)

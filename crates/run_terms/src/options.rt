@@ -82,6 +82,8 @@ pub struct OutputOptions {
     pub check: CheckKinds,
     /// The name of the file with what of that is not told.
     pub suppressions: Option<String>,
+    /// Whether the run goes on after what a check finds.
+    pub continues: bool,
     /// The exit status where something was found, instead of 137.
     pub found_status: Option<u8>,
     /// The exit status of a tenant that exited and lost chunks, instead of its own.

@@ -2,7 +2,7 @@
 
 use crate::extent::Extent;
 use heap_picture::Note;
-use mte_backtrace::FrameNames;
+use mte_backtrace::{FrameNames, NumberedFrame};
 use run_records::{Bytes, EntryText};
 use std::alloc::Global;
 use std::io::Write;
@@ -49,9 +49,11 @@ impl<'e, 'n> Notes<'e, 'n> {
     ) -> io::Result<()> {
         let number = extent.chunk.made.number;
         let label = format!(in alloc; "#{number} {}", ChunkSize(extent.chunk.size))?;
+        let made = &extent.chunk.made;
+        let stack = self.names.heap_call_stack(alloc, made.pc, &made.callers)?;
         let title = Title {
             extent,
-            names: self.names,
+            user: stack.user_frame(self.names),
         };
         let title = format!(in alloc; "{title}")?;
         let note = Note {
@@ -86,15 +88,18 @@ impl fmt::Display for ChunkSize {
 #[derive(Clone, Copy)]
 struct Title<'a> {
     extent: &'a Extent,
-    names: &'a FrameNames<'a>,
+    user: Option<NumberedFrame<'a>>,
 }
 
 impl<'a> fmt::Display for Title<'a> {
     fn fmt<W: fmt::Write>(&self, f: &mut fmt::Formatter<W>) -> fmt::Result {
         let chunk = &self.extent.chunk;
         let (size, call) = (Bytes(chunk.size), EntryText(&chunk.made));
-        let place = self.names.instruction(chunk.made.pc);
-        write!(f, "{size}, {call}, {place}")?;
+        write!(f, "{size}, {call}")?;
+        if let Some(user) = &self.user {
+            let frame = user.frame;
+            write!(f, ", {frame}")?;
+        }
         if let Some(entry) = &chunk.freed {
             let number = entry.number;
             write!(f, "; freed by call {number}")?;

@@ -27,7 +27,8 @@ pub enum TenantEnding {
     NotEnded = 7,
     /// The image is refused, or the session never admits the tenant.
     Refused = 8,
-    /// An access went beyond its chunk, where accesses are to keep to them.
+    /// An access went beyond its chunk, where accesses are to keep to them; or it exited after what
+    /// a check found.
     Exact = 9,
     /// It exited, but wrote more than there was room for, where its output is to be whole.
     Cut = 10,
@@ -130,6 +131,12 @@ impl<'a> fmt::Display for LastLine<'a> {
         }
         match &self.log.status {
             _ if ending == TenantEnding::Cut => { write!(f, "ended by {ending}, status {status}") }
+            Status::Exited(code) if ending == TenantEnding::Exact => {
+                write!(
+                    f,
+                    "exited with {code} after what --check found, status {status}"
+                )
+            }
             Status::Exited(code) if *code != status => {
                 write!(f, "exited with {code} and has lost chunks, status {status}")
             }

@@ -18,7 +18,7 @@ mod whole_file;
 
 pub use bench::{TenantBench, WatchLevel, Watcher};
 pub use ending::{LastLine, REFUSED, TenantEnding};
-pub use line_log::{observer_of, quiet_observer};
+pub use line_log::{finder_of, observer_of, quiet_observer};
 pub use lone::{LoneTenant, admission_of, wants_second_run};
 pub use observer::Observer;
 pub use refusal::{RefusalLines, remedy_of};

@@ -1,6 +1,7 @@
 //! Where the lines go that are written while a tenant runs.
 
 use crate::observer::{Observer, checker_of, exact_of, turns_of};
+use crate::survey::silent_observer;
 use crate::tracer::Tracer;
 use crate::whole_file::replace_file;
 use either::Either;
@@ -31,6 +32,7 @@ pub fn observer_of<'a, 'i>(
         image,
         kinds: output.check,
         suppressions,
+        continues: output.continues,
     };
     Ok(observer_with(rt.alloc(), output, tracer, &terms)?)
 }
@@ -44,6 +46,23 @@ pub fn quiet_observer<'i>(
     let mut observer = observer_with(alloc, output, None, terms)?;
     observer.sees_all = output.traced.is_some();
     Ok(observer)
+}
+
+/// What finds, in a tenant of an image, what the options forbid beyond its tags, and remembers
+/// nothing else that they request.
+pub fn finder_of<'i>(
+    alloc: Global,
+    options: &Options,
+    image: &'i [u8],
+    suppressions: &'i Suppressions,
+) -> Result<Observer<'i>, AllocError> {
+    let terms = CheckTerms {
+        image,
+        kinds: options.output.check,
+        suppressions,
+        continues: false,
+    };
+    silent_observer(alloc, options, &terms)
 }
 
 /// The log with the writer of its lines.

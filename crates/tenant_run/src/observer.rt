@@ -12,7 +12,7 @@ use mte_tags::Paged;
 use mte_tenant::{
     AccessUse, MOST_UNSEEN, NotedAccess, Notes, NotesAccesses, Status, TenantParts, Watch,
 };
-use run_cause::{CheckTerms, Checker, Exact, Finding, LastStore, TargetLoad};
+use run_cause::{CheckTerms, Checker, Exact, Finding, Findings, LastStore, TargetLoad};
 use run_records::{Book, Moment, SVC, Statistics, StatisticsTable, Turn};
 use run_terms::Exactness;
 use shadow_memory::Full;
@@ -47,6 +47,8 @@ pub struct Observer<'a> {
     exact: Option<Exact>,
     /// Where pointers come from, where each is to be used as its own chunk allows.
     checker: Option<Checker<'a>>,
+    /// What was found, where the run goes on after it.
+    pub findings: Findings,
     /// The numbers of the run, where they are requested.
     statistics: Option<Statistics>,
     /// Whether a service wrote fewer bytes than it was handed.
@@ -79,6 +81,7 @@ impl<'a> Observer<'a> {
             sees_all: false,
             exact,
             checker,
+            findings: Findings::new(alloc),
             statistics: None,
             is_cut: false,
             store: None,
@@ -127,6 +130,7 @@ impl<'a> Observer<'a> {
         };
         self.is_cut = false;
         self.last.clear();
+        self.findings.clear();
         if let Some(exact) = &mut self.exact {
             exact.restart(alloc);
         }
@@ -179,6 +183,14 @@ impl<'a> Observer<'a> {
             }
         }
         self.exact.as_ref()?.finding()
+    }
+
+    /// How many findings were suppressed.
+    pub fn hidden(&self) -> u64 {
+        match &self.checker {
+            Some(checker) => checker.hidden(),
+            None => 0,
+        }
     }
 
     /// The checker of the tenant's pointers, where it is watched for that.
@@ -350,6 +362,9 @@ impl<'a> Watch for Observer<'a> {
         }
         if let Some(checker) = &mut self.checker {
             checker.note(moment, parts, call.as_ref(), memory);
+            if let Some(finding) = checker.take_passed() {
+                self.findings.enter(&finding, &self.book);
+            }
         }
     }
 }

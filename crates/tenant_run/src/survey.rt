@@ -43,6 +43,7 @@ impl Survey {
             image,
             kinds: options.output.check,
             suppressions,
+            continues: false,
         };
         for number in 0..options.run.seeds {
             let seed = seed_of_run(options.run.terms.seed, number);
@@ -88,8 +89,8 @@ fn ending_under<'x>(
     ending_of(alloc, options, &admission, &mut observer)
 }
 
-/// The watch of a run of which only the ending counts.
-fn silent_observer<'x>(
+/// The watch of a run of which only the ending, or what is found, counts.
+pub(crate) fn silent_observer<'x>(
     alloc: Global,
     options: &Options,
     terms: &CheckTerms<'x>,

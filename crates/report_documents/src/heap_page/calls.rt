@@ -1,11 +1,9 @@
 //! The heap calls of a page.
 
-use a64_registers::Regs;
-use circular_buffer::HeapCircularBuffer;
 use heap_bounds::{Block, CallText};
 use mte_backtrace::{FrameAddresses, Quoted};
 use mte_report::{Context, Report};
-use run_records::{Book, BookChunk, BookEntry, Moment};
+use run_records::{Book, BookChunk, BookEntry};
 use std::alloc::{AllocError, Global};
 use std::collections::BTreeMap;
 use std::io;
@@ -91,10 +89,8 @@ fn write_call<W: Write>(out: &mut W, context: &Context<'_>, entry: &BookEntry) -
         write_made(out, &chunk)?;
     }
     if let Some(start) = entry.ended() {
-        write!(out, ",\"ended\":\"{start:#x}\"")?;
-        if let Some(tag) = drawn_by(context.report, step) {
-            write!(out, ",\"drawn\":{tag}")?;
-        }
+        let tag = entry.drawn;
+        write!(out, ",\"ended\":\"{start:#x}\",\"drawn\":{tag}")?;
     }
     write!(out, "}}")
 }
@@ -102,9 +98,10 @@ fn write_call<W: Write>(out: &mut W, context: &Context<'_>, entry: &BookEntry) -
 /// Writes which function had a heap call made, and its source line, where they are known.
 fn write_where<W: Write>(out: &mut W, context: &Context<'_>, entry: &BookEntry) -> io::Result<()> {
     let stack = context.report.stack_of(context.alloc, entry)?;
-    let Some(frame) = stack.requesting_frame(context.names) else {
+    let Some(found) = stack.user_frame(context.names) else {
         return Ok(());
     };
+    let frame = found.frame;
     let text = format!(in context.alloc; "{frame}")?;
     let text = Quoted(text.as_str());
     write!(out, ",\"where\":{text}")
@@ -121,28 +118,4 @@ fn write_made<W: Write>(out: &mut W, chunk: &BookChunk) -> io::Result<()> {
         }
         None => Ok(()),
     }
-}
-
-/// The tag that was drawn last when a step was done, if it is remembered: that of the granules of a
-/// chunk which the step freed.
-fn drawn_by(report: &Report<'_>, step: u64) -> Option<u8> {
-    let regs = regs_behind(report, step)?;
-    Some(regs.rgsr.tag)
-}
-
-/// The registers after a step, if they are remembered.
-fn regs_behind<'a>(report: &Report<'a>, step: u64) -> Option<&'a Regs> {
-    if step == report.parts.history.steps {
-        return Some(&report.parts.regs);
-    }
-    let moments = report.last?;
-    let index = index_behind(moments, step)?;
-    let moment = moments.get(index)?;
-    Some(&moment.regs)
-}
-
-/// The index of the instruction after a step, of those that are remembered.
-fn index_behind(moments: &HeapCircularBuffer<Moment>, step: u64) -> Option<usize> {
-    let first = moments.front()?.step;
-    usize::try_from(step.checked_add(1)?.checked_sub(first)?).ok()
 }

@@ -8,8 +8,8 @@ pub(crate) const BEFORE_STYLE: &str = "<!doctype html>
 <meta charset='utf-8'>
 <meta name='viewport' content='width=device-width, initial-scale=1'>
 <meta http-equiv='Content-Security-Policy' content=\"default-src 'none';
- style-src 'sha256-8CW6F6k90c4hYiXGoTMZlLaK05m2QZcKpgLKbxlK5kI=';
- script-src 'sha256-2ac6GxgtzmNC76zW6XdEChTFjazc125z+09O8ADheBY='\">
+ style-src 'sha256-OfQLAP53o2N+HxiUSpDwuNz4XAi2F+CU4XD4ps2owSc=';
+ script-src 'sha256-xAZalwghKvQWuQrdPlCROxkhWJYyGR7bN5p3id2JhAI='\">
 <title>The heap of a tenant</title>
 <style>";
 
@@ -20,7 +20,7 @@ pub(crate) const BEFORE_DATA: &str = "</style>
 <header><h1 id='title'>The heap of a tenant</h1><p id='run' class='soft'></p></header>
 <noscript><p>A script shows the data of this page, and scripts are switched off.</p></noscript>
 <section class='cause' aria-labelledby='why'><h2 id='why'>Why it ended</h2><p id='told'></p>
-<p id='story'></p><ol id='stack' aria-label='Calls that led to the end'></ol>
+<p id='story'></p><ol id='stack' start='0' aria-label='Calls that led to the end'></ol>
 <ul id='chunks' aria-label='Heap calls of the cause'></ul></section>
 <section class='steps' aria-label='Steps'>
 <label for='slider'>Step <output id='at' for='slider'></output></label>

@@ -4,7 +4,7 @@ use a64_bits::plain;
 use common::GRANULE_SIZE;
 use mte_flat::Flat;
 use mte_report::Report;
-use run_records::BookEntry;
+use run_records::{BookChunk, BookEntry};
 use std::alloc::{AllocError, Global};
 use std::collections::BTreeMap;
 use std::io;
@@ -17,6 +17,9 @@ const GRANULES: u64 = 32;
 /// The bytes of a row.
 const ROW_SIZE: u64 = GRANULES * GRANULE_SIZE;
 
+/// The bytes of a chunk that may be the stack.
+const LEAST_STACK: u64 = 8_192;
+
 /// How many rows of a chunk there are at most.
 const MOST_OF_CHUNK: u64 = 8;
 
@@ -26,17 +29,22 @@ const MOST_ROWS: usize = 1_024;
 /// ShownRows by their addresses.
 #[derive(Drop)]
 struct ShownRows {
+    /// The stack pointer at the end, without its tag.
+    sp: u64,
     starts: BTreeMap<u64, ()>,
 }
 
 impl ShownRows {
-    /// The rows of the address that ended it, and of the chunks of heap calls, the newest first.
+    /// The rows of the address that ended it, and of the chunks of heap calls but for that of the
+    /// stack, the newest first.
     fn of(
         alloc: Global,
         address: Option<u64>,
+        sp: u64,
         entries: &[BookEntry],
     ) -> Result<ShownRows, AllocError> {
         let mut rows = ShownRows {
+            sp,
             starts: BTreeMap::new(alloc),
         };
         if let Some(address) = address {
@@ -64,12 +72,17 @@ impl ShownRows {
             self.add(start)?;
         }
         match entry.made() {
-            Some(chunk) => self.add_range(
+            Some(chunk) if !self.is_stack(&chunk) => self.add_range(
                 chunk.start().saturating_sub(GRANULE_SIZE),
                 chunk.granules_end(),
             ),
-            None => Ok(()),
+            _ => Ok(()),
         }
+    }
+
+    /// Whether a chunk is the stack: a large one that the stack pointer is in or at the end of.
+    fn is_stack(&self, chunk: &BookChunk) -> bool {
+        chunk.size >= LEAST_STACK && chunk.start() <= self.sp && self.sp <= chunk.end()
     }
 
     /// Adds the first rows of a range, its last address among them.
@@ -91,7 +104,8 @@ pub(crate) fn write_rows<W: Write>(
     memory: &mut Flat,
 ) -> io::Result<()> {
     let address = report.address().map(|address| plain(address));
-    let rows = ShownRows::of(alloc, address, entries)?;
+    let sp = plain(report.parts.regs.sp);
+    let rows = ShownRows::of(alloc, address, sp, entries)?;
     write!(out, "\"rows\":[")?;
     let mut is_first = true;
     for start in rows.starts.keys() {

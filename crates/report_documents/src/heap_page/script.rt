@@ -6,7 +6,7 @@ pub(crate) const SCRIPT: &str = "
 const data = JSON.parse(document.getElementById('data').textContent);
 const run = data.run, calls = data.calls, code = data.code, steps = data.steps;
 const GRANULE = 16, ROW = 32, WINDOW = 20, AROUND = 8, MOST_PRINTED = 160;
-const NOTHING = -1, UNKNOWN = -2, UNMAPPED = -3;
+const NOTHING = -1, UNMAPPED = -3;
 const LIVE = 1, FREED = 2, HEADER = 3;
 const find = name => document.getElementById(name);
 const hex = number => '0x' + number.toString(16);
@@ -60,10 +60,7 @@ function noteEnd(call, live) {
   const isSame = call.made !== undefined && plain(call.made) === start;
   if (isSame) change(call.step, start, chunk.end, 0, 0);
   else if (!chunk.block) change(call.step, start, chunk.end, UNMAPPED, FREED);
-  else {
-    const tag = call.drawn === undefined ? UNKNOWN : call.drawn;
-    change(call.step, start, chunk.end, tag, FREED);
-  }
+  else change(call.step, start, chunk.end, call.drawn, FREED);
 }
 function noteMade(call, live) {
   const start = plain(call.made), end = start + roundUp(Math.max(call.size, 1));
@@ -89,15 +86,6 @@ function noteAll() {
   }
   noteStores();
   changes.sort((one, other) => one.step - other.step);
-  // A tag that is not known is the one at the end where nothing changed it later.
-  const later = new Set();
-  for (let index = changes.length - 1; index >= 0; index--) {
-    const it = changes[index];
-    if (it.tag === UNKNOWN) {
-      it.tags = it.cells.map(cell => later.has(cell) ? UNKNOWN : atEnd[cell]);
-    }
-    it.cells.forEach(cell => later.add(cell));
-  }
 }
 noteAll();
 
@@ -106,8 +94,8 @@ function heapAt(step) {
   const fresh = new Set();
   for (const it of changes) {
     if (it.step > step) break;
-    it.cells.forEach((cell, index) => {
-      tags[cell] = it.tags ? it.tags[index] : it.tag;
+    it.cells.forEach(cell => {
+      tags[cell] = it.tag;
       if (it.state !== undefined) states[cell] = it.state;
       if (it.step === step) fresh.add(cell);
     });
@@ -175,7 +163,7 @@ function showLegend() {
     put(legend, 'span', tag.toString(16), 'key t' + tag.toString(16));
   }
   put(legend, 'span', ' = in a live chunk, x in one that was freed, h a header, ^ accessed by ' +
-    'this step; ? not known, . not mapped, blank: nothing reached it yet.');
+    'this step; . not mapped, blank: nothing reached it yet.');
 }
 
 function focusCell(parts, call) {
@@ -195,8 +183,7 @@ function touched(parts) {
   return cells;
 }
 const MARKS = ['', '=', 'x', 'h'], KINDS = ['', 'live', 'freed', 'header'];
-const tagText = tag => tag === NOTHING ? '' : tag === UNKNOWN ? '?' : tag === UNMAPPED ? '.'
-  : tag.toString(16);
+const tagText = tag => tag === NOTHING ? '' : tag === UNMAPPED ? '.' : tag.toString(16);
 
 function showCell(line, cell, heap, marked) {
   const tag = heap.tags[cell], state = heap.states[cell];
@@ -246,7 +233,8 @@ function showCode(step) {
     put(line, 'td', whereAt(at));
   }
   if (!body.rows.length) {
-    put(put(body, 'tr'), 'td', 'The instructions of this step are not remembered.').colSpan = 4;
+    put(put(body, 'tr'), 'td', 'The instructions of this step are not remembered: --last N ' +
+      'remembers more.').colSpan = 4;
   }
 }
 function showCalls(index, isJump) {
@@ -359,16 +347,27 @@ function showHead() {
     ', exit status ' + run.exit_status;
   find('told').textContent = shown(run.cause || statusText());
   if (run.cause) find('story').textContent = shown(statusText());
-  for (const frame of run.stack) put(find('stack'), 'li', frameText(frame));
-  for (const chunk of run.chunks) {
-    showRelated('allocated', chunk.allocated);
+  showStack(find('stack'), run);
+  run.chunks.forEach((chunk, index) => {
+    const front = index === 0 ? '' : 'its block was given again, as a chunk of ' + chunk.size +
+      ' bytes, ';
+    showRelated(front + 'allocated', chunk.allocated);
     if (chunk.freed) showRelated('freed', chunk.freed);
-  }
+  });
   showCallList();
 }
+// The calls that led to something; those in front of the user's are a library's.
+function showStack(list, led) {
+  led.stack.forEach((frame, index) => {
+    put(list, 'li', frameText(frame), index < led.user ? 'library' : '');
+  });
+}
 function showRelated(verb, call) {
-  put(find('chunks'), 'li', verb + ' by call ' + call.number + ', ' + call.call +
-    ' = ' + call.result + ', step ' + call.step + ', in ' + call.stack.map(frameText).join(', '));
+  const item = put(find('chunks'), 'li', verb + ' by call ' + call.number + ', ' + call.call +
+    ' = ' + call.result + ', step ' + call.step);
+  const list = put(item, 'ol');
+  list.start = 0;
+  showStack(list, call);
 }
 function showCallList() {
   const made = find('calls').tBodies[0];

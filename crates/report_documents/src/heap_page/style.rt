@@ -17,7 +17,8 @@ code,td,th,#now,#stack,#chunks{font-family:ui-monospace,monospace;font-size:13px
 .cause{background:var(--cause);border-left:5px solid var(--red);padding:8px 12px;
  overflow-wrap:anywhere}
 #told{font-weight:600}
-#stack,#chunks{margin:.3em 0;padding-left:1.6em}
+#stack,#chunks,#chunks ol{margin:.3em 0;padding-left:1.6em}
+.library{color:var(--soft)}
 .steps{position:sticky;top:0;background:var(--paper);padding:8px 0;z-index:1;
  border-bottom:1px solid var(--line)}
 #slider{width:100%;height:28px;margin:2px 0;accent-color:var(--focus)}
