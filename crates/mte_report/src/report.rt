@@ -222,7 +222,10 @@ fn tell_wrong<W: Write>(out: &mut W, wrong: &ForbiddenAccess, at: At<'_>) -> io:
         )?;
         return writeln!(out, "  {why} depends on them");
     }
-    if matches!(wrong.violation, Violation::Arithmetic(_)) {
+    if matches!(
+        wrong.violation,
+        Violation::Arithmetic(_) | Violation::Argument(_)
+    ) {
         return writeln!(out, "{finder}: the instruction at {at} {why}");
     }
     if wrong.violation.is_free() {
