@@ -34,6 +34,8 @@ BUGS = {
 }
 IDIOMS = range(1, 8)
 
+# What makes mte_run look at each attempt.
+EACH_STEP = ("--trace=18446744073709551615-18446744073709551615",)
 SIZE = 1024
 # The functions whose ranges may not overlap; those with a size in x2; and those that make chunks,
 # with the registers of their sizes.
@@ -201,7 +203,8 @@ def test_the_first_wrong_call_is_told(alone: pathlib.Path, tmp_path: pathlib.Pat
     need("clang", "ld.lld")
     draw = random.Random(seed)
     held, is_chunk, is_alias = contents(draw), seed % 2 == 1, seed % 3 == 2
-    calls, told = [], ""
+    calls: list[Call] = []
+    told = ""
     most = draw.randrange(100, 300)
     while len(calls) < 400 and not told:
         call = drawn(draw)
@@ -210,11 +213,13 @@ def test_the_first_wrong_call_is_told(alone: pathlib.Path, tmp_path: pathlib.Pat
             continue
         calls.append(call)
         told = said
-    source, image = tmp_path / "calls.s", tmp_path / "calls.elf"
+    source, path = tmp_path / "calls.s", tmp_path / "calls.elf"
     source.write_text(assembly(calls, held, is_chunk, is_alias), encoding="ascii")
     succeed(["clang", "--target=aarch64-linux-gnu", "-fuse-ld=lld", "-nostdlib", "-static",
-             "-o", image, source])
-    ran = run([alone, "--check=arguments", image])
+             "-o", path, source])
+    ran = run([alone, "--check=arguments", path])
+    shown = run([alone, "--check=arguments", *EACH_STEP, "--trace-file", tmp_path / "lines", path])
+    assert (shown.status, shown.errors) == (ran.status, ran.errors)
     found = re.search(r"^Cause: \[check\]: (.*)$", ran.errors, re.M)
     if not told:
         assert ran.status == 0 and not found, ran.errors

@@ -284,14 +284,14 @@ def test_mismatched_sizes(alone: pathlib.Path, tmp_path: pathlib.Path, build: st
         assert (told_size in told) == (kind == "Size" or freed in (5, 6)), (made, freed, told)
     for case in (1, 2, 3, 4, 5, 6):
         path = image(tmp_path, build, "deleted_sizes.cc", f"CASE={case}")
-        told = check(alone, path, kinds="frees")
-        assert told.status == 0 and "Cause" not in told.errors, (case, told.errors)
+        ran = check(alone, path, kinds="frees")
+        assert ran.status == 0 and "Cause" not in ran.errors, (case, ran.errors)
     for case, made, freed in ((11, 40, 8), (12, 48, 8), (13, 8, 4)):
         path = image(tmp_path, build, "deleted_sizes.cc", f"CASE={case}")
-        told = check(alone, path, kinds="frees")
+        ran = check(alone, path, kinds="frees")
         wanted = f"Mismatched Size of a {made}-byte allocation at "
-        assert told.status == 137 and wanted in told.errors, (case, told.errors)
-        assert f"by operator delete as one of {freed} bytes\n" in told.errors, (case, told.errors)
+        assert ran.status == 137 and wanted in ran.errors, (case, ran.errors)
+        assert f"by operator delete as one of {freed} bytes\n" in ran.errors, (case, ran.errors)
 
 
 @pytest.mark.parametrize("build", sorted(BUILDS))

@@ -138,8 +138,8 @@ impl ArgumentFault {
         )
     }
 
-    /// The same with the lengths of the source, of which at most `bound` bytes are looked at, and of
-    /// the string that it is added to; `None` where the ranges do not overlap.
+    /// The same with the lengths of the source, of which at most `bound` bytes are looked at, and
+    /// of the string that it is added to; `None` where the ranges do not overlap.
     fn with_lengths(self, source: u64, before: u64, bound: u64) -> Option<ArgumentFault> {
         let whole = source.saturating_add(1);
         let (read, written) = match self.function {

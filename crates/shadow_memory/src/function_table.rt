@@ -1,4 +1,5 @@
-//! Where an image has the functions that make and free chunks, and those whose arguments are judged.
+//! Where an image has the functions that make and free chunks, and those whose arguments are
+//! judged.
 
 use crate::called_function::CalledFunction;
 use crate::heap_function::HeapFunction;

@@ -64,7 +64,8 @@ impl HeapFunction {
         }
     }
 
-    /// Whether the operator of C++ with a symbol's name is told the size of the chunk that it frees.
+    /// Whether the operator of C++ with a symbol's name is told the size of the chunk that it
+    /// frees.
     pub(crate) fn takes_freed_size(name: &str) -> bool {
         matches!(
             name,
