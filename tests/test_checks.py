@@ -3,6 +3,7 @@ programs do with pointers."""
 
 import json
 import pathlib
+import random
 import re
 import shutil
 import sys
@@ -107,7 +108,8 @@ def image(shared: pathlib.Path, build: str, source: str, *defined: str) -> pathl
     def compile_image(path: pathlib.Path) -> None:
         for file in (SOURCES / source, EXAMPLES / "c" / "start.c", EXAMPLES / "c" / "tenant.h"):
             shutil.copy(file, path.parent)
-        cpp = ["-fno-exceptions", "-fno-rtti"] if source.endswith(".cc") else []
+        cpp = ["-fno-exceptions", "-fno-rtti", "-fsized-deallocation"]
+        cpp = cpp if source.endswith(".cc") else []
         options = [*FLAGS, "-fno-builtin", *cpp, *(f"-D{it}" for it in defined)]
         succeed([*words, *options, "-o", path.name, "./start.c", f"./{source}"], cwd=path.parent)
 
@@ -196,6 +198,51 @@ def test_lost_chunks_of_a_stack(
         compiled(library, source, compiler, level, path, (*WARNINGS, f"-DLIVE={live}"))
         for told in (check(alone, path), run([alone, "--check=leaks", path])):
             assert told.status == 0 and f"mte_run: {lost}\n" in told.errors, (live, told.errors)
+            assert re.search(r", the first by call \d+, in a cycle\n", told.errors), told.errors
+
+
+def led_to(edges: set[tuple[int, int]], start: int) -> set[int]:
+    """What a chunk leads to, over others too."""
+    found: set[int] = set()
+    more = {start}
+    while more:
+        more = {to for source, to in edges if source in more} - found
+        found |= more
+    return found
+
+
+@pytest.mark.parametrize("build", ("clang-O0", "clang-O2"))
+def test_lost_chunks_that_lead_to_one_another(
+    alone: pathlib.Path, tmp_path: pathlib.Path, build: str
+) -> None:
+    """Of drawn chunks those are lost that only what they lead to themselves leads to, the oldest of
+    a cycle; the others that are not reached are counted."""
+    path, draw = image(tmp_path, build, "lost_graph.c"), random.Random(build)
+    for _ in range(60):
+        count, kept = draw.randrange(1, 10), draw.choice((0, 1, 9))
+        edges = {(draw.randrange(count), draw.randrange(count))
+                 for _ in range(draw.randrange(2 * count))}
+        given = bytes([count, kept, *(end for edge in sorted(edges) for end in edge)])
+        reached = {kept} | led_to(edges, kept) if kept < count else set()
+        ways = {it: led_to(edges, it) for it in set(range(count)) - reached}
+        lost = [it for it in ways if all(
+            other in ways[it] and other >= it for other, way in ways.items() if it in way)]
+        cycles = sum(any(it in ways[to] for to in ways[it] - {it}) for it in lost)
+        told = check(alone, path, given=given, kinds="leaks").errors
+        assert_lost(told, (lost, sorted(set(ways) - set(lost))), cycles)
+
+
+def assert_lost(told: str, chunks: tuple[list[int], list[int]], cycles: int) -> None:
+    """Whether these chunks are told, lost ones and those that they lead to, by their sizes."""
+    amounts = [f"{len(it)} chunk{'s' * (len(it) != 1)}, {sum(64 << n for n in it)} bytes"
+               for it in chunks]
+    if not chunks[0]:
+        assert "lost at the end" not in told, told
+        return
+    assert f"lost at the end: {amounts[0]}; by these alone was led to {amounts[1]}\n" in told
+    place = re.search(rf"^  {amounts[0]}, the first by call \d+(.*)$", told, re.M)
+    some = "" if cycles == len(chunks[0]) else f" {cycles}"
+    assert place and place[1] == (f",{some} in a cycle" if cycles else ""), (cycles, told)
 
 
 @pytest.mark.parametrize("build", sorted(BUILDS))
@@ -221,6 +268,30 @@ def test_mismatched_frees(alone: pathlib.Path, tmp_path: pathlib.Path, build: st
     stripped = tmp_path / "stripped.elf"
     succeed(["llvm-objcopy", "--strip-all", path, stripped])
     assert check(alone, stripped, given=b"10").status == 0
+
+
+@pytest.mark.parametrize("build", sorted(BUILDS))
+def test_mismatched_sizes(alone: pathlib.Path, tmp_path: pathlib.Path, build: str) -> None:
+    """Operators of C++ that are told another size than the chunk was made with, by their names and
+    as compilers call them; the right size is not told, nor is one of another function's chunk."""
+    path = image(tmp_path, build, "mismatched_frees.c")
+    for made, freed, kind in ((1, 3, ""), (1, 5, "Size"), (2, 4, ""), (2, 6, "Size"),
+                              (0, 5, "Free"), (2, 3, "Free"), (1, 6, "Free")):
+        told = check(alone, path, given=f"{made}{freed}".encode()).errors
+        wanted = f"Cause: [check]: Mismatched {kind} of a 40-byte allocation at "
+        assert (wanted in told) == ("Cause" in told) == (kind != ""), (made, freed, told)
+        told_size = f"operator delete{'[]' if freed in (4, 6) else ''} as one of 16 bytes\n"
+        assert (told_size in told) == (kind == "Size" or freed in (5, 6)), (made, freed, told)
+    for case in (1, 2, 3, 4, 5, 6):
+        path = image(tmp_path, build, "deleted_sizes.cc", f"CASE={case}")
+        ran = check(alone, path, kinds="frees")
+        assert ran.status == 0 and "Cause" not in ran.errors, (case, ran.errors)
+    for case, made, freed in ((11, 40, 8), (12, 48, 8), (13, 8, 4)):
+        path = image(tmp_path, build, "deleted_sizes.cc", f"CASE={case}")
+        ran = check(alone, path, kinds="frees")
+        wanted = f"Mismatched Size of a {made}-byte allocation at "
+        assert ran.status == 137 and wanted in ran.errors, (case, ran.errors)
+        assert f"by operator delete as one of {freed} bytes\n" in ran.errors, (case, ran.errors)
 
 
 @pytest.mark.parametrize("build", sorted(BUILDS))
@@ -323,6 +394,7 @@ def test_kinds(alone: pathlib.Path, tmp_path: pathlib.Path) -> None:
     cases = {
         "provenance": image(tmp_path, "clang-O0", "pointer_bugs.c", "BUG=28"),
         "frees": image(tmp_path, "clang-O0", "pointer_bugs.c", "BUG=23"),
+        "arguments": image(tmp_path, "clang-O0", "argument_bugs.c", "BUG=8"),
         "leaks": image(tmp_path, "clang-O0", "pointer_bugs.c", "BUG=32"),
         "undefined": image(tmp_path, "clang-O0", "undefined_bugs.c", "BUG=2"),
     }

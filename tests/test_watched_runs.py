@@ -24,6 +24,7 @@ from tests.support.instructions import (
 from tests.support.running import Word, run, succeed
 from tests.support.samples import FLAGS
 from tests.support.tools import need
+from tests.test_arguments import BUGS as ARGUMENTS
 from tests.test_checks import (
     ARITHMETIC, BUGS, BUILDS, IDIOMS, PLACE_IDIOMS, PLACES, PLAIN_PLACES, UNDEFINED,
     UNDEFINED_IDIOMS, image,
@@ -43,7 +44,7 @@ ASKED: list[list[str]] = [
     ["--exact", "--last", "40", "--map", "text"], ["--statistics", "--steps", "1500"],
 ]
 # The kinds of checks that follow instructions, each alone and all of them.
-KINDS = ("provenance", "frees", "leaks", "undefined", "arithmetic")
+KINDS = ("provenance", "frees", "arguments", "leaks", "undefined", "arithmetic")
 ALL_KINDS = "--check=" + ",".join(KINDS)
 CHECKED: list[list[str]] = [
     ["--check"], [ALL_KINDS], *([f"--check={kind}"] for kind in KINDS),
@@ -109,6 +110,7 @@ def test_checked_bugs(alone: pathlib.Path, tmp_path: pathlib.Path) -> None:
         "pointer_bugs.c": ("BUG", (*BUGS, LOST)), "undefined_bugs.c": ("BUG", UNDEFINED),
         "arithmetic_bugs.c": ("BUG", ARITHMETIC), "pointer_idioms.c": ("IDIOM", IDIOMS),
         "undefined_idioms.c": ("IDIOM", UNDEFINED_IDIOMS), "watched_bugs.c": ("BUG", (1, 2)),
+        "argument_bugs.c": ("BUG", ARGUMENTS),
     }
     found = []
     for source, (name, numbers) in sources.items():
@@ -130,6 +132,10 @@ def test_checked_frees(alone: pathlib.Path, tmp_path: pathlib.Path) -> None:
             words: list[Word] = ["--check=frees", "--input", tmp_path / "input", path]
             assert differs(alone, tmp_path, words) == ""
             assert (kind_of_end(tmp_path) == "check") == (pair // 3 != pair % 3)
+        for given in (b"13", b"15", b"24", b"26"):
+            (tmp_path / "input").write_bytes(given)
+            assert differs(alone, tmp_path, ["--check=frees", "--input", tmp_path / "input", path]
+                           ) == ""
 
 
 def cases_of_places() -> list[tuple[str, list[str]]]:

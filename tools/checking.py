@@ -41,8 +41,8 @@ FOUND, BY_CHANCE, MISSED, ABSENT = "yes", "(yes)", "-", "?"
 # AddressSanitizer knows chunks and variables. What else they report is chance: it depends on what
 # is next to the bytes on the stack of the machine.
 KNOWN = {
-    "AddressSanitizer": ("pointer_bugs.c", "place_bugs.c"),
-    "memcheck": ("pointer_bugs.c", "undefined_bugs.c"),
+    "AddressSanitizer": ("pointer_bugs.c", "place_bugs.c", "argument_bugs.c"),
+    "memcheck": ("pointer_bugs.c", "undefined_bugs.c", "argument_bugs.c"),
 }
 # Each of them knows what is no chunk and is freed.
 FREES = re.compile("is freed$|gets another size$")
@@ -54,6 +54,7 @@ MISMATCHES = {
     "10": "`new`, then `free`",
     "21": "`new[]`, then `delete`",
     "01": "`malloc`, then `delete`",
+    "15": "`new` of 40 bytes, then `delete` of 16",
 }
 
 
@@ -80,7 +81,7 @@ class Row(NamedTuple):
 
 def bugs() -> Iterator[Bug]:
     """The bugs that a checker of memory may find, in the order of their sources."""
-    for source in ("pointer_bugs.c", "undefined_bugs.c", "place_bugs.c"):
+    for source in ("pointer_bugs.c", "undefined_bugs.c", "place_bugs.c", "argument_bugs.c"):
         text = (SOURCES / source).read_text(encoding="utf-8")
         for number, title in re.findall(r"^#(?:el)?if BUG == (\d+) /\* (.*) \*/$", text, re.M):
             yield Bug(source, (f"-DBUG={number}",), b"y" * 100, title)

@@ -1,5 +1,6 @@
 /* A chunk that one function of C or C++ makes and another frees. The input's two digits say which:
-   0 is malloc and free, 1 new and delete, 2 new[] and delete[]. */
+   0 is malloc and free, 1 new and delete, 2 new[] and delete[]; of the second digit 3 and 4 are
+   delete and delete[] that are told the size, 5 and 6 those that are told another. */
 #include "tenant.h"
 
 #define NAMED(name) __asm__(name) __attribute__((noinline, used))
@@ -10,6 +11,8 @@ void *cxx_new(size_t size) NAMED("_Znwm");
 void cxx_delete(void *chunk) NAMED("_ZdlPv");
 void *cxx_new_array(size_t size) NAMED("_Znam");
 void cxx_delete_array(void *chunk) NAMED("_ZdaPv");
+void cxx_delete_sized(void *chunk, size_t size) NAMED("_ZdlPvm");
+void cxx_delete_array_sized(void *chunk, size_t size) NAMED("_ZdaPvm");
 
 static volatile int calls[4];
 static void *volatile kept;
@@ -36,6 +39,13 @@ void *cxx_new_array(size_t size)
 void cxx_delete(void *chunk) { calls[2]++, c_free(chunk); }
 void cxx_delete_array(void *chunk) { calls[3]++, cxx_delete(chunk); }
 
+void cxx_delete_sized(void *chunk, size_t size) { calls[2] += size, cxx_delete(chunk); }
+void cxx_delete_array_sized(void *chunk, size_t size)
+{
+    calls[3] += size;
+    cxx_delete_array(chunk);
+}
+
 static void *make(char which)
 {
     switch (which) {
@@ -50,6 +60,10 @@ static void release(char which, void *chunk)
     switch (which) {
     case '0': c_free(chunk); break;
     case '1': cxx_delete(chunk); break;
+    case '3': cxx_delete_sized(chunk, 40); break;
+    case '4': cxx_delete_array_sized(chunk, 40); break;
+    case '5': cxx_delete_sized(chunk, 16); break;
+    case '6': cxx_delete_array_sized(chunk, 16); break;
     default: cxx_delete_array(chunk); break;
     }
 }

@@ -21,6 +21,8 @@ struct LeakPlace {
     entry: BookEntry,
     chunks: u64,
     bytes: u64,
+    /// How many of the chunks are reached from those alone that they lead to.
+    in_cycles: u64,
 }
 
 /// All places, and what no longer has room among them.
@@ -44,18 +46,25 @@ impl Places {
     /// Enters chunks.
     fn enter_all(&mut self, chunks: &[BookChunk]) -> Result<(), AllocError> {
         for chunk in chunks {
-            self.enter(&chunk.made, chunk.size)?;
+            self.enter(&chunk.made, chunk.size, false)?;
         }
         Ok(())
     }
 
-    /// Enters a chunk of some bytes that a call made.
-    fn enter(&mut self, entry: &BookEntry, bytes: u64) -> Result<(), AllocError> {
+    /// Enters a chunk of some bytes that a call made; `is_in_cycle` where it is reached from those
+    /// alone that it leads to.
+    fn enter(
+        &mut self,
+        entry: &BookEntry,
+        bytes: u64,
+        is_in_cycle: bool,
+    ) -> Result<(), AllocError> {
         self.chunks = self.chunks.saturating_add(1);
         self.bytes = self.bytes.saturating_add(bytes);
         if let Some(place) = find(self.places.as_mut_slice(), entry) {
             place.chunks = place.chunks.saturating_add(1);
             place.bytes = place.bytes.saturating_add(bytes);
+            place.in_cycles = place.in_cycles.saturating_add(u64::from(is_in_cycle));
             return Ok(());
         }
         if self.places.len() >= PLACES {
@@ -65,6 +74,7 @@ impl Places {
             entry: *entry,
             chunks: 1,
             bytes,
+            in_cycles: u64::from(is_in_cycle),
         })?;
         Ok(())
     }
@@ -201,7 +211,7 @@ impl<'a> Report<'a> {
                 &mut places
             };
             if let Some(entry) = self.entry(chunk.number) {
-                target.enter(entry, chunk.size)?;
+                target.enter(entry, chunk.size, chunk.is_in_cycle)?;
             }
         }
         Ok((places, led_to))
@@ -247,6 +257,11 @@ impl<'a> Context<'a> {
         let number = place.entry.number;
         let stack = self.report.stack_of(self.alloc, &place.entry)?;
         write!(out, "  {chunks}, {bytes}, the first by call {number}")?;
+        match place.in_cycles {
+            0 => {}
+            all if all == place.chunks => write!(out, ", in a cycle")?,
+            some => write!(out, ", {some} in a cycle")?,
+        }
         if let Some(user) = stack.user_frame(self.names) {
             let frame = user.frame;
             write!(out, ", in {frame}")?;

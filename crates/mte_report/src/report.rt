@@ -229,7 +229,10 @@ pub(crate) fn tell_wrong<W: Write>(
         )?;
         return writeln!(out, "  {why} depends on them");
     }
-    if matches!(wrong.violation, Violation::Arithmetic(_)) {
+    if matches!(
+        wrong.violation,
+        Violation::Arithmetic(_) | Violation::Argument(_)
+    ) {
         return writeln!(out, "{finder}: the instruction at {at} {why}");
     }
     if wrong.violation.is_free() {

@@ -7,7 +7,9 @@ use a64_bits::plain;
 use a64_instr::fields::RegisterOffset;
 use a64_registers::Regs;
 use common::PAGE_SIZE;
-use shadow_memory::{AccessedBytes, HeapFunction, OriginKind, PointerOrigin, Sign, Step};
+use shadow_memory::{
+    AccessedBytes, FreeingFunction, HeapFunction, OriginKind, PointerOrigin, Sign, Step,
+};
 use std::alloc::AllocError;
 
 /// A use of a pointer that its chunk does not allow.
@@ -27,6 +29,8 @@ pub enum MisuseKind {
     InnerFree,
     /// A free by a function of C or C++ that is not for a chunk of the function that made it.
     MismatchedFree,
+    /// A free by an operator of C++ that is told another size than the chunk was made with.
+    MismatchedSize,
 }
 
 /// A use of a pointer that its chunk does not allow.
@@ -44,7 +48,7 @@ pub struct Misuse {
     /// Whether nothing is known of the pointer.
     pub is_by_address: bool,
     /// The function of C or C++ that a free is for, where it is known.
-    pub function: Option<HeapFunction>,
+    pub function: Option<FreeingFunction>,
 }
 
 impl Shadow {
@@ -120,7 +124,7 @@ impl Shadow {
 
     /// The misuse of the pointer in x0, which a heap call is to free or to give another size,
     /// made for a function of C or C++, where it is known for which.
-    pub fn judge_free(&self, pointer: u64, function: Option<HeapFunction>) -> Option<Misuse> {
+    pub fn judge_free(&self, pointer: u64, function: Option<FreeingFunction>) -> Option<Misuse> {
         let chunk = *self.chunk(self.pointer(0))?;
         let kind = if !chunk.is_live {
             MisuseKind::DoubleFree
@@ -128,6 +132,8 @@ impl Shadow {
             MisuseKind::InnerFree
         } else if is_mismatched(&chunk, function) {
             MisuseKind::MismatchedFree
+        } else if has_other_size(&chunk, function) {
+            MisuseKind::MismatchedSize
         } else {
             return None;
         };
@@ -213,11 +219,21 @@ fn judge_in(chunk: TracedChunk, access: AccessedBytes, is_by_address: bool) -> O
 }
 
 /// Whether a chunk was made for a function whose chunks another one is to free.
-fn is_mismatched(chunk: &TracedChunk, freer: Option<HeapFunction>) -> bool {
+fn is_mismatched(chunk: &TracedChunk, freer: Option<FreeingFunction>) -> bool {
     match (chunk.maker, freer) {
-        (Some(maker), Some(freer)) => maker.is_mismatched(freer),
+        (Some(maker), Some(freer)) => maker.is_mismatched(freer.function),
         _ => false,
     }
+}
+
+/// Whether a chunk that an operator of C++ made has another size than the one that frees it is
+/// told. One of 0 bytes may have been made with 1.
+fn has_other_size(chunk: &TracedChunk, freer: Option<FreeingFunction>) -> bool {
+    let size = match (chunk.maker, freer) {
+        (Some(HeapFunction::New | HeapFunction::NewArray), Some(freer)) => freer.size,
+        _ => None,
+    };
+    size.is_some_and(|size| size.max(1) != u64::from(chunk.size.max(1)))
 }
 
 /// Whether an instruction reads an aligned word that begins in a chunk: functions that look at

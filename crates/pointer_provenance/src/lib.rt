@@ -4,6 +4,7 @@
 #![tactic(auto)]
 
 mod access_rules;
+mod arguments;
 mod chunk_table;
 mod heap_calls;
 mod judgement;
@@ -12,6 +13,7 @@ mod reach;
 mod register_rules;
 mod shadow;
 
+pub use arguments::{ArgumentFault, ArgumentFaultKind, CopiedRange};
 pub use chunk_table::TracedChunk;
 pub use heap_calls::ChunkChange;
 pub use judgement::{Misuse, MisuseKind};

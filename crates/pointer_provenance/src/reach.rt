@@ -16,6 +16,8 @@ pub enum Reach {
     Reachable,
     /// By nothing, but from the chunk itself.
     Lost,
+    /// By nothing, but from chunks that it leads to.
+    LostInCycle,
     /// From a lost chunk alone.
     IndirectlyLost,
 }
@@ -35,6 +37,12 @@ pub struct ReachTable {
     states: Vec<Reach>,
     /// The chunks whose words are still to be looked at.
     waiting: Vec<usize>,
+    /// The chunk whose words are looked at, if it is one's.
+    source: Option<usize>,
+    /// The lost chunk that is followed, once all that are reached are.
+    root: Option<usize>,
+    /// Whether another chunk leads to that.
+    is_cycle: bool,
 }
 
 /// A live chunk that is not reached.
@@ -46,6 +54,8 @@ pub struct LostChunk {
     pub size: u64,
     /// Whether it is reached from another that is lost.
     pub is_indirect: bool,
+    /// Whether it is reached from those alone that it leads to.
+    pub is_in_cycle: bool,
 }
 
 impl Shadow {
@@ -79,6 +89,9 @@ impl ReachTable {
         let mut table = ReachTable {
             states: vec![in alloc; Reach::Nothing; shadow.chunks.len()]?,
             waiting: Vec::new(alloc),
+            source: None,
+            root: None,
+            is_cycle: false,
         };
         table.enter_stack(shadow);
         table.enter_registers(shadow, regs)?;
@@ -86,28 +99,68 @@ impl ReachTable {
             table.scan(shadow, range, Reach::Reachable, memory)?;
         }
         table.follow(shadow, Reach::Reachable, memory)?;
-        for index in 0..shadow.chunks.len() {
-            if table.is_unreached(shadow, index) {
-                table.lose(shadow, index, memory)?;
+        let firsts = table.unreached(alloc, shadow, memory)?;
+        table.forget_lost();
+        table.lose_all(shadow, firsts.as_slice(), memory)?;
+        Ok(table)
+    }
+
+    /// Enters which chunks are lost, by the first ones of those that are not reached.
+    fn lose_all<M: Tagged>(
+        &mut self,
+        shadow: &Shadow,
+        firsts: &[usize],
+        memory: &mut M,
+    ) -> Result<(), AllocError> {
+        for first in firsts.iter().rev() {
+            if self.is_unreached(shadow, *first) {
+                self.lose(shadow, *first, memory)?;
             }
         }
-        Ok(table)
+        Ok(())
+    }
+
+    /// Chunks that are not reached, from which all others are that are not: one of each cycle that
+    /// nothing else leads to, and some that those lead to which come after them.
+    fn unreached<M: Tagged>(
+        &mut self,
+        alloc: Global,
+        shadow: &Shadow,
+        memory: &mut M,
+    ) -> Result<Vec<usize>, AllocError> {
+        let mut firsts = Vec::new(alloc);
+        for index in 0..shadow.chunks.len() {
+            if self.is_unreached(shadow, index) {
+                self.enter_chunk(shadow, index, Reach::IndirectlyLost)?;
+                self.follow(shadow, Reach::IndirectlyLost, memory)?;
+                firsts.push(index)?;
+            }
+        }
+        Ok(firsts)
+    }
+
+    /// Forgets which chunks are lost.
+    fn forget_lost(&mut self) {
+        for state in self.states.iter_mut() {
+            if *state == Reach::IndirectlyLost {
+                *state = Reach::Nothing;
+            }
+        }
     }
 
     /// The live chunks that are not reached, in the order of the table of chunks.
     pub fn lost(&self, alloc: Global, shadow: &Shadow) -> Result<Vec<LostChunk>, AllocError> {
         let mut lost = Vec::new(alloc);
         for (index, state) in self.states.iter().enumerate() {
-            let is_indirect = match state {
-                Reach::Lost => false,
-                Reach::IndirectlyLost => true,
-                Reach::Nothing | Reach::Reachable => continue,
-            };
+            if matches!(state, Reach::Nothing | Reach::Reachable) {
+                continue;
+            }
             if let Some(chunk) = shadow.chunks.get(index) {
                 lost.push(LostChunk {
                     number: chunk.number,
                     size: u64::from(chunk.size),
-                    is_indirect,
+                    is_indirect: *state == Reach::IndirectlyLost,
+                    is_in_cycle: *state == Reach::LostInCycle,
                 })?;
             }
         }
@@ -139,17 +192,25 @@ impl ReachTable {
         }
     }
 
-    /// Enters that a chunk is lost, and those that it leads to.
+    /// Enters that a chunk is lost, and those that it leads to. No other that is lost leads to it,
+    /// but those.
     fn lose<M: Tagged>(
         &mut self,
         shadow: &Shadow,
         index: usize,
         memory: &mut M,
     ) -> Result<(), AllocError> {
+        self.source = None;
         self.enter_chunk(shadow, index, Reach::IndirectlyLost)?;
+        self.root = Some(index);
+        self.is_cycle = false;
         self.follow(shadow, Reach::IndirectlyLost, memory)?;
         if let Some(state) = self.states.get_mut(index) {
-            *state = Reach::Lost;
+            *state = if self.is_cycle {
+                Reach::LostInCycle
+            } else {
+                Reach::Lost
+            };
         }
         Ok(())
     }
@@ -170,6 +231,7 @@ impl ReachTable {
                     start: chunk.start(),
                     end: chunk.end(),
                 };
+                self.source = Some(index);
                 self.scan(shadow, &range, reach, memory)?;
             }
         }
@@ -228,8 +290,7 @@ impl ReachTable {
         Ok(())
     }
 
-    /// Enters that a chunk is reached, where it is live and was not. A chunk that counts as lost is
-    /// reached from another that is.
+    /// Enters that a chunk is reached, where it is live and was not.
     fn enter_chunk(
         &mut self,
         shadow: &Shadow,
@@ -243,13 +304,12 @@ impl ReachTable {
         if !is_live {
             return Ok(());
         }
-        match *state {
-            Reach::Nothing => {
-                *state = reach;
-                self.waiting.push(index)?;
-            }
-            Reach::Lost => *state = Reach::IndirectlyLost,
-            Reach::Reachable | Reach::IndirectlyLost => {}
+        if self.root == Some(index) && self.source != self.root {
+            self.is_cycle = true;
+        }
+        if *state == Reach::Nothing {
+            *state = reach;
+            self.waiting.push(index)?;
         }
         Ok(())
     }

@@ -1,5 +1,6 @@
 //! The most likely cause of an end, in the manner of the reports of Android's memory tagging.
 
+use crate::argument_text::ArgumentText;
 use crate::cause_words::CauseKind;
 use crate::evidence::{Evidence, NEAR};
 use crate::exact::ForbiddenAccess;
@@ -10,10 +11,10 @@ use heap_bounds::{Block, Trespass};
 use mte_svc::{FREE, Record, Status};
 use mte_tags::{FaultKind, MemFault, tag_of};
 use named_places::{PlaceKind, PlaceMisuse, PlaceMisuseKind, PlaceText};
-use pointer_provenance::{Misuse, MisuseKind};
+use pointer_provenance::{ArgumentFault, ArgumentFaultKind, Misuse, MisuseKind};
 use run_records::{Book, BookChunk, BookEntry, Bytes, ChunkQuery};
 use scudo_heap::HeapCall;
-use shadow_memory::HeapFunction;
+use shadow_memory::{FreeingFunction, HeapFunction};
 use std::fmt;
 use undefined_bits::{ArithmeticFault, ArithmeticKind};
 use undefined_values::{UndefinedOrigin, UndefinedPlace};
@@ -44,11 +45,13 @@ enum CauseDetail {
     /// The pointer to an older chunk of its block by which the chunk was freed.
     Pointer(u64),
     /// The functions that made and freed the chunk.
-    Functions(HeapFunction, HeapFunction),
+    Functions(HeapFunction, FreeingFunction),
     /// The address of the instruction that moved SP to the place on the stack.
     Frame(u64),
     /// The operation whose operands give it no result.
     Operation(ArithmeticFault),
+    /// The arguments that a function does not allow.
+    Argument(ArgumentFault),
 }
 
 impl Cause {
@@ -139,6 +142,19 @@ impl Cause {
             Violation::Undefined(used) => Cause::of_undefined(book, used.origin),
             Violation::Place(misuse) => Cause::of_place(misuse),
             Violation::Arithmetic(fault) => Cause::of_operation(fault),
+            Violation::Argument(fault) => Cause::of_argument(fault),
+        }
+    }
+
+    /// The cause of arguments that a function does not allow.
+    fn of_argument(fault: &ArgumentFault) -> Cause {
+        let kind = match fault.kind {
+            ArgumentFaultKind::NegativeSize => CauseKind::NegativeSize,
+            ArgumentFaultKind::Overlap => CauseKind::OverlappingRanges,
+        };
+        Cause {
+            detail: CauseDetail::Argument(*fault),
+            ..Cause::of_kind(kind)
         }
     }
 
@@ -210,17 +226,23 @@ impl Cause {
                 let offset = misuse.addr.saturating_sub(chunk.start());
                 Cause::near(CauseKind::InsideChunk, chunk, offset)
             }
-            MisuseKind::MismatchedFree => Cause::of_mismatch(misuse, chunk),
+            MisuseKind::MismatchedFree => {
+                Cause::of_mismatch(CauseKind::MismatchedFree, misuse, chunk)
+            }
+            MisuseKind::MismatchedSize => {
+                Cause::of_mismatch(CauseKind::MismatchedSize, misuse, chunk)
+            }
         }
     }
 
-    /// The cause of a free of a chunk by a function that is not for such chunks.
-    fn of_mismatch(misuse: &Misuse, chunk: BookChunk) -> Cause {
+    /// The cause of a free of a chunk by a function that is not for such chunks, or not for one of
+    /// its size.
+    fn of_mismatch(kind: CauseKind, misuse: &Misuse, chunk: BookChunk) -> Cause {
         let maker = misuse.chunk.and_then(|chunk| chunk.maker);
         match (maker, misuse.function) {
             (Some(maker), Some(freer)) => Cause {
                 detail: CauseDetail::Functions(maker, freer),
-                ..Cause::of_chunk(CauseKind::MismatchedFree, chunk)
+                ..Cause::of_chunk(kind, chunk)
             },
             _ => Cause::of_kind(CauseKind::Unknown),
         }
@@ -412,9 +434,14 @@ impl fmt::Display for Cause {
             CauseDetail::Operation(fault) => fault.fmt(f),
             CauseDetail::Pointer(pointer) => write!(f, ", freed by {pointer:#018x}"),
             CauseDetail::Functions(maker, freer) => {
-                let (maker, freer) = (maker.name(), freer.name());
-                write!(f, ", made by {maker} and freed by {freer}")
+                let (maker, name) = (maker.name(), freer.function.name());
+                write!(f, ", made by {maker} and freed by {name}")?;
+                match freer.size {
+                    Some(size) => write!(f, " as one of {}", Bytes(size)),
+                    None => Ok(()),
+                }
             }
+            CauseDetail::Argument(fault) => ArgumentText(fault).fmt(f),
             CauseDetail::Frame(_) | CauseDetail::Nothing => Ok(()),
         }
     }

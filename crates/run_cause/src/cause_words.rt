@@ -47,6 +47,8 @@ pub enum CauseKind {
     AfterReturn,
     /// A live chunk that one function made is freed by another, which is not for such chunks.
     MismatchedFree,
+    /// A live chunk is freed by an operator of C++ that is told another size.
+    MismatchedSize,
     /// Something depends on bits of a chunk that were never given a value.
     UndefinedChunk,
     /// The same of a place on the stack.
@@ -72,6 +74,10 @@ pub enum CauseKind {
     Division,
     /// A shift by as many bits as there are, or more.
     Shift,
+    /// A function is called with a negative size.
+    NegativeSize,
+    /// A function copies between ranges that overlap, which it does not allow.
+    OverlappingRanges,
     /// Nothing that the heap calls show.
     Unknown,
 }
@@ -91,7 +97,7 @@ pub(crate) struct CauseWords {
 
 /// All causes.
 #[rattlefmt::skip]
-static CAUSES: [CauseWords; 32] = [
+static CAUSES: [CauseWords; 35] = [
     CauseWords { finder: "[MTE]: ", name: "Use After Free", joint: " into a ", rule: "use-after-free" },
     CauseWords { finder: "[MTE]: ", name: "Use After Free by a stale pointer", joint: " into a ", rule: "use-after-free" },
     CauseWords { finder: "", name: "Use After Free", joint: " of a ", rule: "use-after-free" },
@@ -111,6 +117,7 @@ static CAUSES: [CauseWords; 32] = [
     CauseWords { finder: "", name: "Buffer Underflow", joint: " left of ", rule: "global-buffer-underflow" },
     CauseWords { finder: "", name: "Use After Return", joint: " of ", rule: "use-after-return" },
     CauseWords { finder: "", name: "Mismatched Free", joint: " of a ", rule: "mismatched-free" },
+    CauseWords { finder: "", name: "Mismatched Size", joint: " of a ", rule: "new-delete-type-mismatch" },
     CauseWords { finder: "", name: "Uninitialized Value", joint: " of a ", rule: "uninitialized-value" },
     CauseWords { finder: "", name: "Uninitialized Value of the stack", joint: "", rule: "uninitialized-value" },
     CauseWords { finder: "", name: "Corrupt Header: something was written in front", joint: " of a ", rule: "corrupt-header" },
@@ -123,6 +130,8 @@ static CAUSES: [CauseWords; 32] = [
     CauseWords { finder: "", name: "Wild Jump: the address is no code", joint: "", rule: "wild-jump" },
     CauseWords { finder: "", name: "Undefined Arithmetic", joint: ": ", rule: "division-by-zero" },
     CauseWords { finder: "", name: "Undefined Arithmetic", joint: ": ", rule: "shift-past-width" },
+    CauseWords { finder: "", name: "Negative Size", joint: ": ", rule: "negative-size-param" },
+    CauseWords { finder: "", name: "Overlapping Ranges", joint: ": ", rule: "param-overlap" },
     CauseWords { finder: "", name: "unknown", joint: "", rule: "fault" },
 ];
 
@@ -158,7 +167,7 @@ pub(crate) static TRESPASSES: [FindingWords; 3] = [
 
 /// The findings by `MisuseKind`.
 #[rattlefmt::skip]
-pub(crate) static MISUSES: [FindingWords; 7] = [
+pub(crate) static MISUSES: [FindingWords; 8] = [
     FindingWords { finder: "check", key: "AfterFree", kind: CheckKind::Provenance, words: "is no longer of the pointer's chunk, which was freed", by_address: "is of a chunk that was freed (by the address: where the pointer came from is not known)" },
     FindingWords { finder: "check", key: "Overflow", kind: CheckKind::Provenance, words: "is past the end of the pointer's chunk", by_address: "is past the size of the chunk there (by the address: where the pointer came from is not known)" },
     FindingWords { finder: "check", key: "Underflow", kind: CheckKind::Provenance, words: "is in front of the pointer's chunk", by_address: "is past the size of the chunk there (by the address: where the pointer came from is not known)" },
@@ -166,6 +175,7 @@ pub(crate) static MISUSES: [FindingWords; 7] = [
     FindingWords { finder: "check", key: "DoubleFree", kind: CheckKind::Frees, words: "the pointer's chunk was freed before", by_address: "the pointer's chunk was freed before" },
     FindingWords { finder: "check", key: "InnerFree", kind: CheckKind::Frees, words: "it points into its chunk, not to the start", by_address: "it points into its chunk, not to the start" },
     FindingWords { finder: "check", key: "MismatchedFree", kind: CheckKind::Frees, words: "the pointer's chunk is not for this function to free", by_address: "the pointer's chunk is not for this function to free" },
+    FindingWords { finder: "check", key: "MismatchedSize", kind: CheckKind::Frees, words: "the pointer's chunk has another size", by_address: "the pointer's chunk has another size" },
 ];
 
 /// The findings by `UseKind`.
@@ -193,6 +203,13 @@ pub(crate) static PLACE_MISUSES: [FindingWords; 4] = [
 pub(crate) static OPERATIONS: [FindingWords; 2] = [
     FindingWords { finder: "check", key: "Division", kind: CheckKind::Arithmetic, words: "divides by 0", by_address: "divides by 0" },
     FindingWords { finder: "check", key: "Shift", kind: CheckKind::Arithmetic, words: "shifts by as many bits as there are, or more", by_address: "shifts by as many bits as there are, or more" },
+];
+
+/// The findings by `ArgumentFaultKind`.
+#[rattlefmt::skip]
+pub(crate) static ARGUMENTS: [FindingWords; 2] = [
+    FindingWords { finder: "check", key: "NegativeSize", kind: CheckKind::Arguments, words: "calls a function with a negative size", by_address: "calls a function with a negative size" },
+    FindingWords { finder: "check", key: "Overlap", kind: CheckKind::Arguments, words: "copies between ranges that overlap", by_address: "copies between ranges that overlap" },
 ];
 
 /// The words for an end that is not judged.

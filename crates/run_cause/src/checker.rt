@@ -20,11 +20,11 @@ use mte_svc::{
 };
 use mte_tags::Tagged;
 use named_places::{NamedPlaces, PlaceMisuse};
-use pointer_provenance::{ChunkChange, Misuse, Shadow, TracedChunk};
+use pointer_provenance::{ArgumentFault, ChunkChange, Misuse, Shadow, TracedChunk};
 use run_records::{Moment, SVC};
 use run_terms::CheckKinds;
 use scudo_heap::HeapCall;
-use shadow_memory::{AccessedBytes, Full, HeapFunctionWatch, RegisterAccess, Step};
+use shadow_memory::{AccessedBytes, CalledFunction, Full, HeapFunctionWatch, RegisterAccess, Step};
 use std::alloc::{AllocError, Global};
 use undefined_bits::{ArithmeticFault, ServiceArguments, UndefinedBits, UndefinedUse};
 
@@ -215,10 +215,13 @@ impl<'a> Checker<'a> {
         let attempt = Attempt::of(&instr, moment, parts, call);
         match self.judge(&attempt) {
             Ok(None) => self.enter(&attempt),
-            Ok(Some(violation)) => {
-                let callers = Callers::of(memory, &moment.regs);
-                self.conclude(moment.step, &attempt, &violation, callers);
-            }
+            Ok(Some(violation)) => match confirmed(violation, &moment.regs, memory) {
+                Some(violation) => {
+                    let callers = Callers::of(memory, &moment.regs);
+                    self.conclude(moment.step, &attempt, &violation, callers);
+                }
+                None => self.enter(&attempt),
+            },
             Err(full) => self.full = Some(full),
         }
     }
@@ -297,10 +300,27 @@ impl<'a> Checker<'a> {
                 return Ok(Some(Violation::Arithmetic(fault)));
             }
         }
+        if let Some(used) = self.undefined_use(attempt) {
+            return Ok(Some(Violation::Undefined(used)));
+        }
         Ok(
-            self.undefined_use(attempt)
-                .map(|used| Violation::Undefined(used)),
+            self.argument_fault(attempt)
+                .map(|fault| Violation::Argument(fault)),
         )
+    }
+
+    /// What is wrong with the arguments of the function that an attempt calls, or of the service
+    /// that makes a chunk, where that is checked; of strings what may be wrong.
+    fn argument_fault(&self, attempt: &Attempt<'_>) -> Option<ArgumentFault> {
+        if !self.kinds.arguments {
+            return None;
+        }
+        let (instr, before) = (attempt.step.instr, attempt.step.before);
+        if attempt.service.is_some() {
+            return ArgumentFault::of_size(function_of(before.x[8])?, before);
+        }
+        let function = self.functions.called_by(instr, before.pc, before)?;
+        self.shadow.judge_call(function, before)
     }
 
     /// The use of undefined bits by an attempt, where that is checked.
@@ -464,6 +484,32 @@ fn is_free(before: &Regs) -> bool {
     matches!(before.x[8], FREE | REALLOC) && before.x[0] != 0
 }
 
+/// The function of C that a service is for which makes a chunk; its arguments are the same.
+fn function_of(service: u64) -> Option<CalledFunction> {
+    match service {
+        MALLOC => Some(CalledFunction::Malloc),
+        CALLOC => Some(CalledFunction::Calloc),
+        REALLOC => Some(CalledFunction::Realloc),
+        MEMALIGN => Some(CalledFunction::AlignedAlloc),
+        _ => None,
+    }
+}
+
+/// A violation by the registers in front of it, where the strings that are there show that it is
+/// one.
+fn confirmed<M: Tagged>(violation: Violation, regs: &Regs, memory: &mut M) -> Option<Violation>
+    ensures memory { M.memory memory.new ≡ M.memory memory.old }
+    ensures kept { M.kept memory.old memory.new }
+{
+    match violation {
+        Violation::Argument(fault) => {
+            let fault = fault.confirmed(regs.x[2], memory)?;
+            Some(Violation::Argument(fault))
+        }
+        _ => Some(violation),
+    }
+}
+
 /// The registers that a service takes.
 fn arguments_of(before: &Regs) -> ServiceArguments {
     match before.x[8] {
@@ -485,11 +531,14 @@ fn change_by(call: &AnsweredCall, number: u64) -> ChunkChange {
 
 /// The violation, as it is reported.
 fn forbidden(violation: &Violation) -> ForbiddenAccess {
+    if let Violation::Argument(fault) = violation {
+        return forbidden_argument(violation, fault);
+    }
     let (addr, access) = match violation {
         Violation::Provenance(misuse) => (misuse.addr, Some(&misuse.access)),
         Violation::Undefined(used) => (used.addr.unwrap_or(0), None),
         Violation::Place(misuse) => (misuse.addr, Some(&misuse.access)),
-        Violation::Bounds(_) | Violation::Arithmetic(_) => (0, None),
+        Violation::Bounds(_) | Violation::Arithmetic(_) | Violation::Argument(_) => (0, None),
     };
     let span = match access {
         Some(access) => Span {
@@ -507,5 +556,18 @@ fn forbidden(violation: &Violation) -> ForbiddenAccess {
         violation: *violation,
         addr,
         span,
+    }
+}
+
+/// The violation by arguments of a call: by what is written, if ranges overlap.
+fn forbidden_argument(violation: &Violation, fault: &ArgumentFault) -> ForbiddenAccess {
+    ForbiddenAccess {
+        violation: *violation,
+        addr: fault.written.start,
+        span: Span {
+            addr: fault.written.start,
+            bytes: fault.written.bytes,
+            is_write: fault.place().is_some(),
+        },
     }
 }

@@ -27,6 +27,7 @@ impl ForbiddenAccess {
     pub fn place(&self) -> Option<u64> {
         match &self.violation {
             Violation::Undefined(used) => used.addr,
+            Violation::Argument(fault) => fault.place(),
             Violation::Arithmetic(_) => None,
             _ => Some(self.addr),
         }

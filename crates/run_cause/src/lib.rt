@@ -2,6 +2,7 @@
 //! the store after a jump to no code.
 #![tactic(auto)]
 
+mod argument_text;
 mod cause;
 mod cause_words;
 mod checker;

@@ -1,9 +1,11 @@
 //! A violation, by what found it.
 
-use crate::cause_words::{FindingWords, MISUSES, OPERATIONS, PLACE_MISUSES, TRESPASSES, USES};
+use crate::cause_words::{
+    ARGUMENTS, FindingWords, MISUSES, OPERATIONS, PLACE_MISUSES, TRESPASSES, USES,
+};
 use heap_bounds::Trespass;
 use named_places::PlaceMisuse;
-use pointer_provenance::Misuse;
+use pointer_provenance::{ArgumentFault, Misuse};
 use run_terms::CheckKind;
 use std::fmt;
 use undefined_bits::{ArithmeticFault, UndefinedUse};
@@ -21,6 +23,8 @@ pub enum Violation {
     Place(PlaceMisuse),
     /// An operation whose operands give it no result.
     Arithmetic(ArithmeticFault),
+    /// Arguments that a function does not allow.
+    Argument(ArgumentFault),
 }
 
 impl Violation {
@@ -32,6 +36,7 @@ impl Violation {
             Violation::Undefined(used) => &USES[used.kind as usize],
             Violation::Place(misuse) => &PLACE_MISUSES[misuse.kind as usize],
             Violation::Arithmetic(fault) => &OPERATIONS[fault.kind as usize],
+            Violation::Argument(fault) => &ARGUMENTS[fault.kind as usize],
         }
     }
 

@@ -2,17 +2,17 @@
 //! The kinds of what is checked.
 
 /// The names of all kinds.
-pub(crate) const NAMES: &str = "provenance, frees, leaks, undefined, places, arithmetic";
+pub(crate) const NAMES: &str = "provenance, frees, arguments, leaks, undefined, places, arithmetic";
 
 /// The help of `--check`.
 pub const CHECK_HELP: &str =
     "Ends it at the first wrong use of a pointer, a chunk or an undefined value [possible \
-     values: provenance, frees, leaks, undefined, places, arithmetic, all]";
+     values: provenance, frees, arguments, leaks, undefined, places, arithmetic, all]";
 
 /// The fault of a word that is no kind.
 pub const CHECK_FAULT: &str =
-    "--check takes these, with commas between them: provenance, frees, leaks, undefined, places, \
-     arithmetic, all";
+    "--check takes these, with commas between them: provenance, frees, arguments, leaks, \
+     undefined, places, arithmetic, all";
 
 /// A kind of what is checked.
 #[derive(Clone, Copy, PartialEq, Eq)]
@@ -21,6 +21,8 @@ pub enum CheckKind {
     Provenance,
     /// Frees: of a freed chunk, of a pointer into a chunk, by a function that is not for it.
     Frees,
+    /// Arguments of functions of C: negative sizes, ranges that overlap.
+    Arguments,
     /// The chunks that are lost at the exit.
     Leaks,
     /// What depends on bits that were never given a value.
@@ -37,6 +39,7 @@ impl CheckKind {
         match name {
             "provenance" => Some(CheckKind::Provenance),
             "frees" => Some(CheckKind::Frees),
+            "arguments" => Some(CheckKind::Arguments),
             "leaks" => Some(CheckKind::Leaks),
             "undefined" => Some(CheckKind::Undefined),
             "places" => Some(CheckKind::Places),
@@ -53,6 +56,8 @@ pub struct CheckKinds {
     pub provenance: bool,
     /// Frees: of a freed chunk, of a pointer into a chunk, by a function that is not for it.
     pub frees: bool,
+    /// Arguments of functions of C: negative sizes, ranges that overlap.
+    pub arguments: bool,
     /// The chunks that are lost at the exit.
     pub leaks: bool,
     /// What depends on bits that were never given a value.
@@ -68,6 +73,7 @@ impl CheckKinds {
     pub const NONE: CheckKinds = CheckKinds {
         provenance: false,
         frees: false,
+        arguments: false,
         leaks: false,
         undefined: false,
         places: false,
@@ -79,6 +85,7 @@ impl CheckKinds {
         CheckKinds {
             provenance: true,
             frees: true,
+            arguments: true,
             leaks: true,
             undefined: true,
             ..self
@@ -90,6 +97,7 @@ impl CheckKinds {
         CheckKinds {
             provenance: self.provenance || kind == CheckKind::Provenance,
             frees: self.frees || kind == CheckKind::Frees,
+            arguments: self.arguments || kind == CheckKind::Arguments,
             leaks: self.leaks || kind == CheckKind::Leaks,
             undefined: self.undefined || kind == CheckKind::Undefined,
             places: self.places || kind == CheckKind::Places,

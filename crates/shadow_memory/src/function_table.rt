@@ -1,5 +1,7 @@
-//! Where an image has the functions that make and free chunks.
+//! Where an image has the functions that make and free chunks, and those whose arguments are
+//! judged.
 
+use crate::called_function::CalledFunction;
 use crate::heap_function::HeapFunction;
 use elf_sections::Sections;
 use std::alloc::{AllocError, Global};
@@ -27,11 +29,24 @@ pub struct FunctionEntry {
     pub addr: u64,
     /// Which it is; `None` where it has the names of several.
     pub function: Option<HeapFunction>,
+    /// Whether it is told the size of the chunk that it frees, as each of its names says.
+    pub takes_freed_size: bool,
 }
 
-/// The functions of an image that make and free chunks, by the names of its symbol table.
+/// A function of an image whose arguments are judged.
+#[derive(Clone, Copy)]
+struct CalledEntry {
+    addr: u64,
+    /// Which it is; `None` where it has the names of several.
+    function: Option<CalledFunction>,
+}
+
+/// The functions of an image that make and free chunks, and those whose arguments are judged, by
+/// the names of its symbol table.
 #[derive(Drop)]
 pub struct FunctionTable {
+    called: Vec<CalledEntry>,
+    called_groups: u64,
     entries: Vec<FunctionEntry>,
     /// A bit for the group of each of their addresses, so that few others are looked for.
     groups: u64,
@@ -41,6 +56,8 @@ impl FunctionTable {
     /// Those of a file. A file without a symbol table has none.
     pub fn of(alloc: Global, file: &[u8]) -> Result<FunctionTable, AllocError> {
         let mut table = FunctionTable {
+            called: Vec::new(alloc),
+            called_groups: 0,
             entries: Vec::new(alloc),
             groups: 0,
         };
@@ -57,6 +74,17 @@ impl FunctionTable {
         self.entries.iter().find(|entry| entry.addr == addr)
     }
 
+    /// The function that begins at a plain address, where its arguments are judged.
+    pub fn called_at(&self, addr: u64) -> Option<CalledFunction> {
+        if self.called_groups & group_of(addr) == 0 {
+            return None;
+        }
+        self.called
+            .iter()
+            .find(|entry| entry.addr == addr)?
+            .function
+    }
+
     /// Enters the symbols of a file.
     fn enter_symbols(&mut self, file: &[u8]) -> Result<(), AllocError> {
         let Some((symbols, names)) = symbols_of(file) else {
@@ -64,9 +92,43 @@ impl FunctionTable {
         };
         let (symbols, _) = symbols.as_chunks::<SYMBOL>();
         for symbol in symbols {
-            if let Some(entry) = entry_of(symbol.as_slice(), names) {
-                self.enter(entry)?;
+            if let Some((addr, name)) = function_of(symbol.as_slice(), names) {
+                self.enter_name(addr, name)?;
             }
+        }
+        Ok(())
+    }
+
+    /// Enters a name of a function.
+    fn enter_name(&mut self, addr: u64, name: &str) -> Result<(), AllocError> {
+        if let Some(function) = CalledFunction::of_name(name) {
+            self.enter_called(addr, function)?;
+        }
+        match HeapFunction::of_name(name) {
+            Some(function) => self.enter(FunctionEntry {
+                addr,
+                function: Some(function),
+                takes_freed_size: HeapFunction::takes_freed_size(name),
+            }),
+            None => Ok(()),
+        }
+    }
+
+    /// Enters a function whose arguments are judged, as each of its names allows.
+    fn enter_called(&mut self, addr: u64, function: CalledFunction) -> Result<(), AllocError> {
+        if let Some(other) = self.called.iter_mut().find(|other| other.addr == addr) {
+            other.function = match other.function {
+                Some(known) => known.with(function),
+                None => None,
+            };
+            return Ok(());
+        }
+        if self.called.len() < MOST_ENTRIES {
+            self.called_groups |= group_of(addr);
+            self.called.push(CalledEntry {
+                addr,
+                function: Some(function),
+            })?;
         }
         Ok(())
     }
@@ -82,6 +144,7 @@ impl FunctionTable {
             if other.function != entry.function {
                 other.function = None;
             }
+            other.takes_freed_size &= entry.takes_freed_size;
             return Ok(());
         }
         if self.entries.len() < MOST_ENTRIES {
@@ -106,19 +169,15 @@ fn symbols_of(file: &[u8]) -> Option<(&[u8], &[u8])> {
     Some((table.contents()?, names.contents()?))
 }
 
-/// The function that a symbol names, where it is one that makes or frees chunks.
-fn entry_of(symbol: &[u8], names: &[u8]) -> Option<FunctionEntry> {
+/// The address and the name of the function that a symbol is of.
+fn function_of<'a>(symbol: &[u8], names: &'a [u8]) -> Option<(u64, &'a str)> {
     let is_defined = symbol.get(6..8)? != [0, 0].as_slice();
     if symbol.get(4)? % 16 != FUNCTION || !is_defined {
         return None;
     }
     let at = u32::from_le_bytes(*symbol.first_chunk::<4>()?);
-    let function = HeapFunction::of_name(name_at(names, at as usize)?)?;
     let addr = u64::from_le_bytes(*symbol.get(8..16)?.first_chunk::<8>()?);
-    Some(FunctionEntry {
-        addr,
-        function: Some(function),
-    })
+    Some((addr, name_at(names, at as usize)?))
 }
 
 /// The name that begins at a place of a string table.

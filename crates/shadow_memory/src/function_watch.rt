@@ -1,5 +1,6 @@
 //! Which function that makes or frees chunks runs.
 
+use crate::called_function::CalledFunction;
 use crate::function_table::FunctionTable;
 use crate::heap_function::HeapFunction;
 use crate::register_use::BranchKind;
@@ -18,6 +19,17 @@ struct ActiveFunction {
     sp: u64,
     /// Its first argument.
     argument: u64,
+    /// The size of the chunk that it frees, where it is told that.
+    freed_size: Option<u64>,
+}
+
+/// A function that was called with a pointer to free.
+#[derive(Clone, Copy, Debug, PartialEq, Eq)]
+pub struct FreeingFunction {
+    /// The function.
+    pub function: HeapFunction,
+    /// The size of the chunk, where it was told that.
+    pub size: Option<u64>,
 }
 
 /// A chunk that a function returned.
@@ -51,12 +63,36 @@ impl HeapFunctionWatch {
 
     /// The function that was called with a pointer, and has not returned; `None` where none was, or
     /// it is not known which.
-    pub fn freeing(&self, pointer: u64) -> Option<HeapFunction> {
+    pub fn freeing(&self, pointer: u64) -> Option<FreeingFunction> {
         let active = self.active.as_ref()?;
-        if active.argument == pointer {
-            active.function
-        } else {
-            None
+        if active.argument != pointer {
+            return None;
+        }
+        Some(FreeingFunction {
+            function: active.function?,
+            size: active.freed_size,
+        })
+    }
+
+    /// The function that an instruction at an address calls or jumps to, where its arguments are
+    /// judged, by the registers before it.
+    pub fn called_by(&self, instr: &Instr, pc: u64, regs: &Regs) -> Option<CalledFunction> {
+        let target = match *instr {
+            Instr::Branch { imm26, .. } => {
+                pc.wrapping_add(i64::from(imm26).cast_unsigned().wrapping_mul(4))
+            }
+            Instr::BranchReg { opc, rn } if opc != 2 => *regs.x.get(usize::from(rn))?,
+            _ => return None,
+        };
+        self.table.called_at(plain(target))
+    }
+
+    /// Whether the arguments are judged of the function at the address in a numbered register.
+    #[inline]
+    pub fn may_call(&self, register: u8, regs: &Regs) -> bool {
+        match regs.x.get(usize::from(register)) {
+            Some(target) => self.table.called_at(plain(*target)).is_some(),
+            None => false,
         }
     }
 
@@ -109,6 +145,11 @@ impl HeapFunctionWatch {
                 return_address: plain(after.x[30]),
                 sp: after.sp,
                 argument: after.x[0],
+                freed_size: if entry.takes_freed_size {
+                    Some(after.x[1])
+                } else {
+                    None
+                },
             });
         }
     }

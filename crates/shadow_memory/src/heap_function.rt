@@ -1,7 +1,7 @@
 //! The functions of C and C++ that make and free chunks.
 
 /// A function of C or C++ that makes or frees chunks.
-#[derive(Clone, Copy, PartialEq, Eq)]
+#[derive(Clone, Copy, Debug, PartialEq, Eq)]
 pub enum HeapFunction {
     /// `malloc`, and those of C that make chunks as it does.
     Malloc,
@@ -62,6 +62,15 @@ impl HeapFunction {
         } else {
             None
         }
+    }
+
+    /// Whether the operator of C++ with a symbol's name is told the size of the chunk that it
+    /// frees.
+    pub(crate) fn takes_freed_size(name: &str) -> bool {
+        matches!(
+            name,
+            "_ZdlPvm" | "_ZdaPvm" | "_ZdlPvmSt11align_val_t" | "_ZdaPvmSt11align_val_t"
+        )
     }
 
     /// The functions that a chunk belongs to which it makes.

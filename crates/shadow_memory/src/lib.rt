@@ -4,6 +4,7 @@
 #![tactic(auto)]
 
 mod access;
+mod called_function;
 mod function_table;
 mod function_watch;
 mod heap_function;
@@ -16,7 +17,8 @@ mod shadow_page;
 mod step;
 
 pub use access::{AccessedBytes, RegisterAccess};
-pub use function_watch::{HeapFunctionWatch, ReturnedChunk};
+pub use called_function::CalledFunction;
+pub use function_watch::{FreeingFunction, HeapFunctionWatch, ReturnedChunk};
 pub use heap_function::HeapFunction;
 pub use memory_shadow::MemoryShadow;
 pub use origin::{OriginKind, PointerOrigin, Provenance};
