@@ -63,6 +63,7 @@ impl Answer {
 }
 
 /// The line of a failure.
+#[derive(Clone, Copy)]
 struct FailureLine<'x, 'a>(&'x Failure<'a>);
 
 impl<'x, 'a> fmt::Display for FailureLine<'x, 'a> {
