@@ -227,7 +227,7 @@ def test_lost_chunks_that_lead_to_one_another(
         ways = {it: led_to(edges, it) for it in set(range(count)) - reached}
         lost = [it for it in ways if all(
             other in ways[it] and other >= it for other, way in ways.items() if it in way)]
-        cycles = sum(any(it in ways[to] for to in ways[it] - {it}) for it in lost)
+        cycles = sum(any(it in ways.get(to, ()) for to in ways[it] - {it}) for it in lost)
         told = check(alone, path, given=given, kinds="leaks").errors
         assert_lost(told, (lost, sorted(set(ways) - set(lost))), cycles)
 
