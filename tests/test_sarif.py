@@ -77,8 +77,9 @@ def test_a_log_says_what_the_report_says(
         assert step.startswith(f"call {call['number']}, "), step
     last = place_of(flow["locations"][-1]["location"])
     assert [place_of(one) for one in result["locations"]] == [last]
-    first = re.search(r"#0 .* at (\S+)", errors)
-    assert first and place_of(result["locations"][0]) == first[1]
+    lines = re.findall(r"^  #\d+ .* at (\S+)", errors, re.M)
+    assert place_of(result["locations"][0]) == next(
+        it for it in lines if not it.startswith("tenant.h:"))
 
 
 def test_a_log_of_a_tenant_that_exits(alone: pathlib.Path, tmp_path: pathlib.Path) -> None:
