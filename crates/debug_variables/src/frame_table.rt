@@ -285,6 +285,20 @@ impl FrameVariables {
         slot.whole.placed(bases.of(slot.whole.base))
     }
 
+    /// The block that a variable is declared in, where it is not the function as a whole.
+    pub fn inner_block(
+        &self,
+        function: &FrameFunction,
+        variable: &FrameVariable,
+    ) -> Option<LexicalBlock> {
+        Some(variable.block).filter(|block| !self.blocks.has(block, function.low))
+    }
+
+    /// Whether an address is one of a block.
+    pub fn is_in_block(&self, block: &LexicalBlock, address: u64) -> bool {
+        self.blocks.has(block, address)
+    }
+
     /// The variables of a function that end at an address.
     pub fn neighbor(&self, function: &FrameFunction, bases: &FrameBases, addr: u64) -> Neighbor {
         match self.slot_at(function, bases, addr.wrapping_sub(1)) {

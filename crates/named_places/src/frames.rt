@@ -21,14 +21,49 @@ pub(crate) struct CalledFrame {
     pub(crate) entry: u64,
     /// The newest of its places.
     pub(crate) first: Option<usize>,
+    /// How many calls came before it.
+    serial: u64,
+    /// Whether its function may be one that ends an object of its caller, as a destructor.
+    is_cleanup: bool,
     /// The marks of its caller's registers.
     marks: RegisterMarks,
+}
+
+/// A call, as it is entered.
+#[derive(Clone, Copy)]
+pub(crate) struct EnteredCall {
+    pub(crate) return_address: u64,
+    pub(crate) sp: u64,
+    pub(crate) entry: u64,
+    pub(crate) is_cleanup: bool,
+}
+
+/// A frame that is known again as long as it is among those that run.
+#[derive(Clone, Copy, PartialEq, Eq)]
+pub(crate) struct FrameNumber {
+    /// How many frames were below it.
+    depth: usize,
+    /// How many calls came before it.
+    serial: u64,
+}
+
+/// Where a function is.
+#[derive(Clone, Copy)]
+pub(crate) struct FrameCounter {
+    /// The instruction that it runs, or by which it called another function.
+    pub(crate) pc: u64,
+    /// Whether it called another.
+    pub(crate) has_called: bool,
+    /// Whether that may be one that ends an object of its caller.
+    pub(crate) is_cleanup: bool,
 }
 
 /// The frames, the oldest first.
 #[derive(Drop)]
 pub(crate) struct FrameStack {
     frames: Vec<CalledFrame>,
+    /// How many calls there were.
+    calls: u64,
 }
 
 impl FrameStack {
@@ -36,7 +71,37 @@ impl FrameStack {
     pub(crate) fn new(alloc: Global) -> FrameStack {
         FrameStack {
             frames: Vec::new(alloc),
+            calls: 0,
         }
+    }
+
+    /// The number of the frame of the function that was called last.
+    pub(crate) fn top_number(&self) -> Option<FrameNumber> {
+        let depth = self.frames.len().checked_sub(1)?;
+        let serial = self.frames.last()?.serial;
+        Some(FrameNumber { depth, serial })
+    }
+
+    /// Where the function of a frame is, by the counter; `None` where the frame is not known any
+    /// more.
+    #[inline(always)]
+    pub(crate) fn counter_of(&self, number: &FrameNumber, pc: u64) -> Option<FrameCounter> {
+        let frame = self.frames.get(number.depth)?;
+        if frame.serial != number.serial {
+            return None;
+        }
+        Some(match self.frames.get(number.depth.saturating_add(1)) {
+            Some(called) => FrameCounter {
+                pc: called.return_address.wrapping_sub(4),
+                has_called: true,
+                is_cleanup: called.is_cleanup,
+            },
+            None => FrameCounter {
+                pc,
+                has_called: false,
+                is_cleanup: false,
+            },
+        })
     }
 
     /// The frame of the function that was called last.
@@ -47,11 +112,15 @@ impl FrameStack {
     /// Enters a call. Of too many calls in one another none is known any more.
     pub(crate) fn call(
         &mut self,
-        return_address: u64,
-        sp: u64,
-        entry: u64,
+        call: &EnteredCall,
         marks: RegisterMarks,
     ) -> Result<(), AllocError> {
+        let EnteredCall {
+            return_address,
+            sp,
+            entry,
+            is_cleanup,
+        } = *call;
         if self.frames.len() >= MOST {
             self.frames.clear();
         }
@@ -60,8 +129,11 @@ impl FrameStack {
             sp,
             entry,
             first: None,
+            serial: self.calls,
+            is_cleanup,
             marks,
         })?;
+        self.calls = self.calls.wrapping_add(1);
         Ok(())
     }
 

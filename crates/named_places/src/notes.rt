@@ -1,6 +1,7 @@
 //! The rules of instructions for pointers to variables.
 
 use crate::access_form::form_by_base;
+use crate::frames::EnteredCall;
 use crate::place::PlaceKind;
 use crate::places::NamedPlaces;
 use crate::table::PAGE;
@@ -94,8 +95,15 @@ impl NamedPlaces {
     /// Notes a call, by the registers after it.
     pub fn note_call(&mut self, after: &Regs) -> Result<(), AllocError> {
         let marks = self.marks;
+        let sp = plain(after.sp);
+        let call = EnteredCall {
+            return_address: plain(after.x[30]),
+            sp,
+            entry: plain(after.pc),
+            is_cleanup: self.is_cleanup(after.x[0], sp),
+        };
         self.marks.call();
-        self.frames.call(plain(after.x[30]), plain(after.sp), plain(after.pc), marks)
+        self.frames.call(&call, marks)
     }
 
     /// Notes a return.
@@ -336,9 +344,12 @@ impl NamedPlaces {
             self.note_write_back(at, shadow, form.base, is_pre_indexed)?;
         }
         if !form.is_write() {
+            let addr = form.addr(step.before);
             self.note_loaded(form.first, form.base);
+            self.note_source(at, shadow, form.first, addr);
             if let Some(second) = form.second {
                 self.note_loaded(second, form.base);
+                self.note_source(at, shadow, second, addr.wrapping_add(u64::from(form.bytes)));
             }
         }
         Ok(())
