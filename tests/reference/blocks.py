@@ -24,6 +24,7 @@ int number_given(void);
 #define ALWAYS __attribute__((always_inline)) inline
 #endif
 static char *volatile kept;
+static volatile int zero;
 struct big { unsigned long all[12]; };
 struct wide { unsigned char all[40]; };
 static int wrong;
@@ -112,9 +113,12 @@ class Program:
     """A program as it is drawn, with the sizes of its arrays, by their numbers."""
 
     source: random.Random
-    # How many of the statements are blocks.
+    # How many of the statements are blocks, and how many of the arrays are of variable length.
     share: float = 0.25
+    variable: float = 0
     sizes: list[int] = field(default_factory=list)
+    # The arrays of variable length.
+    long: set[int] = field(default_factory=set)
     lines: list[str] = field(default_factory=list)
     # How many arrays the frame of the function has that is drawn, and those of inlined ones.
     in_frame: int = 0
@@ -146,7 +150,10 @@ def arrays(it: Program, depth: int) -> list[int]:
         it.sizes.append(size)
         it.homes.append(it.open[-1])
         it.in_frame += 1
-        it.put(depth, f"char a{numbers[-1]}[{size}];")
+        if it.variable and it.source.random() < it.variable:
+            it.long.add(numbers[-1])
+        length = f"{size} + zero" if numbers[-1] in it.long else size
+        it.put(depth, f"char a{numbers[-1]}[{length}];")
     return numbers
 
 
@@ -192,9 +199,9 @@ def block(it: Program, depth: int) -> None:
     it.open.pop()
 
 
-def drawn(seed: int, share: float = 0.25) -> Program:
+def drawn(seed: int, share: float = 0.25, variable: float = 0) -> Program:
     """A program, whose first functions are inlined in later ones."""
-    it = Program(random.Random(seed), share)
+    it = Program(random.Random(seed), share, variable)
     for number in range(FUNCTIONS):
         is_inlined = number < INLINED
         words = "ALWAYS" if is_inlined else "NEVER"
@@ -226,6 +233,13 @@ def keep_pointers(it: Program) -> None:
         added.append((points[0].line, "    char *own = 0;"))
     for line, text in sorted(added, key=lambda at: at[0], reverse=True):
         it.lines.insert(line, text)
+
+
+def name_of(it: Program, array: int) -> str:
+    """The words for an array."""
+    name = "array of variable length (or of `alloca`)" if array in it.long else (
+        f"variable `a{array}`")
+    return f"the {it.sizes[array]}-byte {name} at "
 
 
 def text_of(it: Program) -> str:

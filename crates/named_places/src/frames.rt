@@ -21,12 +21,29 @@ pub(crate) struct CalledFrame {
     pub(crate) entry: u64,
     /// The newest of its places.
     pub(crate) first: Option<usize>,
+    /// Whether it has arrays of variable length.
+    pub(crate) has_arrays: bool,
+    /// The array that was made last, to which no pointer was made yet.
+    pub(crate) made: Option<MadeArray>,
+    /// Where SP was before it was moved by what compilers touch pages in.
+    pub(crate) probed: Option<u64>,
     /// How many calls came before it.
     serial: u64,
     /// Whether its function may be one that ends an object of its caller, as a destructor.
     is_cleanup: bool,
     /// The marks of its caller's registers.
     marks: RegisterMarks,
+}
+
+/// An array of variable length, which is made by moving SP.
+#[derive(Clone, Copy)]
+pub(crate) struct MadeArray {
+    /// The instruction that moved SP.
+    pub(crate) pc: u64,
+    /// SP after it.
+    pub(crate) bottom: u64,
+    /// Its bytes.
+    pub(crate) size: u64,
 }
 
 /// A call, as it is entered.
@@ -109,6 +126,11 @@ impl FrameStack {
         self.frames.last()
     }
 
+    /// The same, to be changed.
+    pub(crate) fn top_mut(&mut self) -> Option<&mut CalledFrame> {
+        self.frames.last_mut()
+    }
+
     /// Enters a call. Of too many calls in one another none is known any more.
     pub(crate) fn call(
         &mut self,
@@ -124,11 +146,18 @@ impl FrameStack {
         if self.frames.len() >= MOST {
             self.frames.clear();
         }
+        if let Some(caller) = self.frames.last_mut() {
+            caller.made = None;
+            caller.probed = None;
+        }
         self.frames.push(CalledFrame {
             return_address,
             sp,
             entry,
             first: None,
+            has_arrays: false,
+            made: None,
+            probed: None,
             serial: self.calls,
             is_cleanup,
             marks,

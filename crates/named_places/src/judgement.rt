@@ -72,6 +72,9 @@ impl NamedPlaces {
     /// pointer to its frame by a constant, which is one for several variables; of another function
     /// those by an index, by a pointer that was moved, and by one that was passed to it.
     fn strictness(&self, at: &NotedInstruction<'_>, form: &AccessForm, index: usize) -> Strictness {
+        if let Some(strictness) = self.array_strictness(index) {
+            return strictness;
+        }
         let (base, mode) = (form.base, form.mode);
         let is_exact = self.is_exact_at(at.pc);
         let (is_moved, is_fresh) = (self.marks.is_moved(base), self.marks.is_fresh(base));
@@ -94,6 +97,21 @@ impl NamedPlaces {
             is_lenient: !is_exact && is_own,
             is_past: self.is_past_block(index, at.pc, base),
         }
+    }
+
+    /// How an access to an array of variable length is judged: compilers do not know what is beside
+    /// it, so that no pointer to it is meant for something else.
+    fn array_strictness(&self, index: usize) -> Option<Strictness> {
+        let place = self.table.get(index)?;
+        if place.text.kind != PlaceKind::Array {
+            return None;
+        }
+        Some(Strictness {
+            is_above: true,
+            is_below: place.is_exact,
+            is_lenient: false,
+            is_past: false,
+        })
     }
 
     /// Whether a pointer to a place was made by the function that runs, so that compilers may have
@@ -130,10 +148,10 @@ impl NamedPlaces {
             let is_there = place.has(addr);
             return misuse_if(is_there, PlaceMisuseKind::AfterReturn, addr, access, &text);
         }
-        if strictness.is_past && place.has(addr) {
+        if (strictness.is_past || place.is_over) && place.has(addr) {
             return misuse_if(true, PlaceMisuseKind::AfterScope, addr, access, &text);
         }
-        if !matches!(text.kind, PlaceKind::Object | PlaceKind::Variable) {
+        if !text.kind.has_bounds() {
             return None;
         }
         let end = addr.saturating_add(access.count);

@@ -28,9 +28,9 @@ impl NamedPlaces {
             return true;
         };
         let text = &place.text;
-        let has_bounds = matches!(text.kind, PlaceKind::Object | PlaceKind::Variable);
+        let has_bounds = text.kind.has_bounds();
         let is_within = text.start <= addr && addr.saturating_add(bytes) <= place.limit;
-        place.is_live && (is_within || !has_bounds) && self.has_block(place, pc)
+        place.is_live && !place.is_over && (is_within || !has_bounds) && self.has_block(place, pc)
     }
 
     /// Notes an instruction on registers that leaves no pointer where it writes.
@@ -54,7 +54,11 @@ impl NamedPlaces {
         shadow: &mut Shadow,
     ) -> Result<(), AllocError> {
         match used.source {
-            ValueSource::Constant | ValueSource::HighConstant => {
+            ValueSource::Constant | ValueSource::HighConstant | ValueSource::Rounding => {
+                if used.source == ValueSource::Rounding {
+                    let added = i64::from(used.offset).cast_unsigned();
+                    self.note_rounding(at, used.first, added);
+                }
                 let added = AddedConstant {
                     rn: used.one,
                     rd: used.first,

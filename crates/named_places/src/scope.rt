@@ -4,6 +4,7 @@ use crate::notes::NotedInstruction;
 use crate::place::{NamedPlace, PlaceScope};
 use crate::places::NamedPlaces;
 use a64_bits::plain;
+use a64_registers::Regs;
 use debug_variables::{FrameBases, FrameFunction, PlacedVariable};
 use pointer_provenance::Shadow;
 
@@ -56,14 +57,38 @@ impl NamedPlaces {
             && !self.variables.is_in_block(&scope.block, at.pc)
     }
 
-    /// Whether a call may end an object of its caller, by the registers at it: the first argument
-    /// is a pointer into the caller's frame that no variable had.
-    pub(crate) fn is_cleanup(&self, first: u64, sp: u64) -> bool {
-        let Some(frame) = self.frames.top() else {
+    /// Whether a call may end an object of its caller, by the registers after it: the first
+    /// argument is a pointer into the caller's frame that no variable had, and not one to a
+    /// variable whose block runs.
+    pub(crate) fn is_cleanup(&self, after: &Regs) -> bool {
+        let (addr, sp) = (plain(after.x[0]), plain(after.sp));
+        match self.frames.top() {
+            Some(frame) if sp <= addr && addr < frame.sp => {
+                let bases = FrameBases {
+                    caller: frame.sp,
+                    frame_pointer: plain(after.x[29]),
+                    stack_pointer: sp,
+                };
+                let pc = plain(after.x[30]).wrapping_sub(4);
+                !self.marks.is_of_variable(0) && !self.has_running(&bases, addr, pc)
+            }
+            _ => false,
+        }
+    }
+
+    /// Whether an address is of a variable whose block runs, by the bases of the function that has
+    /// the counter.
+    fn has_running(&self, bases: &FrameBases, addr: u64, pc: u64) -> bool {
+        let Some(function) = self.variables.function_at(pc) else {
             return false;
         };
-        let addr = plain(first);
-        sp <= addr && addr < frame.sp && !self.marks.is_of_variable(0)
+        match self.variables.variable_at(function, bases, addr, pc) {
+            Some(placed) => match self.variables.inner_block(function, &placed.variable) {
+                Some(block) => self.variables.is_in_block(&block, pc),
+                None => true,
+            },
+            None => false,
+        }
     }
 
     /// Notes from where a register was loaded, if its pointer is to a variable of a block.

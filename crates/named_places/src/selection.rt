@@ -39,6 +39,9 @@ impl NamedPlaces {
         if addr < sp || addr >= frame.sp {
             return Ok(PointerOrigin::STACK);
         }
+        if let Some(origin) = self.array_origin(at, shadow, &frame, addr)? {
+            return Ok(origin);
+        }
         let place = self.variable_place(at, &frame, addr);
         let place = match place {
             Some(place) if has_room(&frame, &self.table) => place,
@@ -48,7 +51,7 @@ impl NamedPlaces {
     }
 
     /// The origin of a place of the last frame, which is entered where it is new.
-    fn origin_of(
+    pub(crate) fn origin_of(
         &mut self,
         shadow: &Shadow,
         frame: &CalledFrame,
@@ -121,6 +124,7 @@ impl NamedPlaces {
             },
             limit: frame.sp,
             is_live: true,
+            is_over: false,
             is_exact: false,
             is_unsure: false,
             is_marked: false,
@@ -149,6 +153,7 @@ impl NamedPlaces {
             text: text_of(&placed, function.low),
             limit: placed.limit.min(frame.sp),
             is_live: true,
+            is_over: false,
             is_exact: !function.is_optimized,
             is_unsure: self.is_before_other(&running, &placed, addr),
             is_marked: false,
