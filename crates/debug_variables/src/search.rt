@@ -355,7 +355,9 @@ impl VariableSearch {
         let expression = match entry.location {
             AttributeValue::Block(expression) => expression,
             AttributeValue::Offset(_) | AttributeValue::ListAt(_) => {
-                self.note_optimized(depth);
+                if !scope.has_variable_length(entry, &mut self.budget) {
+                    self.note_optimized(depth);
+                }
                 return Ok(());
             }
             _ => return Ok(()),
@@ -437,6 +439,7 @@ impl<'t, 'a> UnitScope<'t, 'a> {
             high: range.end,
             base: base_of(expression)?,
             is_optimized: false,
+            is_of_gcc: self.is_of_gcc,
             first: 0,
             count: 0,
         })
@@ -474,6 +477,15 @@ impl<'t, 'a> UnitScope<'t, 'a> {
                 ..*entry
             },
             None => *entry,
+        }
+    }
+
+    /// Whether a variable is an array of variable length, of which compilers list locations also
+    /// where they do not optimize.
+    fn has_variable_length(&self, entry: &Entry<'a>, budget: &mut Budget) -> bool {
+        match self.whole(entry, budget).type_.entry() {
+            Some(at) => self.types.is_array(at, budget) && self.types.size(at, budget).is_none(),
+            None => false,
         }
     }
 

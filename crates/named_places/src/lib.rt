@@ -4,6 +4,7 @@
 #![tactic(auto)]
 
 mod access_form;
+mod arrays;
 mod frames;
 mod judgement;
 mod marks;
@@ -11,6 +12,7 @@ mod notes;
 mod place;
 mod places;
 mod quick;
+mod scope;
 mod selection;
 mod table;
 
