@@ -125,7 +125,7 @@ Libs: -L\${libdir} -ltombolopan
 PC
     put lib "$work/libtombolopan.a" "$work/libtombolopan.so.2"
     ln -s libtombolopan.so.2 "$stage/lib/libtombolopan.so"
-    put include "$top/include/tombolopan.h" "$top/examples/c/tenant.h"
+    put include "$top"/include/tombolopan{,_explain}.h "$top/examples/c/tenant.h"
     put lib/pkgconfig "$work/tombolopan.pc"
     put share/tombolopan "$top/examples/embed/tombolopan.rs" "$top/examples/c/start.c"
     put share/tombolopan/tombolopan "$top"/examples/embed/tombolopan/*.py \
