@@ -1,6 +1,6 @@
 //! Where the pointers of a tenant come from: beside its registers and its memory this keeps of
-//! which chunk each value is a pointer, judges accesses by it, and finds the chunks that nothing
-//! reaches.
+//! which chunk each value is a pointer, judges accesses, frees and arguments of calls by it, and
+//! finds the chunks that nothing reaches.
 #![tactic(auto)]
 
 mod access_rules;
