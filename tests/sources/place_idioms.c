@@ -218,14 +218,15 @@ static int idiom(void)
     }
     return sum;
 }
-#elif IDIOM == 12 /* A variable of a block, used after the block in its function. */
+#elif IDIOM == 12 /* A pointer to a variable of a block, kept after the block and not used. */
 static int idiom(void)
 {
-    int *outer = 0;
-    if (one) {
+    int *outer = 0, kept = one;
+    for (int turn = 0; turn < 3; turn++) {
         int inner = 5;
-        outer = &inner;
+        outer = turn < 2 ? &inner : &kept;
         cell = outer;
+        sink = *(int *)cell + inner;
     }
     return outer != 0 && *(int *)cell >= 0;
 }
