@@ -1,5 +1,5 @@
 /*
- * libtombolopan: why a tenant ended, as `mte_run` tells it, from bytes in memory to bytes in memory.
+ * libtombolopan_c.a: why a tenant ended, as `mte_run` tells it, from bytes to bytes in memory.
  *
  * The rules of tombolopan.h hold: no pointer is null, all memory is the caller's, nothing is kept
  * between calls, and any number of threads may call at once. What is told is in no contract.

@@ -1,4 +1,4 @@
-"""`mte_run --check --continue`: drawn programs with mistakes in drawn order, beside a list of them."""
+"""`mte_run --check --continue`: drawn programs with mistakes in drawn order, beside a list."""
 
 import json
 import pathlib
@@ -9,7 +9,7 @@ from dataclasses import dataclass
 import pytest
 
 from tests.support import sarif
-from tests.support.running import run
+from tests.support.running import Word, run
 from tests.support.samples import tenant
 from tests.support.tools import need
 
@@ -122,7 +122,7 @@ def test_suppressed_findings_are_counted(alone: pathlib.Path, tmp_path: pathlib.
     file.write_text(written(calls, "return 5;"), encoding="utf-8")
     image = tenant(tmp_path, file, "gcc")
     lines.write_text("provenance wrong0 *\n", encoding="utf-8")
-    words = [alone, KINDS, "--continue", "--suppressions", lines]
+    words: list[Word] = [alone, KINDS, "--continue", "--suppressions", lines]
     ran = run([*words, image])
     assert ran.status == FOUND and "2 findings at 1 place, 3 suppressed" in ran.errors
     lines.write_text("* wrong0 *\n* wrong1 *\n", encoding="utf-8")

@@ -67,8 +67,9 @@ impl<'x> RunAccount<'x> {
         Ok(())
     }
 
-    /// Writes what happened: what was found, where the run went on after it, the lost chunks, why the tenant ended, where it did not exit, the live
-    /// chunks and the numbers of the run, where they are requested.
+    /// Writes what happened: what was found, where the run went on after it, the lost chunks, why
+    /// the tenant ended, where it did not exit, the live chunks and the numbers of the run, where
+    /// they are requested.
     pub fn write_story<W: Write>(
         &self,
         alloc: Global,
