@@ -23,6 +23,8 @@ MAKES = {"malloc": C, "realloc": C, "operator new": OBJECT, "operator new[]": AR
 FREES = {"free": C, "realloc": C, "operator delete": OBJECT, "operator delete[]": ARRAY}
 FREE, REALLOC = 4, 6
 CAUSE = "Cause: [check]: Mismatched Free of a 40-byte allocation at "
+# The function that takes the size of what it frees: it is called with 80.
+SIZED = "_ZdlPvmSt11align_val_t"
 # Calls the functions that two bytes of the input name: the first makes a chunk of 40 bytes, the
 # second frees it or makes it larger, as the third byte says. Each function is a service alone.
 START = """
@@ -79,17 +81,19 @@ def checked(alone: pathlib.Path, image: pathlib.Path, folder: pathlib.Path, make
 def test_functions_that_belong_together(
     alone: pathlib.Path, image: pathlib.Path, tmp_path: pathlib.Path
 ) -> None:
-    """Each name with each other: a chunk is freed by a function of its maker's kind. A name that
-    makes nothing, or that frees nothing, is never reported."""
+    """Each name with each other: a chunk is freed by a function of its maker's kind, and of its
+    size. A name that makes nothing, or that frees nothing, is never reported."""
     for maker, freer in itertools.product(NAMES, NAMES):
         made, freed = MAKES.get(NAMES[maker]), FREES.get(NAMES[freer])
         ran = checked(alone, image, tmp_path, maker, freer)
-        if made is None or freed is None or made == freed:
+        size = " as one of 80 bytes" if freer == SIZED else ""
+        if made is None or freed is None or made == freed and not size:
             assert ran.status == 0 and "Cause" not in ran.errors, (maker, freer, ran.errors)
             continue
-        line = next(it for it in ran.errors.splitlines() if it.startswith(CAUSE))
+        cause = CAUSE.replace("Free", "Size") if made == freed else CAUSE
+        line = next(it for it in ran.errors.splitlines() if it.startswith(cause))
         assert ran.status == 137, (maker, freer, ran.errors)
-        assert line.endswith(f"made by {NAMES[maker]} and freed by {NAMES[freer]}"), line
+        assert line.endswith(f"made by {NAMES[maker]} and freed by {NAMES[freer]}{size}"), line
 
 
 def test_chunks_that_are_made_larger(
