@@ -1,4 +1,4 @@
-"""`mte_run --check --continue`: drawn programs with mistakes in drawn order, beside a list of them."""
+"""`mte_run --check --continue`: drawn programs with mistakes in drawn order, beside a list."""
 
 import json
 import pathlib
