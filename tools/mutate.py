@@ -32,7 +32,7 @@ OPTIONS = [
     "--trace=2-9", "--trace-file", "--input", "--script", "--frames", "--map", "--map=text",
     "--json", "--seeds=3", "--core", "--exact", "--exact=writes", "--leaks", "--statistics",
     "--services", "--calls", "--help", "--version", "--sarif", "--html", "--whole-output",
-    "--raw-output", "--check", "--progress",
+    "--raw-output", "--check", "--continue", "--progress",
 ]
 VALUES = ["0", "1", "5", "64", "4096", "4097", "65536", "-1", "18446744073709551615",
           "18446744073709551616", "00000000000000ff", "zz", "", "1,2,3", "7-", "/dev/null", "é"]
