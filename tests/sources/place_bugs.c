@@ -67,22 +67,6 @@ __attribute__((noinline)) static long sum_many(long a, long b, long c, long d, l
     return a + b + c + d + e + f + g + h + i + j + k + l + m + n + large[one] + small[one];
 }
 
-__attribute__((noinline)) static int last_of(int count)
-{
-    int numbers[count];
-    for (int i = 0; i < count; i++)
-        ((volatile int *)numbers)[i] = i;
-    return ((volatile int *)numbers)[count * one] + numbers[one];
-}
-
-__attribute__((noinline)) static int fill_more(int count)
-{
-    char *text = __builtin_alloca((unsigned)count);
-    fill(text, count);
-    fill(text, count + one);
-    return text[one];
-}
-
 static int bug(void)
 {
 #if BUG == 1 /* a write 1 past an array of 16 bytes of the stack, by an index */
@@ -162,26 +146,6 @@ static int bug(void)
     return 0;
 #elif BUG == 21 /* 401 bytes set in 400 of a stack with arguments, by a function */
     return (int)sum_many(1, 2, 3, 4, 5, 6, 7, 8, 9, 10, 11, 12, 13, one);
-#elif BUG == 22 /* a variable of a block that is read after the block */
-    int *all;
-    {
-        int block[4] = {one, 2, 3, 4};
-        all = block;
-        sink = all[1];
-    }
-    return all[one];
-#elif BUG == 23 /* a variable of a loop that a function writes after the loop */
-    for (int i = 0; i < 3; i++) {
-        int turn[4] = {i, one};
-        kept = turn;
-        sink = kept[1];
-    }
-    set_second((long *)kept);
-    return 0;
-#elif BUG == 24 /* a read of an element past an array of variable length */
-    return last_of(5 * one);
-#elif BUG == 25 /* 65 bytes set in 64 of alloca, by a function */
-    return fill_more(64 * one);
 #endif
 }
 

@@ -218,15 +218,14 @@ static int idiom(void)
     }
     return sum;
 }
-#elif IDIOM == 12 /* A pointer to a variable of a block, kept after the block and not used. */
+#elif IDIOM == 12 /* A variable of a block, used after the block in its function. */
 static int idiom(void)
 {
-    int *outer = 0, kept = one;
-    for (int turn = 0; turn < 3; turn++) {
+    int *outer = 0;
+    if (one) {
         int inner = 5;
-        outer = turn < 2 ? &inner : &kept;
+        outer = &inner;
         cell = outer;
-        sink = *(int *)cell + inner;
     }
     return outer != 0 && *(int *)cell >= 0;
 }
@@ -519,112 +518,6 @@ static int idiom(void)
     }
     below[4499 * one] += kept[(4999 + PAST) * one];
     return first + second + third + below[4499 * one] + small[14] + more[20 * one];
-}
-#elif IDIOM == 28 /* Variables of blocks, while their blocks run and however they are left. */
-static int *volatile kept;
-__attribute__((noinline)) static int sum_kept(int count)
-{
-    int sum = 0;
-    while (count > 0)
-        sum += kept[--count];
-    return sum;
-}
-static void count_down(int **all)
-{
-    for (int i = 0; i < 4; i++)
-        (*all)[i]--;
-}
-static int idiom(void)
-{
-    int sum = 0, *last = &sum;
-    for (int turn = 0; turn < 6; turn++) {
-        int all[4] = {turn, one, 2, 3};
-        int *own __attribute__((cleanup(count_down))) = all;
-        kept = all;
-        if (turn == 1)
-            continue;
-        for (int i = 0; i < 4; i++) {
-            int *inner = i > 1 ? &own[i] : &turn;
-            kept = inner;
-            sum += *last + sum_kept(1);
-        }
-        kept = own;
-        if (turn == 4 * one)
-            goto out;
-        sum += sum_kept(4);
-    }
-out:
-    switch (one) {
-        int common[4];
-    case 0:
-        sum = 0;
-        break;
-    case 1:
-        set_all(kept = common, 4);
-        if (one) {
-        case 2:;
-            int part[4];
-            set_all(last = part, 4);
-            sum += sum_kept(4) + *last;
-        }
-        sum += sum_kept(4);
-    }
-    sum += ({
-        int all[4] = {one, 2, 3, 4};
-        kept = all;
-        sum_kept(4) + *kept;
-    });
-    kept = (int[]){one, 2, 3};
-    return sum + sum_kept(3) + *(last = &sum);
-}
-#elif IDIOM == 29 /* Arrays of variable length and alloca, in loops, in one another and by calls. */
-__attribute__((noinline)) static int use_all(int count, char *text, long *numbers)
-{
-    fill(text, count);
-    for (int i = 0; i < count; i++)
-        numbers[i] = text[i] + i;
-    return text[count - 1] + (int)numbers[count - 1];
-}
-__attribute__((noinline)) static int use_many(int a, int b, int c, int d, int e, int f, int g,
-                                              int h, int i, int j)
-{
-    char text[a + one];
-    fill(text, a + one);
-    return b + c + d + e + f + g + h + i + j + text[a];
-}
-__attribute__((noinline)) static int use_deep(int depth)
-{
-    char text[depth + 1];
-    fill(text, depth + 1);
-    return text[depth] + (depth ? use_deep(depth - 1) : 0);
-}
-static int idiom(void)
-{
-    int sum = 0;
-    char *texts[12], fixed[5];
-    for (int count = 1; count < 40; count += 3) {
-        char text[count];
-        long numbers[count], more[count][3];
-        _Alignas(64) short aligned[count];
-        sum += use_all(count, text, numbers) + use_many(count, 2, 3, 4, 5, 6, 7, 8, 9, one);
-        for (int i = 0; i < count; i++)
-            more[i][2] = aligned[i] = (short)(numbers[i] + text[i]);
-        sum += (int)more[count - 1][2] + aligned[count - 1];
-        char last[count * 3];
-        fill(last, count * 3);
-        sum += last[count];
-    }
-    for (int i = 0; i < 12; i++) {
-        texts[i] = __builtin_alloca((unsigned)(i * 7 + one));
-        fill(texts[i], i * 7 + one);
-        sum += texts[i / 2][i / 2 * 7];
-    }
-    char *large = __builtin_alloca((unsigned)(900 * one)), *round;
-    fill(large, 900);
-    round = __builtin_alloca((unsigned)((70 * one + 15) & ~15));
-    fill(round, 80);
-    fill(fixed, 5);
-    return sum + large[899] + round[79] + fixed[one] + use_deep(20);
 }
 #endif
 

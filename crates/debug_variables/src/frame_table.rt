@@ -71,9 +71,6 @@ pub struct FrameFunction {
     pub(crate) base: FrameBase,
     /// Whether it was optimized, as far as that shows, or has inlined calls.
     pub is_optimized: bool,
-    /// Whether gcc wrote it, which puts what has no name into the places of variables whose blocks
-    /// do not run, also where it does not optimize.
-    pub(crate) is_of_gcc: bool,
     /// The number of its first slot, and how many there are.
     pub(crate) first: usize,
     pub(crate) count: usize,
@@ -252,9 +249,9 @@ impl FrameVariables {
     }
 
     /// The variable of a function that has the byte at an address, by the values of its bases. Of
-    /// those that share bytes, and where the function was optimized or gcc wrote it, it is the one
-    /// of the innermost block that has the counter; several of one block are one. `None` where the
-    /// address is in two slots, which are counted from different bases.
+    /// those that share bytes, and where the function was optimized, it is the one of the innermost
+    /// block that has the counter; several of one block are one. `None` where the address is in two
+    /// slots, which are counted from different bases.
     pub fn variable_at(
         &self,
         function: &FrameFunction,
@@ -264,8 +261,7 @@ impl FrameVariables {
     ) -> Option<PlacedVariable> {
         let slot = self.one_slot(function, bases, addr)?;
         let value = bases.of(slot.whole.base);
-        let has_own_place = !function.is_optimized && !function.is_of_gcc;
-        let variable = if slot.count == 1 && has_own_place {
+        let variable = if slot.count == 1 && !function.is_optimized {
             slot.whole
         } else {
             self.variable_in(&slot, place_of(addr, value), pc)?
@@ -287,20 +283,6 @@ impl FrameVariables {
     ) -> Option<PlacedVariable> {
         let slot = self.one_slot(function, bases, addr)?;
         slot.whole.placed(bases.of(slot.whole.base))
-    }
-
-    /// The block that a variable is declared in, where it is not the function as a whole.
-    pub fn inner_block(
-        &self,
-        function: &FrameFunction,
-        variable: &FrameVariable,
-    ) -> Option<LexicalBlock> {
-        Some(variable.block).filter(|block| !self.blocks.has(block, function.low))
-    }
-
-    /// Whether an address is one of a block.
-    pub fn is_in_block(&self, block: &LexicalBlock, address: u64) -> bool {
-        self.blocks.has(block, address)
     }
 
     /// The variables of a function that end at an address.

@@ -355,9 +355,7 @@ impl VariableSearch {
         let expression = match entry.location {
             AttributeValue::Block(expression) => expression,
             AttributeValue::Offset(_) | AttributeValue::ListAt(_) => {
-                if !scope.has_variable_length(entry, &mut self.budget) {
-                    self.note_optimized(depth);
-                }
+                self.note_optimized(depth);
                 return Ok(());
             }
             _ => return Ok(()),
@@ -439,7 +437,6 @@ impl<'t, 'a> UnitScope<'t, 'a> {
             high: range.end,
             base: base_of(expression)?,
             is_optimized: false,
-            is_of_gcc: self.is_of_gcc,
             first: 0,
             count: 0,
         })
@@ -477,15 +474,6 @@ impl<'t, 'a> UnitScope<'t, 'a> {
                 ..*entry
             },
             None => *entry,
-        }
-    }
-
-    /// Whether a variable is an array of variable length, of which compilers list locations also
-    /// where they do not optimize.
-    fn has_variable_length(&self, entry: &Entry<'a>, budget: &mut Budget) -> bool {
-        match self.whole(entry, budget).type_.entry() {
-            Some(at) => self.types.is_array(at, budget) && self.types.size(at, budget).is_none(),
-            None => false,
         }
     }
 

@@ -70,29 +70,6 @@ impl<'t, 'a> UnitTypes<'t, 'a> {
         None
     }
 
-    /// Whether the type at an offset of the unit is an array.
-    pub fn is_array(&self, offset: u64, budget: &mut Budget) -> bool {
-        let mut at = offset;
-        for _ in 0..FOLLOWED {
-            let Some((tag, entry)) = self.entry_at(at, budget) else {
-                return false;
-            };
-            match entry.type_.entry() {
-                Some(next) if OTHERS.contains(&tag) => at = next,
-                _ => return tag == ARRAY,
-            }
-        }
-        false
-    }
-
-    /// The tag of the entry at an offset of the unit, and the entry.
-    fn entry_at(&self, at: u64, budget: &mut Budget) -> Option<(u64, Entry<'a>)> {
-        let mut entries = self.unit.entries_at(at)?;
-        let abbreviation = self.table.of(number(&mut entries)?)?;
-        let entry = Entry::read(&abbreviation, &mut entries, budget)?;
-        Some((abbreviation.tag, entry))
-    }
-
     /// How many elements an array has, by the entries after its own.
     fn elements(&self, mut entries: Reader<'a>, budget: &mut Budget) -> Option<u64> {
         let mut elements = 1u64;

@@ -145,10 +145,6 @@ impl<'a> Context<'a> {
             return Ok(());
         };
         let names = self.report.names;
-        if let (PlaceKind::Array, Some(pc)) = (place.kind, place.function) {
-            let maker = self.names.instruction(pc);
-            return writeln!(out, "  SP was moved there by {maker}");
-        }
         let line = match place.declaration {
             Some(Declaration { unit, file, line }) => names
                 .lines

@@ -21,66 +21,14 @@ pub(crate) struct CalledFrame {
     pub(crate) entry: u64,
     /// The newest of its places.
     pub(crate) first: Option<usize>,
-    /// Whether it has arrays of variable length.
-    pub(crate) has_arrays: bool,
-    /// The array that was made last, to which no pointer was made yet.
-    pub(crate) made: Option<MadeArray>,
-    /// Where SP was before it was moved by what compilers touch pages in.
-    pub(crate) probed: Option<u64>,
-    /// How many calls came before it.
-    serial: u64,
-    /// Whether its function may be one that ends an object of its caller, as a destructor.
-    is_cleanup: bool,
     /// The marks of its caller's registers.
     marks: RegisterMarks,
-}
-
-/// An array of variable length, which is made by moving SP.
-#[derive(Clone, Copy)]
-pub(crate) struct MadeArray {
-    /// The instruction that moved SP.
-    pub(crate) pc: u64,
-    /// SP after it.
-    pub(crate) bottom: u64,
-    /// Its bytes.
-    pub(crate) size: u64,
-}
-
-/// A call, as it is entered.
-#[derive(Clone, Copy)]
-pub(crate) struct EnteredCall {
-    pub(crate) return_address: u64,
-    pub(crate) sp: u64,
-    pub(crate) entry: u64,
-    pub(crate) is_cleanup: bool,
-}
-
-/// A frame that is known again as long as it is among those that run.
-#[derive(Clone, Copy, PartialEq, Eq)]
-pub(crate) struct FrameNumber {
-    /// How many frames were below it.
-    depth: usize,
-    /// How many calls came before it.
-    serial: u64,
-}
-
-/// Where a function is.
-#[derive(Clone, Copy)]
-pub(crate) struct FrameCounter {
-    /// The instruction that it runs, or by which it called another function.
-    pub(crate) pc: u64,
-    /// Whether it called another.
-    pub(crate) has_called: bool,
-    /// Whether that may be one that ends an object of its caller.
-    pub(crate) is_cleanup: bool,
 }
 
 /// The frames, the oldest first.
 #[derive(Drop)]
 pub(crate) struct FrameStack {
     frames: Vec<CalledFrame>,
-    /// How many calls there were.
-    calls: u64,
 }
 
 impl FrameStack {
@@ -88,37 +36,7 @@ impl FrameStack {
     pub(crate) fn new(alloc: Global) -> FrameStack {
         FrameStack {
             frames: Vec::new(alloc),
-            calls: 0,
         }
-    }
-
-    /// The number of the frame of the function that was called last.
-    pub(crate) fn top_number(&self) -> Option<FrameNumber> {
-        let depth = self.frames.len().checked_sub(1)?;
-        let serial = self.frames.last()?.serial;
-        Some(FrameNumber { depth, serial })
-    }
-
-    /// Where the function of a frame is, by the counter; `None` where the frame is not known any
-    /// more.
-    #[inline(always)]
-    pub(crate) fn counter_of(&self, number: &FrameNumber, pc: u64) -> Option<FrameCounter> {
-        let frame = self.frames.get(number.depth)?;
-        if frame.serial != number.serial {
-            return None;
-        }
-        Some(match self.frames.get(number.depth.saturating_add(1)) {
-            Some(called) => FrameCounter {
-                pc: called.return_address.wrapping_sub(4),
-                has_called: true,
-                is_cleanup: called.is_cleanup,
-            },
-            None => FrameCounter {
-                pc,
-                has_called: false,
-                is_cleanup: false,
-            },
-        })
     }
 
     /// The frame of the function that was called last.
@@ -126,43 +44,24 @@ impl FrameStack {
         self.frames.last()
     }
 
-    /// The same, to be changed.
-    pub(crate) fn top_mut(&mut self) -> Option<&mut CalledFrame> {
-        self.frames.last_mut()
-    }
-
     /// Enters a call. Of too many calls in one another none is known any more.
     pub(crate) fn call(
         &mut self,
-        call: &EnteredCall,
+        return_address: u64,
+        sp: u64,
+        entry: u64,
         marks: RegisterMarks,
     ) -> Result<(), AllocError> {
-        let EnteredCall {
-            return_address,
-            sp,
-            entry,
-            is_cleanup,
-        } = *call;
         if self.frames.len() >= MOST {
             self.frames.clear();
-        }
-        if let Some(caller) = self.frames.last_mut() {
-            caller.made = None;
-            caller.probed = None;
         }
         self.frames.push(CalledFrame {
             return_address,
             sp,
             entry,
             first: None,
-            has_arrays: false,
-            made: None,
-            probed: None,
-            serial: self.calls,
-            is_cleanup,
             marks,
         })?;
-        self.calls = self.calls.wrapping_add(1);
         Ok(())
     }
 

@@ -20,8 +20,6 @@ pub enum PlaceMisuseKind {
     Underflow,
     /// An access to the frame of a function that has returned.
     AfterReturn,
-    /// An access to a variable whose block has ended.
-    AfterScope,
     /// A free of what no heap call returned.
     Free,
 }
@@ -48,8 +46,6 @@ struct Strictness {
     is_below: bool,
     /// Whether what falls into another variable is not told.
     is_lenient: bool,
-    /// Whether the variable's block has ended.
-    is_past: bool,
 }
 
 impl NamedPlaces {
@@ -72,9 +68,6 @@ impl NamedPlaces {
     /// pointer to its frame by a constant, which is one for several variables; of another function
     /// those by an index, by a pointer that was moved, and by one that was passed to it.
     fn strictness(&self, at: &NotedInstruction<'_>, form: &AccessForm, index: usize) -> Strictness {
-        if let Some(strictness) = self.array_strictness(index) {
-            return strictness;
-        }
         let (base, mode) = (form.base, form.mode);
         let is_exact = self.is_exact_at(at.pc);
         let (is_moved, is_fresh) = (self.marks.is_moved(base), self.marks.is_fresh(base));
@@ -95,23 +88,7 @@ impl NamedPlaces {
             is_above: (is_exact && !is_shared) || is_above,
             is_below: is_exact && !is_shared && self.is_below(index, is_indexed && is_fresh),
             is_lenient: !is_exact && is_own,
-            is_past: self.is_past_block(index, at.pc, base),
         }
-    }
-
-    /// How an access to an array of variable length is judged: compilers do not know what is beside
-    /// it, so that no pointer to it is meant for something else.
-    fn array_strictness(&self, index: usize) -> Option<Strictness> {
-        let place = self.table.get(index)?;
-        if place.text.kind != PlaceKind::Array {
-            return None;
-        }
-        Some(Strictness {
-            is_above: true,
-            is_below: place.is_exact,
-            is_lenient: false,
-            is_past: false,
-        })
     }
 
     /// Whether a pointer to a place was made by the function that runs, so that compilers may have
@@ -148,10 +125,7 @@ impl NamedPlaces {
             let is_there = place.has(addr);
             return misuse_if(is_there, PlaceMisuseKind::AfterReturn, addr, access, &text);
         }
-        if (strictness.is_past || place.is_over) && place.has(addr) {
-            return misuse_if(true, PlaceMisuseKind::AfterScope, addr, access, &text);
-        }
-        if !text.kind.has_bounds() {
+        if !matches!(text.kind, PlaceKind::Object | PlaceKind::Variable) {
             return None;
         }
         let end = addr.saturating_add(access.count);
@@ -171,15 +145,13 @@ impl NamedPlaces {
 }
 
 impl NamedPlaces {
-    /// The misuse by a service that accesses bytes by the pointer in x0, requested at an address.
+    /// The misuse by a service that accesses bytes by the pointer in x0.
     pub fn judge_service(
         &self,
         bytes: AccessedBytes,
         origin: PointerOrigin,
-        pc: u64,
     ) -> Option<PlaceMisuse> {
-        let index = origin.place()?;
-        let place = self.table.get(index)?;
+        let place = self.table.get(origin.place()?)?;
         if bytes.count == 0 {
             return None;
         }
@@ -187,7 +159,6 @@ impl NamedPlaces {
             is_above: true,
             is_below: place.is_exact && place.before == Neighbor::Nothing,
             is_lenient: false,
-            is_past: self.is_past_block(index, pc, 0),
         };
         self.judge_bytes(place, bytes, strictness)
     }

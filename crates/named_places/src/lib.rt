@@ -4,7 +4,6 @@
 #![tactic(auto)]
 
 mod access_form;
-mod arrays;
 mod frames;
 mod judgement;
 mod marks;
@@ -12,7 +11,6 @@ mod notes;
 mod place;
 mod places;
 mod quick;
-mod scope;
 mod selection;
 mod table;
 

@@ -1,7 +1,6 @@
 //! The rules of instructions for pointers to variables.
 
 use crate::access_form::form_by_base;
-use crate::frames::EnteredCall;
 use crate::place::PlaceKind;
 use crate::places::NamedPlaces;
 use crate::table::PAGE;
@@ -66,16 +65,11 @@ impl NamedPlaces {
             Instr::AddSubImm { s: 1, rd: 31, .. } => {}
             Instr::AddSubImm {
                 sf: 1,
-                op,
                 sh,
-                imm12,
                 rn,
                 rd,
                 ..
             } => {
-                if op == 0 && sh == 0 && matches!(imm12, 3 | 7 | 15) {
-                    self.note_rounding(at, rd, u64::from(imm12));
-                }
                 let is_high = sh == 1;
                 self.note_constant(at, shadow, AddedConstant { rn, rd, is_high })?;
             }
@@ -94,21 +88,14 @@ impl NamedPlaces {
     pub fn note_sp(&mut self, at: &NotedInstruction<'_>) {
         if plain(at.sp) < plain(at.after.sp) {
             self.frames.leave_below(plain(at.after.sp));
-            self.end_arrays(plain(at.after.sp));
         }
     }
 
     /// Notes a call, by the registers after it.
     pub fn note_call(&mut self, after: &Regs) -> Result<(), AllocError> {
         let marks = self.marks;
-        let call = EnteredCall {
-            return_address: plain(after.x[30]),
-            sp: plain(after.sp),
-            entry: plain(after.pc),
-            is_cleanup: self.is_cleanup(after),
-        };
         self.marks.call();
-        self.frames.call(&call, marks)
+        self.frames.call(plain(after.x[30]), plain(after.sp), plain(after.pc), marks)
     }
 
     /// Notes a return.
@@ -145,11 +132,6 @@ impl NamedPlaces {
     ) -> Result<(), AllocError> {
         let AddedConstant { rn, rd, is_high } = added;
         if rd == STACK_POINTER {
-            if rn == STACK_POINTER {
-                self.note_constant_move(at);
-            } else {
-                self.note_array_at(at, shadow, rn)?;
-            }
             self.note_stack(shadow, rn);
             return Ok(());
         }
@@ -303,13 +285,6 @@ impl NamedPlaces {
                 rd,
                 ..
             } => self.marks.copy(rd, rm),
-            Instr::AddSubExt {
-                sf: 1,
-                op: 1,
-                rn: 31,
-                rd: 31,
-                ..
-            } => self.note_subtraction(at),
             Instr::AddSubShift { rn, rm, rd, .. } | Instr::AddSubExt { rn, rm, rd, .. } => {
                 self.marks.combine(rd, rn, rm);
                 self.note_sum(at, shadow, rd)?;
@@ -317,13 +292,9 @@ impl NamedPlaces {
             Instr::LogShift { rn, rm, rd, .. }
             | Instr::CondSel { rn, rm, rd, .. }
             | Instr::SubP { rn, rm, rd, .. } => self.marks.combine(rd, rn, rm),
-            Instr::Bitfield { rn, rd, .. } => {
-                self.marks.combine(rd, rn, rn);
-                self.note_shift(at, shadow, rd);
-            }
-            Instr::LogImm { rn, rd, .. } | Instr::Irg { rn, rd, .. } => self
-                .marks
-                .combine(rd, rn, rn),
+            Instr::LogImm { rn, rd, .. }
+            | Instr::Bitfield { rn, rd, .. }
+            | Instr::Irg { rn, rd, .. } => self.marks.combine(rd, rn, rn),
             Instr::MulAdd { ra, rd, .. } | Instr::MulAddLong { ra, rd, .. } => {
                 self.marks.combine(rd, ra, ra)
             }
@@ -365,12 +336,9 @@ impl NamedPlaces {
             self.note_write_back(at, shadow, form.base, is_pre_indexed)?;
         }
         if !form.is_write() {
-            let addr = form.addr(step.before);
             self.note_loaded(form.first, form.base);
-            self.note_source(at, shadow, form.first, addr);
             if let Some(second) = form.second {
                 self.note_loaded(second, form.base);
-                self.note_source(at, shadow, second, addr.wrapping_add(u64::from(form.bytes)));
             }
         }
         Ok(())
@@ -407,6 +375,6 @@ impl NamedPlaces {
 }
 
 /// The value of a numbered register, 0 for 31.
-pub(crate) fn value_in(regs: &Regs, n: u8) -> u64 {
+fn value_in(regs: &Regs, n: u8) -> u64 {
     regs.x.get(usize::from(n)).copied().unwrap_or(0)
 }

@@ -1,7 +1,6 @@
 //! A place that has a name: a variable, or the frame of a function.
 
-use crate::frames::FrameNumber;
-use debug_variables::{Declaration, FrameBases, LexicalBlock, Neighbor, VariableName};
+use debug_variables::{Declaration, FrameBases, Neighbor, VariableName};
 use std::fmt;
 
 /// The kind of a place.
@@ -13,21 +12,8 @@ pub enum PlaceKind {
     Object,
     /// A variable in the frame of a function.
     Variable,
-    /// An array of variable length in the frame of a function, or memory of `alloca`.
-    Array,
     /// A frame, of which it is not known which variable is meant.
     Frame,
-}
-
-impl PlaceKind {
-    /// Whether what has it is one variable or one array.
-    #[inline(always)]
-    pub(crate) fn has_bounds(self) -> bool {
-        matches!(
-            self,
-            PlaceKind::Object | PlaceKind::Variable | PlaceKind::Array
-        )
-    }
 }
 
 /// The name of a place, and where it is.
@@ -43,8 +29,7 @@ pub struct PlaceText {
     pub name: VariableName,
     /// Where it is declared, if that is known.
     pub declaration: Option<Declaration>,
-    /// An address of the function that it is of, if it is of one; of an array of variable length
-    /// the instruction that made it.
+    /// An address of the function that it is of, if it is of one.
     pub function: Option<u64>,
 }
 
@@ -63,12 +48,6 @@ impl fmt::Display for PlaceText {
             PlaceKind::Page => f.write_str("the image"),
             PlaceKind::Frame if size == 0 => write!(f, "the stack at {start:#018x}"),
             PlaceKind::Frame => write!(f, "a frame at {start:#018x}"),
-            PlaceKind::Array => {
-                write!(
-                    f,
-                    "the {size}-byte array of variable length (or of `alloca`) at {start:#018x}"
-                )
-            }
             PlaceKind::Object | PlaceKind::Variable => {
                 write!(f, "the {size}-byte variable `{name}` at {start:#018x}")
             }
@@ -83,13 +62,6 @@ pub(crate) const NO_BASES: FrameBases = FrameBases {
     stack_pointer: 0,
 };
 
-/// The block that a variable lives in, of a frame.
-#[derive(Clone, Copy, PartialEq, Eq)]
-pub(crate) struct PlaceScope {
-    pub(crate) block: LexicalBlock,
-    pub(crate) frame: FrameNumber,
-}
-
 /// A place, and what is known of the pointers to it.
 #[derive(Clone, Copy)]
 pub(crate) struct NamedPlace {
@@ -98,8 +70,6 @@ pub(crate) struct NamedPlace {
     pub(crate) limit: u64,
     /// Whether its function has not returned.
     pub(crate) is_live: bool,
-    /// Whether it is an array of variable length whose memory was given up.
-    pub(crate) is_over: bool,
     /// Whether the function that made a pointer to it was not optimized.
     pub(crate) is_exact: bool,
     /// Whether a pointer to it may be meant for the variable after it.
@@ -110,8 +80,6 @@ pub(crate) struct NamedPlace {
     pub(crate) bases: FrameBases,
     /// The variables that end where it begins.
     pub(crate) before: Neighbor,
-    /// The block that it lives in, where it is not there as long as its frame.
-    pub(crate) scope: Option<PlaceScope>,
     /// The next place of its frame.
     pub(crate) next: Option<usize>,
 }

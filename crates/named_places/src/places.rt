@@ -1,6 +1,5 @@
 //! The variables of a tenant.
 
-use crate::arrays::RoundedNumber;
 use crate::frames::FrameStack;
 use crate::marks::RegisterMarks;
 use crate::table::PlaceTable;
@@ -17,8 +16,6 @@ pub struct NamedPlaces {
     pub(crate) table: PlaceTable,
     pub(crate) frames: FrameStack,
     pub(crate) marks: RegisterMarks,
-    /// The last number that may be one that is rounded up.
-    pub(crate) rounded: Option<RoundedNumber>,
 }
 
 impl NamedPlaces {
@@ -34,7 +31,6 @@ impl NamedPlaces {
             table,
             frames: FrameStack::new(alloc),
             marks: RegisterMarks::NONE,
-            rounded: None,
         })
     }
 

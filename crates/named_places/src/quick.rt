@@ -14,23 +14,23 @@ impl NamedPlaces {
     /// Whether a load or a store by a pointer, at an address with its tag, is no misuse. It may be
     /// none where this says no.
     #[inline(always)]
-    pub fn allows(&self, used: &RegisterUse, origin: PointerOrigin, addr: u64, pc: u64) -> bool {
+    pub fn allows(&self, used: &RegisterUse, origin: PointerOrigin, addr: u64) -> bool {
         match origin.place() {
-            Some(index) => self.allows_at(index, plain(addr), used.len(), pc),
+            Some(index) => self.allows_at(index, plain(addr), used.len()),
             None => true,
         }
     }
 
     /// Whether an access to bytes from a plain address on by a pointer to a place is no misuse.
     #[inline(always)]
-    fn allows_at(&self, index: usize, addr: u64, bytes: u64, pc: u64) -> bool {
+    fn allows_at(&self, index: usize, addr: u64, bytes: u64) -> bool {
         let Some(place) = self.table.get(index) else {
             return true;
         };
         let text = &place.text;
-        let has_bounds = text.kind.has_bounds();
+        let has_bounds = matches!(text.kind, PlaceKind::Object | PlaceKind::Variable);
         let is_within = text.start <= addr && addr.saturating_add(bytes) <= place.limit;
-        place.is_live && !place.is_over && (is_within || !has_bounds) && self.has_block(place, pc)
+        place.is_live && (is_within || !has_bounds)
     }
 
     /// Notes an instruction on registers that leaves no pointer where it writes.
@@ -54,11 +54,7 @@ impl NamedPlaces {
         shadow: &mut Shadow,
     ) -> Result<(), AllocError> {
         match used.source {
-            ValueSource::Constant | ValueSource::HighConstant | ValueSource::Rounding => {
-                if used.source == ValueSource::Rounding {
-                    let added = i64::from(used.offset).cast_unsigned();
-                    self.note_rounding(at, used.first, added);
-                }
+            ValueSource::Constant | ValueSource::HighConstant => {
                 let added = AddedConstant {
                     rn: used.one,
                     rd: used.first,
@@ -83,14 +79,13 @@ impl NamedPlaces {
         self.note_address(shadow, is_page, used.first, after);
     }
 
-    /// Notes a load or a store at an address, which was noted of the pointers.
+    /// Notes a load or a store, which was noted of the pointers.
     #[inline(always)]
     pub fn note_followed_access(
         &mut self,
         used: &RegisterUse,
         at: &NotedInstruction<'_>,
         shadow: &mut Shadow,
-        addr: u64,
     ) -> Result<(), AllocError> {
         if used.source != ValueSource::Other && used.base < 31 {
             let is_pre_indexed = used.source == ValueSource::PreIndexed;
@@ -98,11 +93,8 @@ impl NamedPlaces {
         }
         if used.class == InstructionClass::Load {
             self.note_loaded(used.first, used.base);
-            self.note_source(at, shadow, used.first, addr);
             if used.is_pair() {
-                let next = addr.wrapping_add(u64::from(used.bytes));
                 self.note_loaded(used.second, used.base);
-                self.note_source(at, shadow, used.second, next);
             }
         }
         Ok(())

@@ -39,9 +39,6 @@ impl NamedPlaces {
         if addr < sp || addr >= frame.sp {
             return Ok(PointerOrigin::STACK);
         }
-        if let Some(origin) = self.array_origin(at, shadow, &frame, addr)? {
-            return Ok(origin);
-        }
         let place = self.variable_place(at, &frame, addr);
         let place = match place {
             Some(place) if has_room(&frame, &self.table) => place,
@@ -51,7 +48,7 @@ impl NamedPlaces {
     }
 
     /// The origin of a place of the last frame, which is entered where it is new.
-    pub(crate) fn origin_of(
+    fn origin_of(
         &mut self,
         shadow: &Shadow,
         frame: &CalledFrame,
@@ -103,7 +100,7 @@ impl NamedPlaces {
             let index = next?;
             let old = self.table.get(index)?;
             let is_frame = text.kind == PlaceKind::Frame && old.text.kind == PlaceKind::Frame;
-            if is_frame || (old.text == *text && old.scope == place.scope) {
+            if is_frame || old.text == *text {
                 return Some(index);
             }
             next = old.next;
@@ -124,13 +121,11 @@ impl NamedPlaces {
             },
             limit: frame.sp,
             is_live: true,
-            is_over: false,
             is_exact: false,
             is_unsure: false,
             is_marked: false,
             bases: NO_BASES,
             before: Neighbor::Nothing,
-            scope: None,
             next: frame.first,
         }
     }
@@ -153,13 +148,11 @@ impl NamedPlaces {
             text: text_of(&placed, function.low),
             limit: placed.limit.min(frame.sp),
             is_live: true,
-            is_over: false,
             is_exact: !function.is_optimized,
             is_unsure: self.is_before_other(&running, &placed, addr),
             is_marked: false,
             bases: *bases,
             before: self.variables.neighbor(function, bases, placed.start),
-            scope: self.scope_of(function, &placed),
             next: frame.first,
         })
     }
@@ -196,7 +189,7 @@ impl NamedPlaces {
     }
 
     /// Whether a place is one of a frame of the function at an address.
-    pub(crate) fn is_of_function(&self, pc: u64, index: usize) -> bool {
+    fn is_of_function(&self, pc: u64, index: usize) -> bool {
         let Some(function) = self.function_at(pc) else {
             return false;
         };

@@ -147,13 +147,11 @@ fn fixed_place(text: PlaceText) -> NamedPlace {
         text,
         limit: text.end,
         is_live: true,
-        is_over: false,
         is_exact: false,
         is_unsure: false,
         is_marked: false,
         bases: NO_BASES,
         before: Neighbor::Nothing,
-        scope: None,
         next: None,
     }
 }

@@ -168,7 +168,6 @@ impl Cause {
             PlaceMisuseKind::Underflow if is_global => CauseKind::GlobalUnderflow,
             PlaceMisuseKind::Underflow => CauseKind::LocalUnderflow,
             PlaceMisuseKind::AfterReturn => CauseKind::AfterReturn,
-            PlaceMisuseKind::AfterScope => CauseKind::AfterScope,
             PlaceMisuseKind::Free => CauseKind::PlaceFreed,
         };
         let distance = match misuse.kind {

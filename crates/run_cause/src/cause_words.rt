@@ -45,8 +45,6 @@ pub enum CauseKind {
     GlobalUnderflow,
     /// An access to a variable of a function that has returned.
     AfterReturn,
-    /// An access to a variable of a block that has ended, in a function that runs.
-    AfterScope,
     /// A live chunk that one function made is freed by another, which is not for such chunks.
     MismatchedFree,
     /// A live chunk is freed by an operator of C++ that is told another size.
@@ -99,7 +97,7 @@ pub(crate) struct CauseWords {
 
 /// All causes.
 #[rattlefmt::skip]
-static CAUSES: [CauseWords; 36] = [
+static CAUSES: [CauseWords; 35] = [
     CauseWords { finder: "[MTE]: ", name: "Use After Free", joint: " into a ", rule: "use-after-free" },
     CauseWords { finder: "[MTE]: ", name: "Use After Free by a stale pointer", joint: " into a ", rule: "use-after-free" },
     CauseWords { finder: "", name: "Use After Free", joint: " of a ", rule: "use-after-free" },
@@ -118,7 +116,6 @@ static CAUSES: [CauseWords; 36] = [
     CauseWords { finder: "", name: "Buffer Overflow", joint: " right of ", rule: "global-buffer-overflow" },
     CauseWords { finder: "", name: "Buffer Underflow", joint: " left of ", rule: "global-buffer-underflow" },
     CauseWords { finder: "", name: "Use After Return", joint: " of ", rule: "use-after-return" },
-    CauseWords { finder: "", name: "Use After Scope", joint: " of ", rule: "use-after-scope" },
     CauseWords { finder: "", name: "Mismatched Free", joint: " of a ", rule: "mismatched-free" },
     CauseWords { finder: "", name: "Mismatched Size", joint: " of a ", rule: "new-delete-type-mismatch" },
     CauseWords { finder: "", name: "Uninitialized Value", joint: " of a ", rule: "uninitialized-value" },
@@ -194,11 +191,10 @@ pub(crate) static USES: [FindingWords; 6] = [
 
 /// The findings by `PlaceMisuseKind`.
 #[rattlefmt::skip]
-pub(crate) static PLACE_MISUSES: [FindingWords; 5] = [
+pub(crate) static PLACE_MISUSES: [FindingWords; 4] = [
     FindingWords { finder: "check", key: "PlaceOverflow", kind: CheckKind::Places, words: "is past the end of the pointer's variable", by_address: "is past the end of the pointer's variable" },
     FindingWords { finder: "check", key: "PlaceUnderflow", kind: CheckKind::Places, words: "is in front of the pointer's variable", by_address: "is in front of the pointer's variable" },
     FindingWords { finder: "check", key: "PlaceAfterReturn", kind: CheckKind::Places, words: "was of a function that has returned", by_address: "was of a function that has returned" },
-    FindingWords { finder: "check", key: "PlaceAfterScope", kind: CheckKind::Places, words: "was of a block that has ended", by_address: "was of a block that has ended" },
     FindingWords { finder: "check", key: "PlaceFree", kind: CheckKind::Frees, words: "it points to a variable", by_address: "it points to a variable" },
 ];
 

@@ -350,7 +350,7 @@ impl<'a> Checker<'a> {
         };
         let (before, origin) = (attempt.step.before, self.shadow.register(0).pointer());
         Ok(match asked.bytes {
-            Some(bytes) => places.judge_service(bytes, origin, before.pc),
+            Some(bytes) => places.judge_service(bytes, origin),
             None if is_free(before) => places.judge_free(before.x[0], origin),
             None => None,
         })
