@@ -198,7 +198,8 @@ def test_lost_chunks_of_a_stack(
         compiled(library, source, compiler, level, path, (*WARNINGS, f"-DLIVE={live}"))
         for told in (check(alone, path), run([alone, "--check=leaks", path])):
             assert told.status == 0 and f"mte_run: {lost}\n" in told.errors, (live, told.errors)
-            assert re.search(r", the first by call \d+, in a cycle, in make", told.errors), told.errors
+            wanted = r", the first by call \d+, in a cycle, in make"
+            assert re.search(wanted, told.errors), told.errors
 
 
 def led_to(edges: set[tuple[int, int]], start: int) -> set[int]:
@@ -240,7 +241,7 @@ def assert_lost(told: str, chunks: tuple[list[int], list[int]], cycles: int) -> 
         assert "lost at the end" not in told, told
         return
     assert f"lost at the end: {amounts[0]}; by these alone was led to {amounts[1]}\n" in told
-    place = re.search(rf"^  {amounts[0]}, the first by call \d+(.*)$", told, re.M)
+    place = re.search(rf"^  {amounts[0]}, the first by call \d+(.*), in make\+", told, re.M)
     some = "" if cycles == len(chunks[0]) else f" {cycles}"
     assert place and place[1] == (f",{some} in a cycle" if cycles else ""), (cycles, told)
 
@@ -427,9 +428,10 @@ def test_statuses(alone: pathlib.Path, tmp_path: pathlib.Path) -> None:
     document = tmp_path / "told.json"
     check(alone, lost, "--lost-status", "9", "--json", str(document))
     assert json.loads(document.read_text(encoding="utf-8"))["exit_status"] == 9
+    unchecked = "--suppressions, --continue and --check-status are for --check"
     for words, reason in (
-        (("--check-status", "7"), "--suppressions and --check-status are for --check"),
-        (("--suppressions", "none"), "--suppressions and --check-status are for --check"),
+        (("--check-status", "7"), unchecked), (("--suppressions", "none"), unchecked),
+        (("--continue",), unchecked),
         (("--check=frees", "--lost-status", "9"), "--lost-status is for --check with leaks"),
         (("--check", "--lost-status", "256"), "256"),
     ):
