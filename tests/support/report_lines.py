@@ -137,8 +137,8 @@ def machine_lines(told: dict[str, Any], generator: tuple[int, int]) -> list[str]
 
 
 def json_lines(told: dict[str, Any]) -> str:
-    """An object as --json writes it: a line for each key, in the order of the page; the user's frame
-    is on the stack's line."""
+    """An object as --json writes it: a line for each key, in the order of the page; the user's
+    frame is on the stack's line."""
     user = f',"user":{told["user"]}' if "user" in told else ""
     rows = (f'"{key}":{json.dumps(told[key], separators=(",", ":"))}{user * (key == "stack")}'
             for key in KEYS if key in told)
