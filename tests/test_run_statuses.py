@@ -2,6 +2,7 @@
 error, what it says of command lines, scripts and files that it refuses, and its help."""
 
 import pathlib
+import random
 import re
 import struct
 from collections.abc import Callable
@@ -12,6 +13,7 @@ from tests.support.acts import (
     ABORT, ASYNC, BREAKPOINT, EXACT, FAULT, ILLEGAL, LIMIT, NOT_ENDED, REFUSED, Act, image,
 )
 from tests.support.expected import compare
+from tests.support.instructions import call, program
 from tests.support.places import IMAGES
 from tests.support.running import Ran, run
 from tests.support.told import explain, input_file
@@ -20,6 +22,8 @@ USAGE, SCRIPT, MEMORY, READ, WRITE = range(2, 7)
 HELLO = "services.gcc-O0.elf"
 CUT = 138
 MOST_FILE = 16_777_216
+# Services.
+EXIT, MALLOC, CALLOC, REALLOC, MEMALIGN = 0, 3, 5, 6, 7
 
 
 def run_words(alone: pathlib.Path, *words: str) -> Ran:
@@ -145,6 +149,23 @@ def test_usage_is_as_stored(alone: pathlib.Path) -> None:
         output = re.sub(r"(?m)^(commit|changes|toolchain|build): .*$", r"\1: ..", ran.output)
         told += f"$ mte_run {shown}\nstatus {ran.status}\n{output}{ran.errors}\n"
     compare("run/usage.txt", told)
+
+
+def test_requests_over_a_chunk(alone: pathlib.Path, tmp_path: pathlib.Path) -> None:
+    """A tenant that exits is told of its largest request for more than 1,048,576 bytes, by any call
+    that makes chunks, and of none that a chunk may have."""
+    draw, most = random.Random(5), 1_048_576
+    for _ in range(40):
+        sizes = [draw.choice((0, 24, most, most + 1, draw.randrange(most, 1 << 40)))
+                 for _ in range(draw.randint(1, 3))]
+        made = [draw.choice((call(MALLOC, size), call(CALLOC, 1, size), call(CALLOC, size, 1),
+                             call(REALLOC, 0, size), call(MEMALIGN, 16, size))) for size in sizes]
+        path = tmp_path / "tenant.elf"
+        path.write_bytes(program(*made, call(EXIT, 0)))
+        ran = run([alone, "--check=frees", "--exact", path])
+        said = f"mte_run: a request of {max(sizes)} bytes was refused: " in ran.errors
+        assert ran.status == 0 and said == (max(sizes) > most), (sizes, ran.errors)
+        assert ("was refused" in ran.errors) == said, ran.errors
 
 
 def test_an_argument_that_is_no_text(alone: pathlib.Path) -> None:

@@ -49,7 +49,7 @@ NOTHING = "nothing"
 KEY = ("kind", "program", "build")
 TITLES = {"torture": "gcc's torture tests", "packages": "packages"}
 # What mte_run says of a run in which nothing is wrong.
-NOTES = re.compile(r"mte_run: (?:exited with \d+|no tag differed; .*)")
+NOTES = re.compile(r"mte_run: (?:exited with \d+|no tag differed; .*|a request of .*)")
 # Runs mte_run with a way of checking, and keeps what it says.
 WRAPPER = """#!/bin/sh
 said=$(mktemp "$SAID/XXXXXXXX")

@@ -1,5 +1,6 @@
 //! The lines of a run that has ended, and its exit status.
 
+use crate::refused::refused_bytes;
 use crate::spare_bytes::may_have_spare_bytes;
 use mte_flat::Flat;
 use mte_report::Report;
@@ -93,16 +94,12 @@ impl<'x> RunAccount<'x> {
         report.write_statistics(out)
     }
 
-    /// Writes what no tag finds, and the last line, where there is one for how the tenant ended and
-    /// for the exit status.
+    /// Writes what a tenant that exited may not know, and the last line, where there is one for how
+    /// the tenant ended and for the exit status.
     pub fn write_end<W: Write>(&self, out: &mut W) -> io::Result<()> {
         let log = &self.report.parts.history;
-        if self.may_be_unseen() && may_have_spare_bytes(&log.calls) {
-            writeln!(
-                out,
-                "mte_run: no tag differed; a tag is that of 16 bytes, so up to 15 bytes past a \
-                 chunk's size are compared by --exact alone"
-            )?;
+        if self.is_exit() {
+            self.write_notes(out)?;
         }
         let line = LastLine {
             ending: self.ending(),
@@ -119,14 +116,34 @@ impl<'x> RunAccount<'x> {
         Ok(())
     }
 
+    /// Writes which request was refused for its size, and what no tag finds.
+    fn write_notes<W: Write>(&self, out: &mut W) -> io::Result<()> {
+        let calls = &self.report.parts.history.calls;
+        if let Some(bytes) = refused_bytes(calls) {
+            writeln!(
+                out,
+                "mte_run: a request of {bytes} bytes was refused: a chunk has at most 1,048,576 \
+                 (tenant-cc --large-blocks makes larger ones)"
+            )?;
+        }
+        if self.may_be_unseen() && may_have_spare_bytes(calls) {
+            writeln!(
+                out,
+                "mte_run: no tag differed; a tag is that of 16 bytes, so up to 15 bytes past a \
+                 chunk's size are compared by --exact alone"
+            )?;
+        }
+        Ok(())
+    }
+
     /// Whether the tenant exited.
     fn is_exit(&self) -> bool {
         matches!(self.report.parts.history.status, Status::Exited(_))
     }
 
-    /// Whether it exited, and accesses past its chunks' sizes were not looked for.
+    /// Whether accesses past the sizes of chunks were not looked for.
     fn may_be_unseen(&self) -> bool {
         let output = &self.options.output;
-        self.is_exit() && output.exact == Exactness::Tags && !output.check.provenance
+        output.exact == Exactness::Tags && !output.check.provenance
     }
 }

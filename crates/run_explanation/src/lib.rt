@@ -5,6 +5,7 @@ mod account;
 mod ended_run;
 mod limits;
 mod lost;
+mod refused;
 mod spare_bytes;
 mod title;
 

@@ -10,7 +10,7 @@ function saidLines(report) {
 }
 
 // The line that says how the tenant ended, and for one that exited what it lost, if it was asked.
-const OTHERS = /^(\d+ seeds: |statistics:|lost at the end|no tag differed|ended by|exited with)/;
+const OTHERS = /^(\d+ seeds: |statistics:|lost at the end|no tag differed|a request of|ended by|exited with)/;
 const endLine = report => saidLines(report).find(line => !OTHERS.test(line));
 const lostLine = report => saidLines(report).find(line => /^lost at the end: [1-9]/.test(line));
 
