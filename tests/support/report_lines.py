@@ -149,7 +149,8 @@ PARTS = (
     ("turns", r"the last calls and returns:$"), ("last", r"the last instructions:$"),
     ("state", r"registers that are not 0:$"), ("cut", r"mte_run: output was cut"),
     ("live", r"live at the end: "), ("statistics", r"mte_run: statistics:$"),
-    ("final", r"mte_run: (ended by|exited with|no tag differed|a request of)"), ("map", TITLE.pattern),
+    ("final", r"mte_run: (ended by|exited with|no tag differed|a request of)"),
+    ("map", TITLE.pattern),
 )
 
 
