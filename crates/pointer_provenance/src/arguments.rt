@@ -194,8 +194,10 @@ fn length_of_string<M: Tagged>(memory: &mut M, start: u64, most: u64) -> Option<
     ensures kept { M.kept memory.old memory.new }
 {
     for length in 0..most {
-        if byte_at(memory, start.wrapping_add(length))? == 0 {
-            return Some(length);
+        match byte_at(memory, start.wrapping_add(length)) {
+            Some(0) => return Some(length),
+            Some(_) => {}
+            None => return None,
         }
     }
     Some(most)
