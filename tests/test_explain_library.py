@@ -184,14 +184,15 @@ def test_refused_allocations(shared: pathlib.Path, tmp_path: pathlib.Path) -> No
     for number in range(1, made + 1, step):
         ran = asked.run(words, number)
         ended += ran.status == 4
-        assert ran in (whole, Ran(4, b"", b"")), f"allocation {number} of {made}"
+        is_unread = number < 3 and ran.status == 2  # the program's own, to read the image
+        assert is_unread or ran in (whole, Ran(4, b"", b"")), f"allocation {number} of {made}"
     assert ended > 50
 
 
 @pytest.mark.parametrize("options, said", [
     (["--json", "x"], "name files"), (["--input", "x"], "name files"),
     (["--trace"], "--trace"), (["--services"], "--services"), (["--gdb"], "--gdb"),
-    (["--wrong"], "--wrong"), (["--check=nothing"], "kinds"), (["--seed", "z"], "hexadecimal"),
+    (["--wrong"], "--wrong"), (["--check=nothing"], "--check takes"), (["--seed", "z"], "hexadecimal"),
     (["another.elf"], "one file"),
 ])
 def test_options_that_are_refused(shared: pathlib.Path, tmp_path: pathlib.Path,

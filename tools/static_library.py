@@ -22,8 +22,10 @@ import tempfile
 from types import ModuleType
 from typing import Any
 
+from unproved import LIBRARY, take_errno
+
 ROOT = pathlib.Path(__file__).resolve().parent.parent
-CRATES = [ROOT / "crates" / name for name in ("tombolopan_c", "explain_c")]
+CRATES = [ROOT / "crates" / name for name in LIBRARY]
 
 
 def stop(why: str) -> None:
@@ -85,9 +87,10 @@ def build(rtlib: ModuleType, folder: pathlib.Path, crate: Any, archive: pathlib.
     return ran.returncode
 
 
-def join(parts: list[pathlib.Path], out: pathlib.Path) -> None:
-    """One archive of the objects of several."""
-    script = "".join([f"create {out}\n", *(f"addlib {part}\n" for part in parts), "save\nend\n"])
+def join(parts: list[pathlib.Path], more: pathlib.Path, out: pathlib.Path) -> None:
+    """One archive of the objects of several, and of one more."""
+    script = "".join([f"create {out}\n", *(f"addlib {part}\n" for part in parts),
+                      f"addmod {more}\n", "save\nend\n"])
     subprocess.run(["ar", "-M"], input=script, text=True, check=True)
 
 
@@ -120,7 +123,7 @@ def main() -> int:
             if status != 0:
                 return status
         whole = pathlib.Path(room) / "whole.a"
-        join(parts, whole)
+        join(parts, take_errno(folder, pathlib.Path(room)), whole)
         out.parent.mkdir(parents=True, exist_ok=True)
         shutil.copyfile(whole, out)
     return 0
