@@ -6,6 +6,7 @@ use crate::answer::Answer;
 use crate::explaining::{Question, explain};
 use crate::form::AnswerForm;
 use crate::words::{wants_system, words_of};
+use clap::error::ErrorKind;
 use run_options::parse;
 use run_terms::{Failure, Options};
 use std::alloc::{AllocError, Global};
@@ -113,6 +114,7 @@ fn told(alloc: Global, question: &LentQuestion<'_>) -> Result<Answer, AllocError
     match parse(alloc, words.as_slice()) {
         Ok(Some(options)) => told_by(alloc, question, &options, form),
         Ok(None) => Err(AllocError),
+        Err(error) if error.kind() == ErrorKind::OutOfMemory => Err(AllocError),
         Err(error) => match format!(in alloc; "{error}") {
             Ok(text) => Answer::of_words(alloc, text.as_str(), error.use_stderr()),
             Err(_) => Err(AllocError),
