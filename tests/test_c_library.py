@@ -18,7 +18,7 @@ from tests.support.programs import (
     tenant_cc,
 )
 from tests.support.running import run
-from tests.support.told import UNSEEN
+from tests.support.told import REFUSED_REQUEST, UNSEEN
 from tests.support.tools import need
 
 PROGRAMS = sorted((EXAMPLES / "libc" / "tests" / "programs").glob("*.c"))
@@ -103,9 +103,11 @@ def test_the_library_does_what_its_tests_expect(
     program = native(case.source, tmp_path / "native", "-O1", "-w", "-ffp-contract=off")
     wanted = run([program])
     assert (ran.out, ran.status) == (wanted.out, wanted.status), ran.errors
-    assert ran.errors in ("", UNSEEN + "\n")
+    refused = REFUSED_REQUEST.findall(ran.errors)
+    assert ran.errors in ("".join(refused), "".join(refused) + UNSEEN + "\n")
     exact = run_as_tenant(alone, image, "--exact")
-    assert (exact.out, exact.status, exact.errors) == (wanted.out, wanted.status, "")
+    said = "".join(refused)
+    assert (exact.out, exact.status, exact.errors) == (wanted.out, wanted.status, said)
 
 
 SHORT = [tenant.name for tenant in c_tenants.tenants() if not tenant.is_long]

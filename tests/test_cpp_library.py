@@ -14,7 +14,7 @@ from tests.support.programs import (
     comment_value, is_refused, native, run_as_tenant, tenant_cxx,
 )
 from tests.support.running import Ran, run, succeed
-from tests.support.told import UNSEEN
+from tests.support.told import REFUSED_REQUEST, UNSEEN
 from tests.support.tools import need
 
 FOLDER = EXAMPLES / "libc" / "tests" / "cxx"
@@ -76,7 +76,8 @@ def test_a_program_does_what_its_comment_says_or_what_it_does_natively(
     wanted = run([program], stdin=data.read_bytes() if given else b"")
     assert (ran.out, ran.status) == (wanted.out, wanted.status), ran.errors
     said = ran.errors.replace(UNSEEN + "\n", "")
-    assert said in ("", f"mte_run: exited with {wanted.status}\n")
+    last = REFUSED_REQUEST.sub("", said)
+    assert last in ("", f"mte_run: exited with {wanted.status}\n")
     exact = run_as_tenant(alone, image, "--exact", *given)
     assert (exact.out, exact.status, exact.errors) == (wanted.out, wanted.status, said)
 

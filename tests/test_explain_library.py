@@ -192,7 +192,8 @@ def test_refused_allocations(shared: pathlib.Path, tmp_path: pathlib.Path) -> No
 @pytest.mark.parametrize("options, said", [
     (["--json", "x"], "name files"), (["--input", "x"], "name files"),
     (["--trace"], "--trace"), (["--services"], "--services"), (["--gdb"], "--gdb"),
-    (["--wrong"], "--wrong"), (["--check=nothing"], "--check takes"), (["--seed", "z"], "hexadecimal"),
+    (["--wrong"], "--wrong"), (["--check=nothing"], "--check takes"),
+    (["--seed", "z"], "hexadecimal"),
     (["another.elf"], "one file"),
 ])
 def test_options_that_are_refused(shared: pathlib.Path, tmp_path: pathlib.Path,

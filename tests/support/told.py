@@ -16,6 +16,8 @@ FRAME = re.compile(
     r"(?: at (\S+):(\d+))?( \(inlined\))?"
     r"( \(x30, may be old\))?$"
 )
+# What is said of an exit after a request for more than a chunk may have.
+REFUSED_REQUEST = re.compile(r"mte_run: a request of \d+ bytes was refused: .*\n")
 # What is said of a clean exit where chunks had bytes past their size.
 UNSEEN = (
     "mte_run: no tag differed; a tag is that of 16 bytes, so up to 15 bytes past a chunk's size "

@@ -93,6 +93,7 @@ def explain(image: bytes, input: bytes = b"", options: Iterable[str] = (),
     """Runs an image alone, and tells in a form what `mte_run` tells of it with these options. A
     ValueError where they are no command line, or name files.
 
+    >>> from tombolopan import example
     >>> explain(example("hi.elf"), form=AnswerForm.OUTPUT)
     Explained(text=b'Hi', status=0, steps=8)
     >>> explain(example("hi.elf"), options=["--steps", "5"]).text.splitlines()[-1]
@@ -176,9 +177,10 @@ def why(image: bytes, input: bytes = b"", *, check: str = "", exact: bool = Fals
         options: Iterable[str] = (), name: str = "tenant") -> Explanation:
     """Why a tenant ends: `check` has kinds of `mte_run --check` ("all" for the usual ones).
 
+    >>> from tombolopan import example
     >>> reason = why(example("hi.elf"))
-    >>> reason.status, reason.cause, reason.stack
-    (0, None, ())
+    >>> reason.status, reason.cause, hex(reason.stack[0].address)
+    (0, None, '0x1001c')
     """
     words = [*options, *([f"--check={check}"] if check else []), *(["--exact"] if exact else [])]
     report = explain(image, input, words, AnswerForm.REPORT, name)
