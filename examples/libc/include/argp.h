@@ -2,6 +2,7 @@
 #ifndef _ARGP_H
 #define _ARGP_H
 
+#include <ctype.h>
 #include <errno.h>
 #include <getopt.h>
 #include <limits.h>

@@ -22,11 +22,12 @@ struct part {
 };
 
 /* A parsing. The plain words from `plain` to `plain_end` were passed over, and come in front of the
-   next word once the options between are done; `rest` is what is left of a word of short options.*/
+   next word once the options between are done; `rest` is what is left of a word of short
+   options. */
 struct parsing {
     struct argp_state state;
     struct part *parts;
-    int count, plain, plain_end, is_over, has_args;
+    int count, plain, plain_end, is_over;
     const char *rest;
 };
 
@@ -87,8 +88,8 @@ static error_t version_parser(int key, char *arg, struct argp_state *state)
     return 0;
 }
 
-static const struct argp help_argp = {help_options, help_parser};
-static const struct argp version_argp = {version_options, version_parser};
+static const struct argp help_argp = {.options = help_options, .parser = help_parser};
+static const struct argp version_argp = {.options = version_options, .parser = version_parser};
 
 /* The parsers of a tree, each in front of its children: their number. Without `parts` they are
    only counted. */
@@ -201,10 +202,16 @@ static int may_lack_value(const struct found *found)
     return (found->real->flags & OPTION_ARG_OPTIONAL) != 0;
 }
 
+/* What the parser is called with: of an alias without a key it is that of the other. */
+static int key_of(const struct found *found)
+{
+    return found->option->key ? found->option->key : found->real->key;
+}
+
 /* Whether two long names mean the same. */
 static int is_same(const struct found *one, const struct found *other)
 {
-    return one->part == other->part && one->option->key == other->option->key
+    return one->part == other->part && key_of(one) == key_of(other)
            && has_value(one) == has_value(other)
            && (!has_value(one) || may_lack_value(one) == may_lack_value(other));
 }
@@ -274,7 +281,7 @@ static const char *name_of_key(const struct parsing *parsing, const struct found
 {
     struct found at = {NULL, NULL, NULL};
     while (next_option(parsing, &at))
-        if (is_option(&at) && at.part == found->part && at.option->key == found->option->key
+        if (is_option(&at) && at.part == found->part && key_of(&at) == key_of(found)
             && at.option->name && is_first(parsing, &at))
             return at.option->name;
     return found->option->name;
@@ -282,7 +289,7 @@ static const char *name_of_key(const struct parsing *parsing, const struct found
 
 static error_t take(struct parsing *parsing, const struct found *found, char *value, int is_long)
 {
-    error_t error = call(parsing, found->part, found->option->key, value);
+    error_t error = call(parsing, found->part, key_of(found), value);
     if (error != ARGP_ERR_UNKNOWN)
         return error;
     const char *text = "(PROGRAM ERROR) Option should have been recognized!?";
@@ -391,10 +398,8 @@ static error_t parse_argument(struct parsing *parsing)
         }
         if (error == ARGP_ERR_UNKNOWN)
             continue;
-        if (!error && state->next > at) {
+        if (!error && state->next > at)
             part->args += (unsigned)(state->next - at);
-            parsing->has_args = 1;
-        }
         return error;
     }
     state->next = at;
@@ -435,6 +440,8 @@ static int find_option(struct parsing *parsing)
 {
     struct argp_state *state = &parsing->state;
     int is_fixed = (state->flags & (ARGP_NO_ARGS | ARGP_IN_ORDER)) || getenv("POSIXLY_CORRECT");
+    if (state->next > state->argc)
+        return 0;
     move_plain(parsing);
     while (!is_fixed && state->next < state->argc && is_plain(parsing))
         parsing->plain_end = ++state->next;
@@ -517,7 +524,7 @@ static void set_state(struct parsing *parsing, const struct argp *root, unsigned
     state->pstate = parsing;
     state->name = has_name && state->argc && state->argv[0] ? base_name(state->argv[0])
                                                            : program_invocation_short_name;
-    parsing->plain = parsing->plain_end = has_name;
+    parsing->plain = parsing->plain_end = has_name && state->argc;
 }
 
 /* Makes the parsers of a tree with room for the inputs of their children, and parses. */
@@ -550,7 +557,8 @@ weak error_t argp_parse(
     struct parsing parsing = {.state = {.argc = argc, .argv = argv}};
     argp = argp ? argp : &none;
     int has_version = argp_program_version || argp_program_version_hook;
-    struct argp_child children[] = {{argp}, {&help_argp}, {has_version ? &version_argp : NULL}, {0}};
+    const struct argp *version = has_version ? &version_argp : NULL;
+    struct argp_child children[] = {{argp}, {&help_argp}, {version}, {0}};
     struct argp top = {.children = children};
     if (!(flags & ARGP_NO_ERRS))
         flags &= ~ARGP_PARSE_ARGV0;

@@ -37,7 +37,7 @@ struct help {
     const struct entry *last;
     const struct argp_option *owners[128];
     struct cluster *clusters;
-    int count, cluster_count, is_begun, has_header, has_hidden_value;
+    int count, cluster_count, parsers, is_begun, has_header, has_hidden_value, has_letters;
 };
 
 /* The text after a parser's filter, which is its own where the filter makes another one. */
@@ -70,15 +70,14 @@ static int has_short(const struct help *help, const struct argp_option *option)
     return argp_is_short(option) && help->owners[option->key] == option;
 }
 
-/* Counts entries and clusters of a tree. */
+/* Counts options and parsers of a tree. */
 static void count_all(struct help *help, const struct argp *argp)
 {
+    help->parsers++;
     for (const struct argp_option *at = argp->options; at && !argp_is_end(at); at++)
         help->count++;
-    for (const struct argp_child *at = argp->children; at && at->argp; at++) {
-        help->cluster_count++;
+    for (const struct argp_child *at = argp->children; at && at->argp; at++)
         count_all(help, at->argp);
-    }
 }
 
 static void list_options(struct help *help, const struct argp *argp, const struct cluster *cluster)
@@ -125,9 +124,9 @@ static const struct cluster *above_of(const struct cluster *cluster, int depth)
     return cluster;
 }
 
-/* The order of entries whose clusters differ. One that is in none is in front of the clusters of its
-   group, the entries of a cluster are in front of those of clusters in it, and of two clusters of a
-   group the later child comes first. */
+/* The order of entries whose clusters differ. One that is in none is in front of the clusters of
+   its group, the entries of a cluster are in front of those of clusters in it, and of two clusters
+   of a group the later child comes first. */
 static int by_cluster(const struct entry *one, const struct entry *other)
 {
     const struct cluster *left = one->cluster, *right = other->cluster;
@@ -158,11 +157,6 @@ static const char *long_of(const struct entry *entry)
         if (entry->option[i].name && is_shown(&entry->option[i]))
             return entry->option[i].name;
     return NULL;
-}
-
-static int short_of(const struct entry *entry)
-{
-    return entry->letter;
 }
 
 /* The first letter of each entry that is shown. */
@@ -208,7 +202,7 @@ static int by_name(const struct entry *one, const struct entry *other)
 {
     int is_text[2];
     const char *names[] = {sorted_name(one, &is_text[0]), sorted_name(other, &is_text[1])};
-    int letters[] = {short_of(one), short_of(other)};
+    int letters[] = {one->letter, other->letter};
     if (is_text[0] != is_text[1])
         return is_text[0] - is_text[1];
     if (!letters[0] && !letters[1]) {
@@ -218,10 +212,10 @@ static int by_name(const struct entry *one, const struct entry *other)
     }
     int first = letters[0] ? letters[0] : *names[0], second = letters[1] ? letters[1] : *names[1];
     int order = tolower(first) - tolower(second);
-    if (!order && !letters[0] != !letters[1])
-        return letters[0] ? 1 : -1;
     if (!order)
-        order = islower(first) ? -!islower(second) : islower(second) != 0;
+        order = !islower(first) - !islower(second);
+    if (!order)
+        order = !letters[1] - !letters[0];
     return order ? order : one->place - other->place;
 }
 
@@ -243,10 +237,10 @@ static int list(struct help *help)
 {
     count_all(help, help->root);
     help->entries = calloc((size_t)help->count + 1, sizeof *help->entries);
-    help->clusters = calloc((size_t)help->cluster_count + 1, sizeof *help->clusters);
+    help->clusters = calloc((size_t)help->parsers, sizeof *help->clusters);
     if (!help->entries || !help->clusters)
         return 0;
-    help->count = help->cluster_count = 0;
+    help->count = 0;
     list_all(help, help->root, NULL);
     find_letters(help);
     move_to_end(help, "help");
@@ -406,11 +400,6 @@ static void put_options(struct help *help)
     drop(text, note);
 }
 
-static void put_bracket(struct help *help, const char *text)
-{
-    __argp_puts(&help->page, text);
-}
-
 /* A blank in front of a text that stays in one line, where it has room. */
 static void put_space(struct help *help, size_t size)
 {
@@ -418,70 +407,80 @@ static void put_space(struct help *help, size_t size)
     __argp_puts(&help->page, has_room || !size ? " " : "\n");
 }
 
-static int is_in_usage(const struct argp_option *real, const struct argp_option *option)
+typedef void put_option(
+    struct help *help, const struct argp_option *real, const struct argp_option *option);
+
+/* An option without a value; all of them are in one pair of brackets. */
+static void put_letter(
+    struct help *help, const struct argp_option *real, const struct argp_option *option)
 {
-    return is_shown(option) && !((real->flags | option->flags) & OPTION_NO_USAGE);
+    if (value_of(real, option) || !has_short(help, option))
+        return;
+    char name[] = {(char)option->key, 0};
+    __argp_puts(&help->page, help->has_letters ? "" : " [-");
+    __argp_puts(&help->page, name);
+    help->has_letters = 1;
 }
 
-/* Short options without values, all in one pair of brackets. */
-static void put_short_usage(struct help *help)
+static void put_short(
+    struct help *help, const struct argp_option *real, const struct argp_option *option)
 {
-    int count = 0;
+    const char *value = value_of(real, option);
+    int flags = real->flags | option->flags;
+    if (!value || !has_short(help, option))
+        return;
+    char name[] = {'[', '-', (char)option->key, 0};
+    put_space(help, flags & OPTION_ARG_OPTIONAL ? 0 : strlen("[-x ]") + strlen(value));
+    __argp_puts(&help->page, name);
+    put_value(help, value, flags, 0);
+    __argp_puts(&help->page, "]");
+}
+
+static void put_long(
+    struct help *help, const struct argp_option *real, const struct argp_option *option)
+{
+    if (!option->name)
+        return;
+    __argp_puts(&help->page, " [--");
+    __argp_puts(&help->page, option->name);
+    put_value(help, value_of(real, option), real->flags | option->flags, 1);
+    __argp_puts(&help->page, "]");
+}
+
+/* Each option that --usage lists, in the order of the help. */
+static void put_each(struct help *help, put_option *put)
+{
     for (int i = 0; i < help->count; i++)
         for (int j = 0; j < help->entries[i].count; j++) {
             const struct argp_option *real = help->entries[i].option, *option = real + j;
-            if (value_of(real, option) || !is_in_usage(real, option) || !has_short(help, option))
-                continue;
-            char name[] = {(char)option->key, 0};
-            put_bracket(help, count++ ? name : (char[]){' ', '[', '-', name[0], 0});
+            if (is_shown(option) && !((real->flags | option->flags) & OPTION_NO_USAGE))
+                put(help, real, option);
         }
-    if (count)
-        put_bracket(help, "]");
-}
-
-static void put_option_usage(
-    struct help *help, const struct argp_option *real, const struct argp_option *option,
-    const char *dashes, const char *name)
-{
-    const char *value = value_of(real, option);
-    int flags = real->flags | option->flags, is_long = dashes[1] == '-';
-    size_t size = is_long || (flags & OPTION_ARG_OPTIONAL) ? 0 : strlen(value);
-    put_space(help, size ? strlen("[-x ]") + size : 0);
-    put_bracket(help, "[");
-    put_bracket(help, dashes);
-    put_bracket(help, name);
-    put_value(help, value, flags, is_long);
-    put_bracket(help, "]");
 }
 
 static void put_usage_options(struct help *help)
 {
-    put_short_usage(help);
-    for (int i = 0; i < help->count; i++)
-        for (int j = 0; j < help->entries[i].count; j++) {
-            const struct argp_option *real = help->entries[i].option, *option = real + j;
-            char name[] = {(char)option->key, 0};
-            if (value_of(real, option) && is_in_usage(real, option) && has_short(help, option))
-                put_option_usage(help, real, option, "-", name);
-        }
-    for (int i = 0; i < help->count; i++)
-        for (int j = 0; j < help->entries[i].count; j++) {
-            const struct argp_option *real = help->entries[i].option, *option = real + j;
-            if (option->name && is_in_usage(real, option))
-                put_option_usage(help, real, option, "--", option->name);
-        }
+    put_each(help, put_letter);
+    __argp_puts(&help->page, help->has_letters ? "]" : "");
+    put_each(help, put_short);
+    put_each(help, put_long);
 }
 
-/* The arguments of a tree, each by the line `lines` of its text; whether there are more lines. */
+static int has_lines(const struct argp *argp)
+{
+    return argp->args_doc && strchr(argp->args_doc, '\n');
+}
+
+/* The arguments of a tree. Of a text with lines it is the one of the next number of `line`. */
 static void put_arguments(struct help *help, const struct argp *argp, int **line)
 {
     const char *own = argp->args_doc;
     char *text = filtered(help, argp, ARGP_KEY_HELP_ARGS_DOC, own);
+    int left = has_lines(argp) ? *(*line)++ : 0;
     if (text) {
         const char *begin = text;
-        if (strchr(text, '\n'))
-            for (int left = *(*line)++; left && strchr(begin, '\n'); left--)
-                begin = strchr(begin, '\n') + 1;
+        for (; left && strchr(begin, '\n'); left--)
+            begin = strchr(begin, '\n') + 1;
         size_t size = strcspn(begin, "\n");
         put_space(help, size);
         __argp_put(&help->page, begin, size);
@@ -493,7 +492,7 @@ static void put_arguments(struct help *help, const struct argp *argp, int **line
 
 static void skip_lines(const struct argp *argp, int **line)
 {
-    *line += argp->args_doc && strchr(argp->args_doc, '\n');
+    *line += has_lines(argp);
     for (const struct argp_child *child = argp->children; child && child->argp; child++)
         skip_lines(child->argp, line);
 }
@@ -502,7 +501,7 @@ static void skip_lines(const struct argp *argp, int **line)
    else the first lines come again. */
 static int next_lines(const struct argp *argp, int **line)
 {
-    const char *at = argp->args_doc ? strchr(argp->args_doc, '\n') : NULL;
+    const char *at = has_lines(argp) ? strchr(argp->args_doc, '\n') : NULL;
     int *own = at ? (*line)++ : NULL, count = 0, has_moved = 0;
     for (const struct argp_child *child = argp->children; child && child->argp; child++)
         if (has_moved)
@@ -519,8 +518,10 @@ static int next_lines(const struct argp *argp, int **line)
 
 static void put_usage(struct help *help)
 {
-    int *lines = calloc((size_t)help->cluster_count + help->count + 2, sizeof *lines), *line = lines;
+    int *lines = calloc((size_t)help->parsers, sizeof *lines), *line = lines;
     int is_first = 1, is_short = (help->flags & ARGP_HELP_SHORT_USAGE) != 0;
+    if (!lines)
+        return;
     do {
         __argp_margins(&help->page, 0, USAGE_INDENT);
         __argp_puts(&help->page, is_first ? "Usage: " : "  or:  ");
