@@ -148,8 +148,7 @@ def linked(
 def test_drawn_options_are_parsed_as_they_are_natively(
     alone: pathlib.Path, library: pathlib.Path, tmp_path: pathlib.Path
 ) -> None:
-    """Tables of argp and command lines that were drawn: all calls of parsers, helps, errors and exit
-    statuses."""
+    """Tables of argp and command lines that were drawn: calls of parsers, texts, exit statuses."""
     need("clang", "ld.lld", "cc")
     tables = Tables(4)
     (tmp_path / "tables.h").write_text(tables.draw(12))

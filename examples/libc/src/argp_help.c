@@ -59,6 +59,12 @@ static int is_header(const struct argp_option *option)
     return !option->name && !option->key;
 }
 
+/* A header with an alias is an option by that. */
+static int is_title(const struct entry *entry)
+{
+    return entry->count == 1 && is_header(entry->option);
+}
+
 static int is_shown(const struct argp_option *option)
 {
     return !(option->flags & OPTION_HIDDEN);
@@ -226,10 +232,10 @@ static int compare(const void *left, const void *right)
         return by_cluster(one, other);
     if (one->group != other->group)
         return by_group(one->group, other->group);
-    int order = is_header(other->option) - is_header(one->option);
+    int order = is_title(other) - is_title(one);
     if (order)
         return order;
-    return is_header(one->option) ? one->place - other->place : by_name(one, other);
+    return is_title(one) ? one->place - other->place : by_name(one, other);
 }
 
 /* Makes the list of options, in the order of the help. */
@@ -363,7 +369,7 @@ static void put_doc(struct help *help, const struct entry *entry)
 static void put_entry(struct help *help, const struct entry *entry)
 {
     const struct entry *last = help->last;
-    if (is_header(entry->option)) {
+    if (is_title(entry)) {
         put_header(help, entry->argp, entry->option->doc);
         help->last = entry;
         return;
@@ -555,7 +561,8 @@ static int put_text(struct help *help, const struct argp *argp, int is_post)
     const char *cut = argp->doc ? strchr(argp->doc, '\v') : NULL;
     /* A text that begins with the mark is in front too, with it, as GNU's library has it. */
     const char *own = is_post ? cut ? cut + 1 : NULL : argp->doc;
-    char *whole = cut > argp->doc && !is_post ? strndup(argp->doc, (size_t)(cut - argp->doc)) : NULL;
+    int has_front = cut > argp->doc && !is_post;
+    char *whole = has_front ? strndup(argp->doc, (size_t)(cut - argp->doc)) : NULL;
     int key = is_post ? ARGP_KEY_HELP_POST_DOC : ARGP_KEY_HELP_PRE_DOC;
     const char *given = whole ? whole : own;
     char *text = filtered(help, argp, key, given);
