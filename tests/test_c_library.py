@@ -12,6 +12,7 @@ import pytest
 from tests.support import c_tenants
 from tests.support.cache import tenant_library
 from tests.support.c_tenants import Tenant
+from tests.support.drawn_options import DRIVER, Tables, results
 from tests.support.places import EXAMPLES
 from tests.support.programs import (
     LEVELS, WARNINGS, comment_value, compiled, is_for_clang, is_refused, native, run_as_tenant,
@@ -19,6 +20,7 @@ from tests.support.programs import (
 )
 from tests.support.running import run
 from tests.support.told import REFUSED_REQUEST, UNSEEN
+from tests.support.running import Ran, run
 from tests.support.tools import need
 
 PROGRAMS = sorted((EXAMPLES / "libc" / "tests" / "programs").glob("*.c"))
@@ -144,6 +146,26 @@ def linked(
     ran = tenant_cc(library, "--compiler=clang", *words, "-O1", "-o", str(image), str(source))
     assert ran.status == 0, ran.errors
     return image, ran.errors
+
+
+def test_drawn_options_are_parsed_as_they_are_natively(
+    alone: pathlib.Path, library: pathlib.Path, tmp_path: pathlib.Path
+) -> None:
+    """Tables of argp and command lines that were drawn: calls of parsers, texts, exit statuses."""
+    need("clang", "ld.lld", "cc")
+    tables = Tables(4)
+    (tmp_path / "tables.h").write_text(tables.draw(12))
+    commands = [tables.command() for _ in range(120)]
+    flags = [f"-I{tmp_path}", "-w"]
+    image = compiled(library, DRIVER, "clang", "-O1", tmp_path / "image.elf", flags)
+    program = native(DRIVER, tmp_path / "native", *flags)
+
+    def as_tenant(data: bytes) -> Ran:
+        (tmp_path / "input").write_bytes(data)
+        return run_as_tenant(alone, image, "--input", str(tmp_path / "input"))
+
+    wanted = results(lambda data: run([program], stdin=data), commands)
+    assert results(as_tenant, commands) == wanted
 
 
 ARGUMENTS = """
