@@ -18,9 +18,8 @@ from tests.support.programs import (
     LEVELS, WARNINGS, comment_value, compiled, is_for_clang, is_refused, native, run_as_tenant,
     tenant_cc,
 )
-from tests.support.running import run
-from tests.support.told import REFUSED_REQUEST, UNSEEN
 from tests.support.running import Ran, run
+from tests.support.told import REFUSED_REQUEST, UNSEEN
 from tests.support.tools import need
 
 PROGRAMS = sorted((EXAMPLES / "libc" / "tests" / "programs").glob("*.c"))
