@@ -147,7 +147,9 @@ static int by_cluster(const struct entry *one, const struct entry *other)
         right = right->above;
     }
     order = by_group(left->group, right->group);
-    return order ? order : right->place - left->place;
+    if (!order)
+        order = right->place - left->place;
+    return order ? order : deeper;
 }
 
 static const char *long_of(const struct entry *entry)
