@@ -324,7 +324,8 @@ static void put_value(struct help *help, const char *value, int flags, int is_lo
 static void put_names(struct help *help, const struct entry *entry)
 {
     const struct argp_option *real = entry->option;
-    int count = 0, has_long = long_of(entry) != NULL;
+    int count = 0, is_text = (real->flags & OPTION_DOC) != 0;
+    int has_long = long_of(entry) && !is_text;
     __argp_margins(&help->page, 0, LONG_COLUMN);
     for (int i = 0; i < entry->count; i++)
         if (is_shown(&real[i]) && has_short(help, &real[i])) {
@@ -336,7 +337,6 @@ static void put_names(struct help *help, const struct entry *entry)
             else if (real->arg)
                 help->has_hidden_value = 1;
         }
-    int is_text = (real->flags & OPTION_DOC) != 0;
     for (int i = 0; i < entry->count; i++)
         if (is_shown(&real[i]) && real[i].name) {
             put_comma(help, &count, is_text ? NAME_COLUMN : LONG_COLUMN);
