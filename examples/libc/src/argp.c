@@ -42,8 +42,8 @@ enum { NAME_KEY = -2, HANG_KEY = -3, USAGE_KEY = -4 };
 static const struct argp_option help_options[] = {
     {"help", '?', NULL, 0, "Give this help list", -1},
     {"usage", USAGE_KEY, NULL, 0, "Give a short usage message", 0},
-    {"program-name", NAME_KEY, "NAME", OPTION_HIDDEN, "Set the program name", 0},
-    {"HANG", HANG_KEY, "SECS", OPTION_ARG_OPTIONAL | OPTION_HIDDEN, "Hang for SECS seconds", 0},
+    {"program-name", NAME_KEY, "NAME", OPTION_HIDDEN, NULL, 0},
+    {"HANG", HANG_KEY, "SECS", OPTION_ARG_OPTIONAL | OPTION_HIDDEN, NULL, 0},
     {0},
 };
 

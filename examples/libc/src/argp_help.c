@@ -59,12 +59,6 @@ static int is_header(const struct argp_option *option)
     return !option->name && !option->key;
 }
 
-/* A header with an alias is an option by that. */
-static int is_title(const struct entry *entry)
-{
-    return entry->count == 1 && is_header(entry->option);
-}
-
 static int is_shown(const struct argp_option *option)
 {
     return !(option->flags & OPTION_HIDDEN);
@@ -132,7 +126,8 @@ static const struct cluster *above_of(const struct cluster *cluster, int depth)
 
 /* The order of entries whose clusters differ. One that is in none is in front of the clusters of
    its group, the entries of a cluster are in front of those of clusters in it, and of two clusters
-   of a group the later child comes first. */
+   of a group the later child comes first. Children of several parsers may have the same place, and
+   are sorted as one then. */
 static int by_cluster(const struct entry *one, const struct entry *other)
 {
     const struct cluster *left = one->cluster, *right = other->cluster;
@@ -154,7 +149,7 @@ static int by_cluster(const struct entry *one, const struct entry *other)
     order = by_group(left->group, right->group);
     if (!order)
         order = right->place - left->place;
-    return order ? order : left < right ? -1 : 1;
+    return order ? order : deeper;
 }
 
 static const char *long_of(const struct entry *entry)
@@ -163,6 +158,12 @@ static const char *long_of(const struct entry *entry)
         if (entry->option[i].name && is_shown(&entry->option[i]))
             return entry->option[i].name;
     return NULL;
+}
+
+/* A header with an alias that is shown is an option by that. */
+static int is_title(const struct entry *entry)
+{
+    return is_header(entry->option) && !entry->letter && !long_of(entry);
 }
 
 /* The first letter of each entry that is shown. */
@@ -228,11 +229,10 @@ static int by_name(const struct entry *one, const struct entry *other)
 static int compare(const void *left, const void *right)
 {
     const struct entry *one = left, *other = right;
-    if (one->cluster != other->cluster)
-        return by_cluster(one, other);
-    if (one->group != other->group)
-        return by_group(one->group, other->group);
-    int order = is_title(other) - is_title(one);
+    int order = one->cluster == other->cluster ? 0 : by_cluster(one, other);
+    if (order || one->group != other->group)
+        return order ? order : by_group(one->group, other->group);
+    order = is_title(other) - is_title(one);
     if (order)
         return order;
     return is_title(one) ? one->place - other->place : by_name(one, other);
@@ -324,7 +324,8 @@ static void put_value(struct help *help, const char *value, int flags, int is_lo
 static void put_names(struct help *help, const struct entry *entry)
 {
     const struct argp_option *real = entry->option;
-    int count = 0, has_long = long_of(entry) != NULL;
+    int count = 0, is_text = (real->flags & OPTION_DOC) != 0;
+    int has_long = long_of(entry) && !is_text;
     __argp_margins(&help->page, 0, LONG_COLUMN);
     for (int i = 0; i < entry->count; i++)
         if (is_shown(&real[i]) && has_short(help, &real[i])) {
@@ -336,7 +337,6 @@ static void put_names(struct help *help, const struct entry *entry)
             else if (real->arg)
                 help->has_hidden_value = 1;
         }
-    int is_text = (real->flags & OPTION_DOC) != 0;
     for (int i = 0; i < entry->count; i++)
         if (is_shown(&real[i]) && real[i].name) {
             put_comma(help, &count, is_text ? NAME_COLUMN : LONG_COLUMN);
