@@ -31,7 +31,8 @@ COMPLETED = ("mte_host", "mte_split", "mte_run", "mte_why", *TENANTS)
 WITH_STATUSES = ("mte_host", "mte_split", "mte_run", "mte_why", "tenant-cc")
 FILES = {
     "bin/mte_host": EXECUTABLE, "bin/mte_split": EXECUTABLE, "bin/mte_run": EXECUTABLE,
-    "include/tombolopan.h": READABLE, "include/tenant.h": READABLE,
+    "include/tombolopan.h": READABLE, "include/tombolopan_explain.h": READABLE,
+    "include/tenant.h": READABLE,
     "lib/libtombolopan.a": READABLE, "lib/libtombolopan.so.2": EXECUTABLE,
     "lib/pkgconfig/tombolopan.pc": READABLE,
     **{f"share/man/man1/{name}.1": READABLE for name in COMPLETED},
@@ -56,7 +57,7 @@ LINKS = {
     **{f"{SHARE}/crates/{name}/out/{name}": f"../../../../../bin/{name}"
        for name in ("mte_host", "mte_split", "mte_run")},
 }
-HEADER = ROOT / "include" / "tombolopan.h"
+HEADERS = sorted((ROOT / "include").glob("*.h"))
 FIRST = "breakpoint 1, x0 is 42\n"
 WRITTEN = """\
 install.sh: installed into {0}
@@ -204,9 +205,9 @@ def test_c_program(moved: pathlib.Path, tmp_path: pathlib.Path,
 
 
 def test_symbols_of_the_shared_object(moved: pathlib.Path) -> None:
-    """From outside only the calls that the header declares are seen."""
+    """From outside only the calls that the headers declare are seen."""
     need("nm")
-    text = HEADER.read_text(encoding="utf-8")
+    text = "".join(it.read_text(encoding="utf-8") for it in HEADERS)
     declared = set(re.findall(r"^(?:uint32_t|void) (tb_\w+)\(", text, re.M))
     ran = succeed(["nm", "-D", "--defined-only", moved / "lib" / "libtombolopan.so.2"])
     seen = {line.split()[-1] for line in ran.output.splitlines()}

@@ -6,7 +6,7 @@
 #     PREFIX/bin                  mte_host, mte_split, mte_run, mte_why (why.sh), tenant-cc
 #                                 and what else is named tenant-.. in examples/libc
 #     PREFIX/lib                  libtombolopan.a, libtombolopan.so.2 (libtombolopan.so leads to it)
-#     PREFIX/include              tombolopan.h, tenant.h
+#     PREFIX/include              tombolopan.h, tombolopan_explain.h, tenant.h
 #     PREFIX/lib/pkgconfig        tombolopan.pc
 #     PREFIX/share/man            pages of the programs (1) and of the library and its calls (3)
 #     PREFIX/share/bash-completion, share/zsh, share/fish: completions
