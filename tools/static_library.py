@@ -5,12 +5,13 @@ ci` has proved.
     tools/static_library.py OUT.a
 
 `rt ci` proves a static library and builds no archive, and `rt lib` would prove all crates below it
-once more, since it takes none of the gate's. This proves the two crates again, in three minutes of
-one processor, over crates/*/out/rlib as the gate left them, and builds the archive. It trusts
+once more, since it takes none of the gate's. This proves the two crates again, at the same time, in
+some four minutes, over crates/*/out/rlib as the gate left them, and builds the archive. It trusts
 what rt ci itself trusts between crates, the statements of the libraries below, and takes nothing
 else from an earlier run. A library that is older than its sources is refused.
 """
 
+import concurrent.futures
 import importlib.machinery
 import importlib.util
 import os
@@ -94,18 +95,19 @@ def join(parts: list[pathlib.Path], more: pathlib.Path, out: pathlib.Path) -> No
     subprocess.run(["ar", "-M"], input=script, text=True, check=True)
 
 
-def build_crate(rtlib: ModuleType, folder: pathlib.Path, path: pathlib.Path,
-                archive: pathlib.Path) -> int:
-    """Builds the archive of a crate, while no other command changes what is below it."""
-    crates = rtlib.crates_below(str(path))
-    held = rtlib.lock(crates)
-    crate = next(it for it in crates if it.name == path.name)
-    for it in crate.below():
-        look_at(it)
-    status = build(rtlib, folder, crate, archive)
+def build_all(rtlib: ModuleType, folder: pathlib.Path, parts: list[pathlib.Path]) -> int:
+    """Builds the archive of each crate, while no other command changes what is below them."""
+    every = {it.name: it for path in CRATES for it in rtlib.crates_below(str(path))}
+    held = rtlib.lock(list(every.values()))
+    crates = [every[path.name] for path in CRATES]
+    for crate in crates:
+        for it in crate.below():
+            look_at(it)
+    with concurrent.futures.ThreadPoolExecutor() as pool:
+        statuses = list(pool.map(lambda it: build(rtlib, folder, *it), zip(crates, parts)))
     for it in held:
         os.close(it)
-    return status
+    return next((it for it in statuses if it != 0), 0)
 
 
 def main() -> int:
@@ -118,10 +120,9 @@ def main() -> int:
     os.chdir(ROOT)
     with tempfile.TemporaryDirectory(prefix="static-library-") as room:
         parts = [pathlib.Path(room) / f"{path.name}.a" for path in CRATES]
-        for path, part in zip(CRATES, parts):
-            status = build_crate(rtlib, folder, path, part)
-            if status != 0:
-                return status
+        status = build_all(rtlib, folder, parts)
+        if status != 0:
+            return status
         whole = pathlib.Path(room) / "whole.a"
         join(parts, take_errno(folder, pathlib.Path(room)), whole)
         out.parent.mkdir(parents=True, exist_ok=True)
