@@ -11,7 +11,6 @@ what rt ci itself trusts between crates, the statements of the libraries below, 
 else from an earlier run. A library that is older than its sources is refused.
 """
 
-import concurrent.futures
 import importlib.machinery
 import importlib.util
 import os
@@ -78,14 +77,14 @@ def look_at(crate: Any) -> None:
         stop(f"{crate.name} is older than its sources: run rt ci first")
 
 
-def build(rtlib: ModuleType, folder: pathlib.Path, crate: Any, archive: pathlib.Path) -> int:
-    """Proves the crate over the libraries below it and builds its archive."""
+def start(rtlib: ModuleType, folder: pathlib.Path, crate: Any,
+          archive: pathlib.Path) -> "subprocess.Popen[bytes]":
+    """Begins to prove the crate over the libraries below it and to build its archive."""
     words = [*crate.words(["--jobs", "1"], keeps=False), "--toolchain", f"{folder}/toolchain"]
     if "--backend" in rtlib.help_of("build"):
         words += ["--backend", "llvm"]
     whole = [*rtlib.guarded(), rtlib.RATTLE, "build", *words, "-o", str(archive)]
-    ran = subprocess.run(whole, cwd=crate.folder, stdin=subprocess.DEVNULL, check=False)
-    return ran.returncode
+    return subprocess.Popen(whole, cwd=crate.folder, stdin=subprocess.DEVNULL)
 
 
 def join(parts: list[pathlib.Path], more: pathlib.Path, out: pathlib.Path) -> None:
@@ -103,8 +102,8 @@ def build_all(rtlib: ModuleType, folder: pathlib.Path, parts: list[pathlib.Path]
     for crate in crates:
         for it in crate.below():
             look_at(it)
-    with concurrent.futures.ThreadPoolExecutor() as pool:
-        statuses = list(pool.map(lambda it: build(rtlib, folder, *it), zip(crates, parts)))
+    started = [start(rtlib, folder, crate, part) for crate, part in zip(crates, parts)]
+    statuses = [process.wait() for process in started]
     for it in held:
         os.close(it)
     return next((it for it in statuses if it != 0), 0)
