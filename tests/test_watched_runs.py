@@ -17,10 +17,13 @@ from tests.reference import place_rules, pointers, programs, variables
 from tests.reference.drawing import word
 from tests.reference.provenance import first_findings
 from tests.reference.runs import Runner
+from tests.support.cache import tenant_library
 from tests.support.instructions import (
     CODE, SERVICE, SP, ZERO, Words, add, call, copy, jump_not_equal, load, load_pair, move,
     program, store, store_pair, subtract_with_flags,
 )
+from tests.support.places import EXAMPLES
+from tests.support.programs import compiled
 from tests.support.running import Word, run, succeed
 from tests.support.samples import FLAGS
 from tests.support.tools import need
@@ -31,6 +34,8 @@ from tests.test_checks import (
 )
 
 DRAWN = int(os.environ.get("TOMBOLOPAN_DRAWN", "200")) // 4
+# Programs of one or two pages over the C library.
+PROGRAMS = sorted((EXAMPLES / "libc" / "tests" / "programs").glob("*.c"))
 # So many drawn programs that each build has all sources.
 MANY = 1_000
 NEVER = "18446744073709551615"
@@ -216,6 +221,21 @@ def test_drawn_programs(alone: pathlib.Path, tmp_path: pathlib.Path) -> None:
                 ends.add(kind_of_end(tmp_path))
     assert [it for it in found if it] == []
     assert DRAWN < 50 or {"exit", "exact", "illegal", "check"} <= ends, ends
+
+
+@pytest.mark.parametrize("level", ["-O0", "-O2"])
+def test_programs(alone: pathlib.Path, tmp_path: pathlib.Path, level: str) -> None:
+    """Programs over the C library, with their inputs."""
+    need("clang", "ld.lld")
+    library = tenant_library()
+    found = []
+    for number, source in enumerate(PROGRAMS):
+        path = compiled(library, source, "clang", level, tmp_path / f"{source.stem}.elf")
+        words: list[Word] = ["--input", source.with_suffix(".txt"), "--steps", "400000", path]
+        for ways in (ASKED[:4], CHECKED[:9]):
+            asked, slices = ways[number % len(ways)], SLICES[number % len(SLICES)]
+            found.append(differs(alone, tmp_path, [*asked, *slices, *words]))
+    assert [it for it in found if it] == []
 
 
 def heap(*parts: Words) -> bytes:
