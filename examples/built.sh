@@ -6,7 +6,7 @@
 # sources; or of the prefix in which this folder is installed.
 find_program() {
     local name=$1 script=$2 here mark
-    here=$(cd "$(dirname "${BASH_SOURCE[0]}")" && pwd)
+    here=$(dirname "$(readlink -f "${BASH_SOURCE[0]}")")
     if [[ -n ${TOMBOLOPAN_BUILT:-} ]]; then
         program=$TOMBOLOPAN_BUILT/$name
         return

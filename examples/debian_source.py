@@ -11,6 +11,7 @@ not fetched, and standard error says why. Needed (Debian): apt, tar, bzip2, xz-u
 """
 import pathlib
 import platform
+import re
 import shutil
 import subprocess
 import sys
@@ -44,7 +45,8 @@ def address() -> str:
 
 def archives_of(folder: pathlib.Path, package: str) -> list[pathlib.Path]:
     """The archives of a package that a folder has."""
-    return [path for path in folder.glob(f"{package}_*.orig.tar.*") if path.suffix != ".asc"]
+    return [path for path in folder.glob(f"{package}_*.tar.*")
+            if re.fullmatch(r"[^_]*_(?:[^-]*|.*\.orig)\.tar\.[^.]+", path.name)]
 
 
 def download(folder: pathlib.Path, package: str) -> pathlib.Path:

@@ -1,6 +1,11 @@
 """Fixtures of all tests: the built programs, and a folder that the workers of one run share."""
 
+import os
 import pathlib
+import subprocess
+import sys
+from collections.abc import Iterator
+from types import ModuleType
 
 import pytest
 
@@ -53,8 +58,53 @@ def acts(
     return run_acts(alone, source, build, tmp_path_factory.mktemp("acts"))
 
 
+def imported(name: str) -> Iterator[str]:
+    """The modules of tests that one names."""
+    for it in vars(sys.modules[name]).values():
+        found = it.__name__ if isinstance(it, ModuleType) else getattr(it, "__module__", None) or ""
+        if found.startswith("tests.") and found in sys.modules:
+            yield found
+
+
+def needs_library(name: str) -> bool:
+    """Whether a module of tests needs the library for C: it names it, or one that it names does."""
+    seen, waiting = {name}, [name]
+    while waiting:
+        for it in imported(waiting.pop()):
+            if it not in seen:
+                seen.add(it)
+                waiting.append(it)
+    return "tests.support.library" in seen
+
+
+def place(item: pytest.Item, slow: set[str]) -> int:
+    """The page is made first, by one worker. Cases that need the library come after the others,
+    and those that open the page last: both take minutes to make."""
+    if item.name == "test_the_page_is_made":
+        return 0
+    if "whole" in getattr(item, "fixturenames", ()):
+        return 3
+    return 2 if module_of(item) in slow else 1
+
+
+def module_of(item: pytest.Item) -> str:
+    """The module of a case."""
+    assert isinstance(item, pytest.Function)
+    return str(item.module.__name__)
+
+
 def pytest_collection_modifyitems(items: list[pytest.Item]) -> None:
-    """The page is made first, by one worker, and cases that open it come last: it is there then."""
-    places = {it: 0 if it.name == "test_the_page_is_made" else 2 if "whole" in
-              getattr(it, "fixturenames", ()) else 1 for it in items}
-    items.sort(key=lambda it: places[it])
+    """The order of the cases."""
+    slow = {it for it in {module_of(item) for item in items} if needs_library(it)}
+    items.sort(key=lambda it: place(it, slow))
+
+
+@pytest.fixture(scope="session", autouse=True)
+def library_begun(request: pytest.FixtureRequest, shared: pathlib.Path) -> None:
+    """Where all cases are run, one worker has the library made beside its cases."""
+    modules = {module_of(it) for it in request.session.items}
+    is_all = any(map(needs_library, modules)) and not all(map(needs_library, modules))
+    if is_all and os.environ.get("PYTEST_XDIST_WORKER") == "gw1":
+        code = ("import pathlib, sys; from tests.support.library import static_library; "
+                "static_library(pathlib.Path(sys.argv[1]))")
+        subprocess.Popen([sys.executable, "-c", code, shared], cwd=places.ROOT)

@@ -215,6 +215,29 @@ def test_hostile_names(chromium: Browser, tmp_path: pathlib.Path) -> None:
     assert chromium.failures() == []
 
 
+def test_files_that_are_no_program(chromium: Browser, tmp_path: pathlib.Path) -> None:
+    """Of another machine, empty, a text, too large, a folder: the page says what became of each."""
+    other, empty, text, large, folder = (tmp_path / it for it in ("x86", "empty", "a.txt", "large",
+                                                                   "folder"))
+    other.write_bytes(pathlib.Path("/bin/true").read_bytes())
+    empty.touch()
+    text.write_text("no program", encoding="utf-8")
+    folder.mkdir()
+    with large.open("wb") as file:
+        file.truncate((16 << 20) + 1)
+    for path, element, wanted in (
+        (other, "cause", "the tenant is refused: NotAarch64: is it an ELF64 file for AArch64?"),
+        (empty, "state", "empty is no ELF file: it is taken as input. Run begins the run."),
+        (text, "state", "a.txt is no ELF file: it is taken as input. Run begins the run."),
+        (large, "state", "large has more than 16 MiB: it is not read."),
+        (folder, "state", "The files were not read: "),
+    ):
+        chromium.drop(path)
+        chromium.wait(f"document.getElementById('{element}').textContent.startsWith("
+                      f"{json.dumps(wanted)})")
+    assert chromium.failures() == []
+
+
 def script_of(text: str) -> str:
     """The script of a page."""
     return text.rsplit("\n<script>", 1)[1].split("</script>")[0]
@@ -527,8 +550,9 @@ def test_a_browser_without_wide_memories(whole: pathlib.Path, tmp_path: pathlib.
 
 
 LIGHT = """Array.from(document.querySelectorAll('body *')).filter(it =>
-    it.getClientRects().length && Array.from(it.childNodes).some(node =>
-        node.nodeType === 3 && node.textContent.trim())).map(it => {
+    it.getClientRects().length && ((it.placeholder && !it.value) ||
+        Array.from(it.childNodes).some(node => node.nodeType === 3 && node.textContent.trim()))
+    ).map(it => {
     const colours = text => {
         const made = document.createElement('canvas').getContext('2d');
         made.fillStyle = text; made.fillRect(0, 0, 1, 1);
@@ -537,7 +561,7 @@ LIGHT = """Array.from(document.querySelectorAll('body *')).filter(it =>
     let ground = it;
     while (ground && colours(getComputedStyle(ground).backgroundColor)[3] < 255)
         ground = ground.parentElement;
-    const style = getComputedStyle(it);
+    const style = getComputedStyle(it, it.placeholder && !it.value ? '::placeholder' : null);
     return [it.tagName + '.' + it.className + '#' + it.id + ' ' + it.textContent.slice(0, 30),
             colours(style.color), ground ? colours(getComputedStyle(ground).backgroundColor)
             : null, it.disabled === true];

@@ -1,6 +1,7 @@
 """The C library of tenants and its compiler driver: ordinary programs write and return as tenants
 what they write and return on this machine, by clang and gcc."""
 
+import errno
 import pathlib
 import re
 import shutil
@@ -9,7 +10,7 @@ from dataclasses import dataclass
 
 import pytest
 
-from tests.support import c_tenants
+from tests.support import c_tenants, drawn_maps
 from tests.support.cache import tenant_library
 from tests.support.c_tenants import Tenant
 from tests.support.drawn_options import DRIVER, Tables, results
@@ -165,6 +166,29 @@ def test_drawn_options_are_parsed_as_they_are_natively(
 
     wanted = results(lambda data: run([program], stdin=data), commands)
     assert results(as_tenant, commands) == wanted
+
+
+def test_drawn_maps_are_as_natively(
+    alone: pathlib.Path, library: pathlib.Path, tmp_path: pathlib.Path
+) -> None:
+    """Files that are written, cut, locked and mapped, shared and privately: results and bytes; but
+    a file that is mapped to be read grows no further than its map."""
+    need("clang", "ld.lld", "cc")
+    image = compiled(library, drawn_maps.DRIVER, "clang", "-O1", tmp_path / "image.elf")
+    program = native(drawn_maps.DRIVER, tmp_path / "native", *WARNINGS)
+    given = tmp_path / "input"
+    for seed in range(4):
+        given.write_bytes(drawn_maps.lines(seed, 1200))
+        folder = tmp_path / str(seed)
+        folder.mkdir()
+        wanted = run([program], stdin=given.read_bytes(), cwd=folder)
+        for words in ((), ("--check",)):
+            ran = run_as_tenant(alone, image, "--input", str(given), *words)
+            assert (ran.out, ran.status) == (wanted.out, 0), ran.errors
+    given.write_text("o 0 0 66 0 0 0\no 1 0 0 0 0 0\nm 0 1 1 1 4096 0\nw 0 4095 1 7 0 0\n"
+                     "w 0 4096 1 7 0 0\n")
+    ran = run_as_tenant(alone, image, "--input", str(given))
+    assert ran.output.splitlines() == ["o 0", "o 0", "m 0", "w 1", f"w {-errno.ENOSPC - 10}"]
 
 
 ARGUMENTS = """

@@ -2,11 +2,14 @@
 
 import json
 import pathlib
+import random
 import re
 import shutil
+import struct
 
 import pytest
 
+from tests.support.instructions import move, program, store_byte
 from tests.support.places import EXAMPLES
 from tests.support.running import run, succeed
 from tests.support.samples import COMPILERS, FLAGS, tenant
@@ -33,6 +36,52 @@ def test_the_newest_call_without_a_chunk(
     told = run([alone, tenant(tmp_path, source, compiler)]).errors
     assert "Cause: Null Pointer\n" in told
     assert "  the newest call without a chunk is call 2, calloc(1048576, 2097152) = 0x0" in told
+
+
+ASKED = """#include "tenant.h"
+int main(void)
+{
+    uint64_t call[3];
+    tenant_read(call, sizeof call);
+    char *found = call[0] == 0 ? tenant_malloc(call[1]) : call[0] == 1 ?
+        tenant_calloc(call[1], call[2]) : call[0] == 2 ?
+        tenant_realloc(tenant_malloc(24), call[1]) : tenant_memalign(call[2], call[1]);
+    (void)*(volatile char *)found;
+    return 0;
+}
+"""
+CHUNK, FEW = 1 << 20, 40
+
+
+def drawn_call(source: random.Random) -> tuple[int, int, int]:
+    """A call, malloc, calloc, realloc or memalign: its number, a size near a limit, and the number
+    of elements or the alignment."""
+    near = source.choice((4095, FEW * 4096, CHUNK - 1, CHUNK, (1 << 64) - 2))
+    call, size = source.randrange(4), near + source.randrange(2)
+    if call == 1:
+        parts = source.choice((1, 2, 3, 1 << 10))
+        return call, -(-size // parts), parts
+    return call, size, source.choice((1, 16, 4096, 24, 8192))
+
+
+def test_the_reason_of_a_refusal(alone: pathlib.Path, tmp_path: pathlib.Path) -> None:
+    """Calls up to each limit are refused for more bytes than a chunk has, for pages that are not
+    there, for an alignment, and for nothing else."""
+    image, given = compiled(tmp_path, "asked", ASKED), tmp_path / "call"
+    seen: set[tuple[int, bool, bool, bool]] = set()
+    for number in range(90):
+        source = random.Random(f"refused {number}")
+        pages, (call, size, other) = source.choice((FEW, 4096)), drawn_call(source)
+        asked = size * other if call == 1 else size
+        is_large, is_wrong = asked > CHUNK, call == 3 and other in (24, 8192)
+        given.write_bytes(struct.pack("<3Q", call, size, other))
+        told = run([alone, "--pages", str(pages), "--input", given, image]).errors
+        why = re.search(r"newest call without a chunk is .*: (a chunk has|too few)", told)
+        wanted = "a chunk has" if is_large else "too few"
+        is_refused = is_large or is_wrong or asked >= pages * 4096
+        assert (why and why[1]) == (wanted if is_refused else None), (call, size, other, pages)
+        seen.add((call, is_large, is_wrong, is_refused))
+    assert len(seen) == 14, seen
 
 
 def test_the_arrow_of_an_overflow(alone: pathlib.Path, tmp_path: pathlib.Path) -> None:
@@ -133,6 +182,19 @@ def test_a_large_array_on_the_stack(
     """A frame that is larger than the stack is a stack overflow, at any distance."""
     image = compiled(tmp_path, "large_array", LARGE_ARRAY.replace("BYTES", str(size)))
     assert "Cause: Stack Overflow, " in run([alone, image]).errors
+
+
+STACK, NEAR = 0x3FFFC000, 65_536
+
+
+def test_an_access_below_the_stack(alone: pathlib.Path, tmp_path: pathlib.Path) -> None:
+    """Up to 64 KiB below the stack it is a stack overflow, with the distance, further it is not."""
+    source, image = random.Random(1), tmp_path / "below.elf"
+    for distance in (1, NEAR, NEAR + 1, *(source.randrange(2, 2 * NEAR) for _ in range(20))):
+        image.write_bytes(program(move(1, STACK - distance), store_byte(2, 1)))
+        bytes_below = f"{distance} byte{'s' * (distance != 1)} below the stack"
+        wanted = f"Stack Overflow, {bytes_below}" if distance <= NEAR else "unknown"
+        assert f"Cause: {wanted}\n" in run([alone, image]).errors, distance
 
 
 OFF_BY_ONE = """#include "tenant.h"

@@ -65,7 +65,7 @@ UNDEFINED = {
 }
 UNDEFINED_IDIOMS = range(1, 17)
 OVER, UNDER = "Buffer Overflow, {} right of the {}", "Buffer Underflow, {} left of the {}"
-RETURNED = "Use After Return of the {1}"
+RETURNED, LEFT = "Use After Return of the {1}", "Use After Scope of the {1}"
 NO_CALL = "which no heap call returned: it is one to the {1}"
 # What is wrong, how far from the variable, its bytes and its name, by the numbers in the source.
 PLACES = {
@@ -91,13 +91,30 @@ PLAIN_PLACES = {
     7: (OVER, "0 bytes", "16-byte variable `more_of_image`"),
     19: (OVER, "0 bytes", "8-byte variable `number`"),
     21: (OVER, "0 bytes", "400-byte variable `large`"),
+    22: (LEFT, "", "16-byte variable `block`"), 23: (LEFT, "", "16-byte variable `turn`"),
 }
-PLACE_IDIOMS = range(1, 28)
+# The variables of blocks in C++, by the numbers in the source.
+SCOPES = {
+    1: "4-byte variable `captured`", 2: "4-byte variable `lambda`", 3: "8-byte variable `counter`",
+    4: "4-byte variable `element`",
+}
+PLACE_IDIOMS = range(1, 29)
 ARITHMETIC = {
     1: "0x64 of 32 bits, divided by 0", 2: "0x1 of 64 bits, divided by 0",
     3: "0x1 of 32 bits, shifted by 40", 4: "0x1 of 64 bits, shifted by 64",
     5: "0x28 of 32 bits, shifted by 4294967295",
 }
+
+
+def started(shared: pathlib.Path, build: str) -> pathlib.Path:
+    """The object of the file that tenants of a build begin in, which is compiled once."""
+    def compile_start(path: pathlib.Path) -> None:
+        for name in ("start.c", "tenant.h"):
+            shutil.copy(EXAMPLES / "c" / name, path.parent)
+        options = [*BUILDS[build], *FLAGS, "-fno-builtin", "-c"]
+        succeed([*options, "-o", path.name, "./start.c"], cwd=path.parent)
+
+    return make_once(shared / f"{build}-start" / "start.o", compile_start)
 
 
 def image(shared: pathlib.Path, build: str, source: str, *defined: str) -> pathlib.Path:
@@ -106,12 +123,14 @@ def image(shared: pathlib.Path, build: str, source: str, *defined: str) -> pathl
     need(words[0])
 
     def compile_image(path: pathlib.Path) -> None:
-        for file in (SOURCES / source, EXAMPLES / "c" / "start.c", EXAMPLES / "c" / "tenant.h"):
+        for file in (SOURCES / source, EXAMPLES / "c" / "tenant.h",
+                     EXAMPLES / "libc" / "include" / "tenant_check.h"):
             shutil.copy(file, path.parent)
         cpp = ["-fno-exceptions", "-fno-rtti", "-fsized-deallocation"]
         cpp = cpp if source.endswith(".cc") else []
         options = [*FLAGS, "-fno-builtin", *cpp, *(f"-D{it}" for it in defined)]
-        succeed([*words, *options, "-o", path.name, "./start.c", f"./{source}"], cwd=path.parent)
+        start = started(shared, build)
+        succeed([*words, *options, "-o", path.name, start, f"./{source}"], cwd=path.parent)
 
     name = "-".join([build, source.removesuffix(".c"), *defined])
     return make_once(shared / name / "tenant.elf", compile_image)
@@ -327,6 +346,16 @@ def test_variables(alone: pathlib.Path, tmp_path: pathlib.Path, build: str) -> N
         is_of_image = bug in (7, 8, 9, 10, 16, 18, 20)
         assert is_of_image or "  a variable of " in told.errors, (bug, told.errors)
         assert is_of_image or "declared at place_bugs.c:" in told.errors, (bug, told.errors)
+
+
+@pytest.mark.parametrize("build", sorted(build for build in BUILDS if build.endswith("-O0")))
+def test_uses_after_scope(alone: pathlib.Path, tmp_path: pathlib.Path, build: str) -> None:
+    """Of captured variables, of objects with destructors and of elements, in C++."""
+    for bug, variable in SCOPES.items():
+        told = check(alone, image(tmp_path, build, "scope_bugs.cc", f"BUG={bug}"), kinds="places")
+        wanted = f"Cause: [check]: {LEFT.format('', f'{variable} at ')}"
+        assert told.status == 137 and wanted in told.errors, (bug, told.errors)
+        assert "declared at scope_bugs.cc:" in told.errors, (bug, told.errors)
 
 
 @pytest.mark.parametrize("build", sorted(BUILDS))

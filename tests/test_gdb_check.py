@@ -15,6 +15,7 @@ from tests.test_user_frames import BUGS_OF
 KINDS = "--check=all,places,arithmetic"
 # What GDB calls the signal of an access, and of what is none.
 ACCESS, OTHER = "SIGSEGV", "SIGABRT"
+NEGATIVE_SIZES = range(1, 8)
 
 
 def found(alone: pathlib.Path, path: pathlib.Path, *words: str) -> tuple[Ran, Any]:
@@ -44,13 +45,16 @@ def report_of(text: str) -> list[str]:
 def test_a_stop_is_at_what_is_found(
     alone: pathlib.Path, tmp_path: pathlib.Path, build: str
 ) -> None:
-    """Of drawn bugs: the report, the number of steps, the signal, and the instruction in front of
-    PC; it stays there, and comes back after it was moved back. Where the instruction also ends the
-    tenant, it did nothing, and PC is still there."""
-    bugs = [(source, bug) for source, numbers in BUGS_OF.items() for bug in numbers]
+    """Of a drawn bug of each source: the report, the number of steps, the signal, and the
+    instruction in front of PC; it stays there, and comes back after it was moved back. Where the
+    instruction also ends the tenant, it did nothing, and PC is still there. Every other run has a
+    slice behind it."""
+    drawn = random.Random(f"gdb {build}")
+    sources = {**BUGS_OF, "argument_bugs.c": list(NEGATIVE_SIZES)}
+    bugs = [(name, drawn.choice(numbers)) for name, numbers in sources.items()]
     given = tmp_path / "input"
     given.write_bytes(b"y" * 100)
-    for source, bug in random.Random(f"gdb {build}").sample(bugs, 6):
+    for number, (source, bug) in enumerate(bugs):
         path = image(tmp_path, build, source, f"BUG={bug}")
         ran, told = found(alone, path, KINDS, "--input", str(given))
         _, plain = found(alone, path, "--input", str(given))
@@ -59,7 +63,8 @@ def test_a_stop_is_at_what_is_found(
         commands = ["continue", "monitor why", "print $step", "print $pc", "continue",
                     "reverse-stepi", "print $pc", "stepi", "print $step", "monitor goto 0",
                     "maintenance flush register-cache", "continue", "print $step"]
-        dialog = in_gdb(alone, path, tmp_path, commands, "--input", str(given))
+        slices = ["--slices", ",".join([str(told["steps"] // 3 + 1)] * 4)] if number % 2 else []
+        dialog = in_gdb(alone, path, tmp_path, commands, "--input", str(given), *slices)
         report = report_of(ran.errors)
         assert report_of(dialog[1]) == report, (source, bug)
         assert "\n".join(report) in dialog[0], dialog[0]
@@ -72,7 +77,7 @@ def test_a_stop_is_at_what_is_found(
         assert value_in(dialog[3 if is_end else 6]) == at, (source, bug)
         assert signal in dialog[7] or is_end, (source, bug, dialog[7])
         assert signal in dialog[11], (source, bug, dialog[11])
-        steps = {value_in(dialog[number]) for number in (2, 8, 12)}
+        steps = {value_in(dialog[it]) for it in (2, 8, 12)}
         assert steps == {told["steps"] - is_end}, (source, bug, steps)
 
 

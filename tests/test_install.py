@@ -33,6 +33,7 @@ FILES = {
     "bin/mte_host": EXECUTABLE, "bin/mte_split": EXECUTABLE, "bin/mte_run": EXECUTABLE,
     "include/tombolopan.h": READABLE, "include/tombolopan_explain.h": READABLE,
     "include/tenant.h": READABLE,
+    "include/tenant_check.h": READABLE,
     "lib/libtombolopan.a": READABLE, "lib/libtombolopan.so.2": EXECUTABLE,
     "lib/pkgconfig/tombolopan.pc": READABLE,
     **{f"share/man/man1/{name}.1": READABLE for name in COMPLETED},

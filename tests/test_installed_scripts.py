@@ -10,6 +10,8 @@ import pytest
 from tests.support import installed
 from tests.support.checkout import tracked_files
 from tests.support.fuzzers import PLANTED
+from tests.support.host_sessions import HI_REPORT
+from tests.support.pages import all_parts, is_for_users, read_page
 from tests.support.places import ROOT
 from tests.support.running import Ran, Word, run
 from tests.support.tools import need
@@ -32,6 +34,9 @@ SCRIPTS = sorted(name for name in tracked_files() if is_script(ROOT / name) and 
 CALLED = {"tools/batch/__main__.py": "batch", "examples/many/run.sh": "batch"}
 # Programs that pass on what they do not know; each has a word that is wrong for itself.
 WRONG = {"tenant-cc": "--stack=none", "tenant-c++": "--stack=none"}
+
+# What commands of pages name and is not installed: it builds and measures a checkout.
+CHECKOUT = {"tests/quick.sh", "tests/run.sh", "tools/build.sh", "tools/speed/measure.py"}
 
 
 @pytest.fixture
@@ -71,6 +76,25 @@ def test_wrong_option(moved: pathlib.Path, tmp_path: pathlib.Path, name: str) ->
     ran = bare(moved, [moved / SHARE / name, word], tmp_path)
     assert (ran.status, ran.out) == (2, b"") and "--help" in ran.errors, ran.errors
     assert not any(tmp_path.iterdir())
+
+
+def test_commands_of_pages(moved: pathlib.Path, tmp_path: pathlib.Path) -> None:
+    """In the folder that README.md says how to make, each file of the repository that a command of
+    a page for users names is there, or is for a checkout; and scripts find what is installed."""
+    made = re.search(r"`(cp -rs PREFIX[^`]*)`", read_page("README.md"))
+    assert made
+    command = made[1].replace("PREFIX", f"'{moved}'")
+    assert bare(moved, ["bash", "-c", command], tmp_path) == Ran(0, b"", b"")
+    host = bare(moved, ["examples/hi.sh"], tmp_path)
+    library = bare(moved, ["examples/embed/library.sh"], tmp_path)
+    assert (host.status, host.output) == (0, HI_REPORT)
+    assert library == Ran(0, f"{moved}/lib/libtombolopan.a\n".encode(), b"")
+    words: list[Word] = ["examples/embed/shared.sh", "examples/embed/libtombolopan.so"]
+    assert bare(moved, words, tmp_path) == Ran(0, b"", b"")
+    parts = [it for it in all_parts() if it.has_commands and is_for_users(it.page)]
+    text = "\n".join(command for part in parts for command in part.commands())
+    named = set(re.findall(r"(?<![\w/.])(?:examples|tools|crates|tests)/[\w./+-]+", text))
+    assert {it for it in named if not (tmp_path / it).exists()} == CHECKOUT
 
 
 def test_programs_for_tenants(moved: pathlib.Path, tmp_path: pathlib.Path) -> None:

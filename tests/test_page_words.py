@@ -12,7 +12,7 @@ from a64 import table
 
 from tests.support.checkout import tracked_files
 from tests.support.page_words import counted, sentences, without_written
-from tests.support.pages import pages, read_page
+from tests.support.pages import is_for_users, pages, read_page
 from tests.support.places import ROOT
 
 # The most words of a sentence on a page for users, and on any page; of all pages for users, and
@@ -21,11 +21,6 @@ USERS_SENTENCE, SENTENCE = 40, 60
 USERS_WORDS, BYTES = 40_000, 400_000
 # A page whose long sentences are lists of names, which a tool writes.
 LISTS = "docs/project/INSTRUCTIONS.md"
-
-
-def is_for_users(page: str) -> bool:
-    """Whether a page is on the shelf of users and auditors."""
-    return page == "README.md" or re.fullmatch(r"docs/\w+\.md", page) is not None
 
 
 def source(path: str) -> str:

@@ -1,19 +1,21 @@
 """The wrong bodies and definitions that are planted by hand, and what builds and tries them."""
 
 import pathlib
+import re
 import sys
+import tomllib
 
 import pytest
 import wrong_definitions
-from plants import Plant, read_plants
+from plants import STORED, Plant, read_plants
 
-from tests.support.host_sessions import HI_REPORT
-from tests.support.places import EXAMPLES, ROOT
-from tests.support.running import Word, succeed
+from tests.support.places import ROOT
+from tests.support.running import Word, run, succeed
 from tests.support.tools import need
 
 FILES = sorted((ROOT / "tools" / "wrong_bodies").glob("*.toml"))
 PLANTS = read_plants(FILES, "")
+NOTICED = tomllib.loads(STORED.read_text(encoding="utf-8"))
 
 
 @pytest.mark.parametrize("plant", PLANTS, ids=[plant.name for plant in PLANTS])
@@ -29,6 +31,31 @@ def test_names_are_distinct() -> None:
     assert len(set(names)) == len(names) >= 89
 
 
+def test_what_is_stored_of_them() -> None:
+    """No more is noticed than there is, all bodies of files count, and each that is let through is
+    there, with what is known of it."""
+    functions = re.compile(r"\bfn (\w+)")
+    for name, shares in NOTICED.items():
+        assert 0 < shares["noticed"] <= shares["count"], name
+        left = shares.get("let_through", {})
+        assert name == "sample" or len(left) == shares["count"] - shares["noticed"], name
+        for title, reason in left.items():
+            crate, _, function = re.sub(", .*", "", title).partition("::")
+            texts = [path.read_text() for path in (ROOT / "crates" / crate / "src").rglob("*.rt")]
+            known = functions.findall("".join(texts)) if function else [it.name for it in PLANTS]
+            assert title.split(",")[0].split("::")[-1] in known and reason, title
+    assert NOTICED["files"]["count"] == len(PLANTS)
+
+
+def test_a_sample_is_noticed(alone: pathlib.Path) -> None:
+    """Of bodies that are drawn in mte_run as many are noticed as once were."""
+    need("objdump", "clang", "ld.lld", "gdb", "c++filt", "prlimit")
+    words: list[Word] = [sys.executable, ROOT / "tools" / "plants.py", "--sample",
+                         "--built", alone.parent]
+    ran = run(words, seconds=3600)
+    assert ran.status == 0, ran.output + ran.errors
+
+
 def test_one_is_noticed(tmp_path: pathlib.Path) -> None:
     """Exchanged arguments of a call of the library are planted in a copy, and noticed."""
     need("rt", "clang", "git")
@@ -37,14 +64,29 @@ def test_one_is_noticed(tmp_path: pathlib.Path) -> None:
     assert succeed(words).output.endswith("1 of 1 noticed\n")
 
 
-def test_a_build_without_proof(host: pathlib.Path, tmp_path: pathlib.Path) -> None:
-    """It writes what the proved program writes."""
+HELLO = """#![tactic(auto)]
+
+use std::process::ExitCode;
+
+fn main(rt: HostRuntime) -> ExitCode {
+    match rt.stdout().write_all(b"hello\\n") {
+        Ok(_) => ExitCode::from(7),
+        Err(_) => ExitCode::from(1),
+    }
+}
+"""
+
+
+def test_a_build_without_proof(tmp_path: pathlib.Path) -> None:
+    """A crate of one function is built, and does what its source says."""
     need("rt")
-    made = tmp_path / "mte_host"
-    words: list[Word] = [sys.executable, ROOT / "tools" / "unproved.py", ROOT, made, "mte_host"]
-    succeed(words, seconds=900)
-    session: list[Word] = ["--frames", "11", EXAMPLES / "hi.script", EXAMPLES / "hi.elf"]
-    assert [succeed([it, *session]).output for it in (made, host)] == [HI_REPORT, HI_REPORT]
+    source, made = tmp_path / "crates" / "hello" / "src" / "main.rt", tmp_path / "hello"
+    source.parent.mkdir(parents=True)
+    source.write_text(HELLO, encoding="utf-8")
+    (tmp_path / "crates.txt").write_text("hello:\n", encoding="utf-8")
+    succeed([sys.executable, ROOT / "tools" / "unproved.py", tmp_path, made, "hello"])
+    ran = run([made])
+    assert (ran.status, ran.output, ran.errors) == (7, "hello\n", "")
 
 
 WRONG = wrong_definitions.read_data()

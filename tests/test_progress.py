@@ -232,21 +232,21 @@ def plain_names(text: str) -> str:
 def test_a_signal_gives_a_tenant_up(
     alone: pathlib.Path, spin: pathlib.Path, tmp_path: pathlib.Path, number: signal.Signals
 ) -> None:
-    """Report, page and log are those of a run of as many steps, but for the words for its end; and
+    """Report and documents are those of a run of as many steps, but for the words for its end; and
     no folder is left."""
-    page, log = tmp_path / "page.html", tmp_path / "log.sarif"
-    words = [f"--option=--html={page}", f"--option=--sarif={log}", "--option=--leaks"]
+    files = {it: tmp_path / f"told.{it}" for it in DOCUMENTS}
+    words = [*(f"--option=--{it}={file}" for it, file in files.items()), "--option=--leaks"]
     child = started(alone, tmp_path, "--steps", str(FOREVER), *words, spin)
     out, err = ended_by(child, number, 2)
     first, _, report = err.decode().partition("\n")
     said = re.fullmatch(rf"tenant-run: stopped by {number.name} after (\d+) steps", first)
     assert said and (child.returncode, out) == (128 + number, b"begun\n")
-    steps, told = int(said[1]), [it.read_text(encoding="utf-8") for it in (page, log)]
+    steps, told = int(said[1]), [it.read_text(encoding="utf-8") for it in files.values()]
     again = started(alone, tmp_path, "--steps", str(steps), *words, spin)
     other_out, other_err = again.communicate(timeout=HANG)
     assert (again.returncode, other_out) == (152, out)
     assert as_of_limit(report, steps) == other_err.decode()
-    for file, text in zip((page, log), told):
+    for file, text in zip(files.values(), told):
         wanted = plain_names(file.read_text(encoding="utf-8"))
         assert plain_names(as_of_limit(text, steps)) == wanted
     assert not any((tmp_path / "own").iterdir())

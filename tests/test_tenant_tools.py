@@ -572,6 +572,18 @@ def test_commands_that_are_refused(
     assert (ran.status, ran.errors) == (status, f"tenant-run: {said}\n")
 
 
+@pytest.mark.parametrize("kind", ["json", "sarif", "html", "map", "core"])
+def test_files_of_mte_run(
+    alone: pathlib.Path, ends: pathlib.Path, tmp_path: pathlib.Path, kind: str
+) -> None:
+    """Each is written, and where it cannot be, a line says so and no exit status hides it."""
+    words = [str(ends), "exit", "6"]
+    ran = tenant_run(alone, f"--option=--{kind}", f"--option={tmp_path}/told", *words)
+    assert (ran.status, ran.errors) == (6, "") and (tmp_path / "told").stat().st_size > 100
+    ran = tenant_run(alone, f"--option=--{kind}={tmp_path}/none/told", *words[:2], "5")
+    assert ran.status == 126 and re.fullmatch(r"(tenant|mte)[-_]run: .*told.*\n", ran.errors)
+
+
 def with_options(alone: pathlib.Path, options: str, *words: str) -> Ran:
     """Runs tenant-run where the variable TENANT_OPTIONS has options."""
     extra = {"TENANT_OPTIONS": options, "TENANT_ALONE": str(alone)}

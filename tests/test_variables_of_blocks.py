@@ -46,10 +46,10 @@ def image(folder: pathlib.Path, compiler: str, level: str, *words: str) -> pathl
 
 
 def drawn_image(
-    folder: pathlib.Path, compiler: str, level: str, seed: int, *words: str
+    folder: pathlib.Path, compiler: str, level: str, drawn: blocks.Program, *words: str
 ) -> pathlib.Path:
     """A drawn program as a tenant."""
-    (folder / "drawn.c").write_text(blocks.text_of(blocks.drawn(seed)), encoding="utf-8")
+    (folder / "drawn.c").write_text(blocks.text_of(drawn), encoding="utf-8")
     (folder / "given.c").write_text(blocks.GIVEN, encoding="utf-8")
     return image(folder, compiler, level, *words, "./given.c")
 
@@ -68,7 +68,8 @@ def test_nothing_is_told_of_correct_programs(
 ) -> None:
     """Of arrays that share places with one another and with what has no name."""
     for seed in SEEDS:
-        told = check(alone, drawn_image(tmp_path, compiler, level, seed), blocks.NONE)
+        path = drawn_image(tmp_path, compiler, level, blocks.drawn(seed))
+        told = check(alone, path, blocks.NONE)
         assert told.status == 0 and "Cause" not in told.errors, (seed, told.errors)
 
 
@@ -77,15 +78,35 @@ def test_a_write_past_an_array_is_told(
     alone: pathlib.Path, tmp_path: pathlib.Path, compiler: str
 ) -> None:
     """With the array's bytes and its name, by functions without inlined calls, but where a pointer
-    may count the next array's elements from 1."""
+    may count the next array's elements from 1, or where gcc may have put what has no name."""
     for seed in SEEDS:
-        path = drawn_image(tmp_path, compiler, "-O0", seed, "-DALWAYS=NEVER")
+        drawn = blocks.drawn(seed)
+        path = drawn_image(tmp_path, compiler, "-O0", drawn, "-DALWAYS=NEVER")
         assert "Cause" not in check(alone, path, blocks.NONE).errors, seed
-        for number, size in enumerate(blocks.drawn(seed).sizes):
+        for number, size in enumerate(drawn.sizes):
             told = check(alone, path, number)
             wanted = f": Buffer Overflow, 0 bytes right of the {size}-byte variable `a{number}` at "
             is_told = wanted in told.errors and told.status == 137
-            assert is_told or size <= ELEMENT, (seed, number, told.errors)
+            is_shared = compiler == "gcc" and number in drawn.shared and told.status == 0
+            assert is_told or size <= ELEMENT or is_shared, (seed, number, told.errors)
+
+
+@pytest.mark.parametrize("compiler", sorted(COMPILERS))
+def test_a_use_after_a_block_is_told(
+    alone: pathlib.Path, tmp_path: pathlib.Path, compiler: str
+) -> None:
+    """Of each pointer that is kept past the block of its array, and of no other."""
+    for seed in SEEDS[sorted(COMPILERS).index(compiler)::len(COMPILERS)]:
+        drawn = blocks.drawn(seed, 0.7)
+        blocks.keep_pointers(drawn)
+        path = drawn_image(tmp_path, compiler, "-O0", drawn, "-DALWAYS=NEVER")
+        for number, kept in enumerate(drawn.kept, blocks.KEPT):
+            told = check(alone, path, number)
+            wanted = (f": Use After Scope of the {drawn.sizes[kept.array]}-byte variable "
+                      f"`a{kept.array}` at ")
+            is_told = wanted in told.errors and told.status == 137
+            is_silent = "Cause" not in told.errors and told.status == 0
+            assert is_told if kept.is_wrong else is_silent, (seed, number, kept, told.errors)
 
 
 @pytest.mark.parametrize("level", LEVELS)

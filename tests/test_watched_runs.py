@@ -29,7 +29,7 @@ from tests.support.samples import FLAGS
 from tests.support.tools import need
 from tests.test_arguments import BUGS as ARGUMENTS
 from tests.test_checks import (
-    ARITHMETIC, BUGS, BUILDS, IDIOMS, PLACE_IDIOMS, PLACES, PLAIN_PLACES, UNDEFINED,
+    ARITHMETIC, BUGS, BUILDS, IDIOMS, PLACE_IDIOMS, PLACES, PLAIN_PLACES, SCOPES, UNDEFINED,
     UNDEFINED_IDIOMS, image,
 )
 
@@ -150,7 +150,8 @@ def cases_of_places() -> list[tuple[str, list[str]]]:
     idioms = [("place_idioms.c", [f"IDIOM={idiom}"]) for idiom in PLACE_IDIOMS]
     jumps = [("place_idioms.c", ["IDIOM=27", f"PAST={past}"]) for past in (1, 40)]
     objects: list[tuple[str, list[str]]] = [("place_idioms.cc", [])] * len(BUILDS)
-    return [*bugs, *idioms, *jumps, *objects]
+    scopes = [("scope_bugs.cc", [f"BUG={bug}"]) for bug in sorted(SCOPES)]
+    return [*bugs, *idioms, *jumps, *objects, *scopes]
 
 
 @pytest.mark.parametrize("build", sorted(BUILDS))

@@ -14,9 +14,7 @@ import sys
 
 ROOT = pathlib.Path(__file__).resolve().parent.parent
 # Edges that no file names, by why they are there.
-KNOWN: dict[tuple[str, str], str] = {
-    ("run_request", "mte_flat"): "its contracts name the memory of a tenant that is alone",
-}
+KNOWN: dict[tuple[str, str], str] = {}
 
 
 def read_crates(text: str) -> dict[str, list[str]]:

@@ -6,7 +6,7 @@
 #     PREFIX/bin                  mte_host, mte_split, mte_run, mte_why (why.sh), tenant-cc
 #                                 and what else is named tenant-.. in examples/libc
 #     PREFIX/lib                  libtombolopan.a, libtombolopan.so.2 (libtombolopan.so leads to it)
-#     PREFIX/include              tombolopan.h, tombolopan_explain.h, tenant.h
+#     PREFIX/include              tombolopan.h, tombolopan_explain.h, tenant.h, tenant_check.h
 #     PREFIX/lib/pkgconfig        tombolopan.pc
 #     PREFIX/share/man            pages of the programs (1) and of the library and its calls (3)
 #     PREFIX/share/bash-completion, share/zsh, share/fish: completions
@@ -125,7 +125,8 @@ Libs: -L\${libdir} -ltombolopan
 PC
     put lib "$work/libtombolopan.a" "$work/libtombolopan.so.2"
     ln -s libtombolopan.so.2 "$stage/lib/libtombolopan.so"
-    put include "$top"/include/tombolopan{,_explain}.h "$top/examples/c/tenant.h"
+    put include "$top"/include/tombolopan{,_explain}.h "$top/examples/c/tenant.h" \
+        "$top/examples/libc/include/tenant_check.h"
     put lib/pkgconfig "$work/tombolopan.pc"
     put share/tombolopan "$top/examples/embed/tombolopan.rs" "$top/examples/c/start.c"
     put share/tombolopan/tombolopan "$top"/examples/embed/tombolopan/*.py \

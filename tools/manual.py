@@ -66,7 +66,7 @@ MANUALS = {
         also="mte_host(1), mte_run(1)"),
     "mte_run": Manual(
         page="MTE_RUN.md",
-        parts={"": "DESCRIPTION", "Seeds": "SEEDS", "Exact": "EXACT", "Statistics": "STATISTICS",
+        parts={"": "DESCRIPTION", "Seeds": "SEEDS", "Check": "CHECK", "Statistics": "STATISTICS",
                "JSON": "JSON", "SARIF": "SARIF",
                "Faulty lines of a script": "FAULTY LINES OF A SCRIPT"},
         statuses="Exit statuses",

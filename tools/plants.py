@@ -1,26 +1,28 @@
 #!/usr/bin/env python3
-"""Plants wrong bodies, one at a time, and says what of the test command notices each.
+"""Plants wrong bodies, and says what of the test command notices each.
 
-    plants.py [--built FOLDER] [--jobs N] [--proofs] [--only WORD] [FILE.toml..]
-    plants.py --drawn N [--seed N] [--whole] [--built FOLDER] [--jobs N]
+    plants.py [--built FOLDER] [--jobs N] [--whole] [--only WORD] [FILE.toml..]
+    plants.py --drawn N [--seed N] [--built FOLDER] [--jobs N] [--whole]
+    plants.py --share | --sample
 
 A file (tools/wrong_bodies/*.toml) has a table for each body: the crate, the file, the text that is
-there once (`old`), the text in its place (`new`), and what a user then sees (`shows`). For each one
-this copies the checkout, changes the file and tries what the test command has:
+there once (`old`), the text in its place (`new`), and what a user then sees (`shows`). One build
+without proof (unproved.py) of each program has all its bodies, each behind a byte (switches.py).
+The cases of the suite that look at the program are tried on each, the quickest first
+(tests/support/quick_cases.py), and with --whole all cases on those that pass. A body of the library
+is planted in a copy of the checkout, and the border to C is checked.
 
-    the border to C and its laws, where the crate is the library
-    the cases of the suite, over a build of the program without proof (unproved.py)
-    with --proofs the proof of the crate, by `rt ci CRATE`, where nothing else noticed it and the
-    toolchain's `rt ci` takes names
+With --drawn N bodies are drawn by rule instead, in the machine code of mte_run of all its crates
+without exact contracts. FOLDER has the right programs (mte_host, mte_split, mte_run,
+libtombolopan_c.a); they are those of crates/*/out where none is named. Exit status 1 where a body
+is not noticed.
 
-With --drawn N bodies are drawn by rule instead (switches.py) from all crates of mte_run without
-exact contracts, and one build without proof has them all, each behind a byte. The cases that look
-at mte_run are tried on each, and with --whole all the others on those that they pass. FOLDER has
-the right programs (mte_host, mte_split, mte_run, libtombolopan_c.a); they are those of
-crates/*/out where none is named. Exit status 1 where one is not noticed.
+--share tries those of files and drawn ones, as many as tools/noticed.toml has, and --sample fewer,
+by the quickest cases alone: status 1 where a smaller share is noticed than that file says.
 """
 import argparse
 import concurrent.futures
+import functools
 import os
 import pathlib
 import re
@@ -29,14 +31,21 @@ import subprocess
 import sys
 import tempfile
 import tomllib
+from collections.abc import Mapping, Sequence
 from dataclasses import dataclass
-from typing import Optional
+from typing import Any, Optional
 
 import switches
 import unproved
+from switches import Body
 
 ROOT = pathlib.Path(__file__).resolve().parent.parent
+STORED = ROOT / "tools" / "noticed.toml"
 PYTHON = "/usr/bin/python3"
+# Of a processor, for a run of cases and for each of their programs.
+SECONDS, QUICK_SECONDS = 600, 10
+# What notices a wrong body, by its name.
+Answers = dict[str, Optional[str]]
 # The cases that look at each program, the quickest first.
 SUITES = {
     "mte_run": [
@@ -71,6 +80,15 @@ class Plant:
         if self.crate == "tombolopan_c":
             return None
         return SHOWN_BY.get(self.crate, "mte_run")
+
+    @functools.cached_property
+    def functions(self) -> "re.Pattern[str]":
+        """The functions that it changes, by their names in a module: one, and those within it, or
+        any where it changes a constant."""
+        text = (ROOT / self.file).read_text(encoding="utf-8")
+        at = text.index(self.old) + len(os.path.commonprefix([self.old, self.new]))
+        named = re.findall(r"\bfn (\w+)|^[}\]]", text[:at], re.M)[-1:] or [""]
+        return re.compile(rf'@"{self.crate}::(.*::)?{named[0]}\b' if named[0] else "")
 
     def apply(self, checkout: pathlib.Path) -> None:
         """Changes the file of a checkout."""
@@ -129,8 +147,8 @@ def by_cases(checkout: pathlib.Path, programs: pathlib.Path, cases: list[str]) -
     """The first of some cases that is red over a folder of programs."""
     with tempfile.TemporaryDirectory(prefix="cases-") as base:
         ran = subprocess.run(
-            [PYTHON, "-m", "pytest", "-x", "-p", "no:cacheprovider", f"--basetemp={base}/cases",
-             *cases],
+            ["prlimit", f"--cpu={SECONDS}", PYTHON, "-m", "pytest", "-x", "-p", "no:cacheprovider",
+             f"--basetemp={base}/cases", *cases],
             cwd=checkout, stdout=subprocess.PIPE, stderr=subprocess.STDOUT, text=True, check=False,
             env={**os.environ, "TOMBOLOPAN_BUILT": str(programs)},
         )
@@ -145,102 +163,137 @@ def link_programs(programs: pathlib.Path, given: argparse.Namespace, but: str) -
             (programs / path.name).symlink_to(path)
 
 
-def by_suite(checkout: pathlib.Path, plant: Plant, given: argparse.Namespace) -> Optional[str]:
-    """The first case of the suite that is red, over a build without proof."""
-    name = plant.program
-    assert name is not None
-    programs = checkout / "built"
-    link_programs(programs, given, name)
-    made = subprocess.run(
-        [sys.executable, ROOT / "tools/unproved.py", checkout, programs / name, name],
-        stdout=subprocess.PIPE, stderr=subprocess.STDOUT, text=True, check=False,
-    )
-    if made.returncode != 0:
-        sys.exit(f"plants.py: {plant.name} does not compile: {first_line(made.stdout, 'error')}")
-    return by_cases(checkout, programs, SUITES[name])
-
-
-def by_proof(checkout: pathlib.Path, plant: Plant) -> Optional[str]:
-    """The goal that stays open, where the proof of the crate is refused."""
-    ran = subprocess.run(
-        ["rt", "ci", plant.crate], cwd=checkout, stdout=subprocess.PIPE, stderr=subprocess.STDOUT,
-        text=True, check=False,
-    )
-    if ran.returncode == 0:
-        return None
-    if f"{plant.crate} NOT PROVED" not in ran.stdout:
-        said = first_line(ran.stdout, ".")
-        sys.exit(f"plants.py: `rt ci {plant.crate}` gives no verdict: {said}")
-    return f"proof: {first_line(ran.stdout, 'did not prove|error')}"
-
-
-def try_plant(plant: Plant, given: argparse.Namespace) -> tuple[Plant, Optional[str]]:
-    """What notices a plant."""
+def try_library(plant: Plant) -> Optional[str]:
+    """What notices a body of the library."""
     with tempfile.TemporaryDirectory(prefix="plant-") as folder:
         checkout = pathlib.Path(folder)
         copy_checkout(checkout)
         plant.apply(checkout)
-        if plant.program is None:
-            found = by_border(checkout)
+        return by_border(checkout)
+
+
+def module_parts(checkout: pathlib.Path, work: pathlib.Path, name: str) -> dict[str, str]:
+    """The parts of the module of a program of a checkout."""
+    work.mkdir()
+    text = unproved.make_module(checkout, name, work).read_text(encoding="utf-8")
+    shutil.rmtree(work)
+    return switches.parts_of(text)
+
+
+def groups_of(plants: Sequence[Plant]) -> list[list[Plant]]:
+    """The plants in groups, in which no two change one function; one of a constant is alone."""
+    groups: list[list[Plant]] = []
+    for plant in plants:
+        fitting = [group for group in groups if all(
+            "" != it.functions.pattern != plant.functions.pattern != "" for it in group)]
+        if fitting:
+            fitting[0].append(plant)
         else:
-            found = by_suite(checkout, plant, given)
-        if found is None and given.proofs:
-            found = by_proof(checkout, plant)
-        return plant, found
+            groups.append([plant])
+    return groups
 
 
-def build_switched(work: pathlib.Path, count: int, seed: int) -> tuple[bytes, list[switches.Place]]:
-    """mte_run with wrong bodies that are drawn, none of which is switched on."""
-    module = unproved.make_module(ROOT, "mte_run", work)
-    text, crates = module.read_text(encoding="utf-8"), switches.crates_that_explain(ROOT)
-    places = switches.draw(text, crates, count, seed)
-    module.write_text(switches.with_switches(text, crates, places), encoding="utf-8")
-    unproved.compile_module(module, work / "mte_run")
-    return (work / "mte_run").read_bytes(), places
+def with_plants(work: pathlib.Path, name: str, plants: Sequence[Plant]) -> list[Body]:
+    """Builds a program with bodies of files behind switches."""
+    right = module_parts(ROOT, work / "right", name)
+    bodies: dict[str, tuple[dict[str, str], list[str]]] = {}
+    for number, group in enumerate(groups_of(plants)):
+        checkout = work / f"group-{number}"
+        copy_checkout(checkout)
+        for plant in group:
+            plant.apply(checkout)
+        wrong = module_parts(checkout, work / "wrong", name)
+        changed = switches.changed(right, wrong)
+        for plant in group:
+            bodies[plant.name] = (wrong, list(filter(plant.functions.match, changed)))
+        left = set(changed).difference(*(names for _, names in bodies.values()))
+        if left or not all(names for _, names in bodies.values()):
+            sys.exit(f"plants.py: {[it.name for it in group]}: of no body: {left}")
+    module = work / f"{name}.ll"
+    module.write_text(switches.with_bodies(right, list(bodies.values())), encoding="utf-8")
+    unproved.compile_module(module, work / name)
+    return switches.switches_of((work / name).read_bytes(), list(bodies))
 
 
-def by_switch(work: pathlib.Path, program: bytes, number: Optional[int],
-              given: argparse.Namespace) -> Optional[str]:
-    """The first case that is red with a wrong body switched on, or with none."""
-    programs = work / f"built-{number}"
-    link_programs(programs, given, "mte_run")
-    body = program if number is None else switches.switched(program, number)
-    (programs / "mte_run").write_bytes(body)
-    (programs / "mte_run").chmod(0o755)
-    found = by_cases(ROOT, programs, SUITES["mte_run"])
-    if found is None and given.whole:
-        found = by_cases(ROOT, programs, ["-n", str(os.cpu_count()), "tests"])
-    shutil.rmtree(programs)
+def by_quick_cases(program: pathlib.Path, images: pathlib.Path) -> Optional[str]:
+    """The first of the quickest cases that is red over a program."""
+    words = ["prlimit", f"--cpu={QUICK_SECONDS}", PYTHON, "-m", "tests.support.quick_cases"]
+    ran = subprocess.run(
+        [*words, program, images], cwd=ROOT, stdout=subprocess.DEVNULL, stderr=subprocess.PIPE,
+        text=True, check=False, env={**os.environ, "PYTHONPATH": "tools"},
+    )
+    return None if ran.returncode == 0 else f"quick cases: {first_line(ran.stderr, '.')}"
+
+
+def by_body(path: pathlib.Path, body: Optional[Body], images: pathlib.Path,
+            given: argparse.Namespace) -> Optional[str]:
+    """The first case that is red over a program with a wrong body, or without one."""
+    with tempfile.TemporaryDirectory(prefix="body-") as folder:
+        programs, right = pathlib.Path(folder) / "built", path.read_bytes()
+        link_programs(programs, given, path.name)
+        program = programs / path.name
+        program.write_bytes(body.put(right) if body else right)
+        program.chmod(0o755)
+        found = by_quick_cases(program, images) if path.name == "mte_run" else None
+        if found is None and not given.sample:
+            found = by_cases(ROOT, programs, SUITES[path.name])
+        if found is None and given.whole:
+            found = by_cases(ROOT, programs, ["-n", str(given.jobs), "tests"])
+        return found
+
+
+def try_bodies(path: pathlib.Path, bodies: list[Body], given: argparse.Namespace) -> Answers:
+    """What notices each body of a program, without which all is green."""
+    with tempfile.TemporaryDirectory(prefix="images-") as folder, \
+            concurrent.futures.ThreadPoolExecutor(given.jobs) as pool:
+        images = pathlib.Path(folder)
+        if (right := by_body(path, None, images, given)) is not None:
+            sys.exit(f"plants.py: {path} with no wrong body: {right}")
+        jobs = {pool.submit(by_body, path, it, images, given): it.name for it in bodies}
+        return {jobs[job]: said(jobs[job], job.result())
+                for job in concurrent.futures.as_completed(jobs)}
+
+
+def said(name: str, found: Optional[str]) -> Optional[str]:
+    """What notices a body, as it is written."""
+    print(f"{name}: {found or 'NOT NOTICED'}", flush=True)
     return found
 
 
-def try_drawn(given: argparse.Namespace) -> tuple[int, int]:
-    """Tries bodies that are drawn: how many were noticed, and how many there were."""
-    with tempfile.TemporaryDirectory(prefix="drawn-") as folder:
-        work, noticed = pathlib.Path(folder), 0
-        program, places = build_switched(work, given.drawn, given.seed)
-        if (right := by_switch(work, program, None, given)) is not None:
-            sys.exit(f"plants.py: with no wrong body: {right}")
-        with concurrent.futures.ThreadPoolExecutor(given.jobs) as pool:
-            jobs = {pool.submit(by_switch, work, program, number, given): place
-                    for number, place in enumerate(places)}
-            for job in concurrent.futures.as_completed(jobs):
-                noticed += job.result() is not None
-                print(f"{jobs[job]}: {job.result() or 'NOT NOTICED'}", flush=True)
-        return noticed, len(places)
+def try_drawn(given: argparse.Namespace) -> Answers:
+    """Tries bodies that are drawn."""
+    path = next(it for it in right_programs(given.built) if it.name == "mte_run")
+    crates = switches.crates_that_explain(ROOT)
+    return try_bodies(path, switches.draw(path, crates, given.drawn, given.seed), given)
 
 
-def try_by_hand(given: argparse.Namespace) -> tuple[int, int]:
-    """Tries bodies of files: how many were noticed, and how many there were."""
+def try_files(given: argparse.Namespace) -> Answers:
+    """Tries bodies of files."""
     files = given.files or sorted((ROOT / "tools" / "wrong_bodies").glob("*.toml"))
-    plants, noticed = read_plants(files, given.only), 0
-    with concurrent.futures.ThreadPoolExecutor(given.jobs) as pool:
-        jobs = [pool.submit(try_plant, plant, given) for plant in plants]
-        for job in concurrent.futures.as_completed(jobs):
-            plant, found = job.result()
-            noticed += found is not None
-            print(f"{plant.name}: {found or 'NOT NOTICED: ' + plant.shows}", flush=True)
-    return noticed, len(plants)
+    plants = read_plants(files, given.only)
+    answers = {it.name: said(it.name, try_library(it)) for it in plants if it.program is None}
+    for name in SUITES:
+        own = [it for it in plants if it.program == name]
+        with tempfile.TemporaryDirectory(prefix="plants-") as folder:
+            work = pathlib.Path(folder)
+            answers |= try_bodies(work / name, with_plants(work, name, own), given) if own else {}
+    return answers
+
+
+def falls_short(answers: Answers, stored: Mapping[str, Any]) -> bool:
+    """Whether a smaller share is noticed than is stored; says how many are."""
+    noticed = sum(it is not None for it in answers.values())
+    print(f"{noticed} of {len(answers)} noticed; stored: {stored['noticed']} of {stored['count']}")
+    return noticed * stored["count"] < stored["noticed"] * len(answers)
+
+
+def compare(given: argparse.Namespace) -> bool:
+    """Whether a stored share has fallen."""
+    stored = tomllib.loads(STORED.read_text(encoding="utf-8"))
+    drawn = stored["sample" if given.sample else "drawn"]
+    given.drawn, given.seed = drawn["count"], drawn["seed"]
+    is_less = falls_short(try_drawn(given), drawn)
+    return is_less if given.sample else falls_short(try_files(given), stored["files"]) or is_less
 
 
 def main() -> None:
@@ -249,15 +302,18 @@ def main() -> None:
     parser.add_argument("files", nargs="*", type=pathlib.Path)
     parser.add_argument("--built", type=pathlib.Path)
     parser.add_argument("--jobs", type=int, default=1)
-    parser.add_argument("--proofs", action="store_true")
     parser.add_argument("--only", default="")
     parser.add_argument("--drawn", type=int)
     parser.add_argument("--seed", type=int, default=1)
-    parser.add_argument("--whole", action="store_true")
+    for option in ("--whole", "--share", "--sample"):
+        parser.add_argument(option, action="store_true")
     given = parser.parse_args()
-    noticed, count = try_drawn(given) if given.drawn else try_by_hand(given)
-    print(f"{noticed} of {count} noticed")
-    sys.exit(noticed < count)
+    if given.share or given.sample:
+        sys.exit(compare(given))
+    answers = try_drawn(given) if given.drawn else try_files(given)
+    noticed = sum(it is not None for it in answers.values())
+    print(f"{noticed} of {len(answers)} noticed")
+    sys.exit(noticed < len(answers))
 
 
 if __name__ == "__main__":

@@ -1,264 +1,95 @@
-"""Wrong bodies by rule, behind switches in one build: a module without checks is given, at drawn
-places, a second way that is taken where a byte of the program says so.
+"""Wrong bodies in programs, of which each is a few bytes.
 
-The rules: another comparison, a condition that always or never holds, a constant that is another
-number, a sum that is a difference, exchanged arguments of a call, and a function that returns at
-once.
+Drawn ones are in the machine code of a program (x86-64): a jump by the opposite condition, and a
+comparison with another number. Those of files are behind switches: a module without checks has,
+next to its own functions, those of another checkout, each of which runs where a byte of the
+program says so.
 """
+import hashlib
 import pathlib
 import random
 import re
-from collections.abc import Callable, Iterator, Sequence
+import subprocess
+from collections.abc import Iterator, Mapping, Sequence
 from dataclasses import dataclass
-from typing import Optional
 
-# What the bytes begin with in a program: a test finds them by it.
+# Lines of objdump: the section of the code, a function, an instruction.
+SECTION = re.compile(r"^ *\d+ \.text +\w+ +(\w+) +\w+ +(\w+) ", re.M)
+CODE_OF = re.compile(r"^\w+ <(\w+)(::.*)>:$")
+INSTRUCTION = re.compile(r"^ *(\w+):\t((?:\w\w )+) *\t(\w+)(.*)$")
+JUMP = re.compile(r"j(?!mp)")
+WITH_NUMBER = re.compile(r" +\$0x(\w+),")
+# What the bytes of switches begin with in a program.
 MARK = b"tombolopan: a byte for each wrong body follows\n"
-NAME = re.compile(r'^define [^@]*@"([^"]*)"\(')
-COMPARISON = re.compile(r"^  (%[\w.]+) = icmp (\w+) (i\d+) ([^ ,]+), ([^ ,]+)$")
-BRANCH = re.compile(r"^  br i1 (%[\w.]+), (label .*)$")
-SUM = re.compile(r"^  (%[\w.]+) = (add|sub|or|and) (i\d+) ([^ ,]+), ([^ ,]+)$")
-STORE = re.compile(r"^  store (i\d+) (-?\d+), (ptr .*)$")
-CALL = re.compile(r'^  ((?:%[\w.]+ = )?call [^@]*@"[^"]*")\((.*)\)$')
-END = re.compile(r"^  (br|ret|switch) ")
-NUMBER = re.compile(r"-?\d+")
-SCALAR = re.compile(r"i\d+ [^ ,]+")
-RESULT = re.compile(r"^define [^@]*\b(i\d+) @")
-OTHERS = {
-    "eq": "ne", "ne": "eq", "ult": "ule", "ule": "ult", "ugt": "uge", "uge": "ugt", "slt": "sle",
-    "sle": "slt", "sgt": "sge", "sge": "sgt",
-}
-EXCHANGED = {"add": "sub", "sub": "add", "or": "and", "and": "or"}
+# Where a function or a constant of a module begins; the first line of a function: what it answers,
+# its name and its arguments.
+PART = re.compile(r"^(?=define |@static)", re.M)
+HEAD = re.compile(r'define (?:internal )?([^@]*?(\S+|\{[^}]*\}) )(@"[^"]*")(\(.*\)) #\d+ \{\n')
+NAMED = re.compile(r'@"[^"\n]*"|@static\.\d+')
+
+Parts = Mapping[str, str]
 
 
 @dataclass(frozen=True)
-class Place:
-    """A line of a function that a rule changes."""
+class Body:
+    """A wrong body: its name, and the bytes of the program that are other ones."""
 
-    function: str
-    line: int
-    rule: str
-    text: str
+    name: str
+    at: int
+    new: bytes
 
-    @property
-    def crate(self) -> str:
-        """The crate of the function."""
-        return self.function.split("::")[0]
-
-    def __str__(self) -> str:
-        name = re.sub(r"::<.*", "", self.function)
-        return f"{name}, {self.rule}: {self.text}"
+    def put(self, program: bytes) -> bytes:
+        """The program with it."""
+        return program[:self.at] + self.new + program[self.at + len(self.new):]
 
 
-# The lines in place of one, by the name of the value that chooses.
-Change = Callable[[str], list[str]]
+# ---- bodies that are drawn
 
 
-def other_number(number: str) -> str:
-    """Another number that a count or a choice may have."""
-    return "1" if number == "0" else str(int(number) - 1)
+def changes_of(code: bytes, name: str, operands: str) -> Iterator[tuple[int, int, str]]:
+    """What the rules change in an instruction: which byte, its new value, and the rule."""
+    number = WITH_NUMBER.match(operands)
+    if JUMP.match(name):
+        at = 0 if code[0] >> 4 == 7 else 1
+        yield at, code[at] ^ 1, "the opposite condition"
+    elif number and name.startswith("cmp"):
+        value = int(number[1], 16)
+        sizes = [it for it in (1, 2, 4) if int.from_bytes(code[-it:], "little")
+                 == value % (1 << 8 * it)]
+        yield len(code) - sizes[0], code[-sizes[0]] ^ 1, "another number"
 
 
-def chosen(value: str, wrong: str, right: str, kind: str) -> Change:
-    """One of two ways to a value; `{}` stands for the value."""
-    def change(name: str) -> list[str]:
-        return [f"  {wrong.format(f'{name}.wrong')}", f"  {right.format(f'{name}.right')}",
-                f"  {value} = select i1 {name}, {kind} {name}.wrong, {kind} {name}.right"]
-    return change
+def bodies_of(path: pathlib.Path, crates: frozenset[str]) -> dict[str, dict[str, list[Body]]]:
+    """All wrong bodies in a program's functions of some crates, by function and rule. Instances of
+    a function are one."""
+    words = ["objdump", "-h", "-d", "-w", "--section=.text"]
+    text = subprocess.run([*words, path], stdout=subprocess.PIPE, text=True, check=True).stdout
+    section = SECTION.search(text)
+    assert section
+    start, function = int(section[1], 16) - int(section[2], 16), ""
+    found: dict[str, dict[str, list[Body]]] = {}
+    for line in text[section.end():].splitlines():
+        if named := CODE_OF.match(line):
+            function = re.sub("::<.*", "", named[1] + named[2]) if named[1] in crates else ""
+        elif function and (it := INSTRUCTION.match(line)):
+            shown = re.sub(r" +(?:\w+ <.*(\+.*)>)?", r" \1", it[3] + it[4])
+            code = bytes.fromhex(it[2])
+            for byte, new, rule in changes_of(code, it[3], it[4]):
+                body = Body(f"{function}, {rule}: {shown}", int(it[1], 16) - start + byte,
+                            bytes([new]))
+                found.setdefault(function, {}).setdefault(rule, []).append(body)
+    return found
 
 
-def of_comparison(line: str) -> Iterator[tuple[str, Change]]:
-    """Another comparison, and one with another number."""
-    found = COMPARISON.match(line)
-    if not found or found[2] not in OTHERS:
-        return
-    value, code, kind, x, y = found.groups()
-    right = f"{{}} = icmp {code} {kind} {x}, {y}"
-    wrong = f"{{}} = icmp {OTHERS[code]} {kind} {x}, {y}"
-    yield "another comparison", chosen(value, wrong, right, "i1")
-    if NUMBER.fullmatch(y):
-        wrong = f"{{}} = icmp {code} {kind} {x}, {other_number(y)}"
-        yield "another number", chosen(value, wrong, right, "i1")
-
-
-def of_branch(line: str) -> Iterator[tuple[str, Change]]:
-    """A condition that always or never holds."""
-    found = BRANCH.match(line)
-    if not found:
-        return
-    condition, rest = found.groups()
-    for said, always in (("always holds", "true"), ("never holds", "false")):
-        def change(name: str, always: str = always) -> list[str]:
-            return [f"  {name}.kept = select i1 {name}, i1 {always}, i1 {condition}",
-                    f"  br i1 {name}.kept, {rest}"]
-        yield said, change
-
-
-def of_sum(line: str) -> Iterator[tuple[str, Change]]:
-    """A difference in place of a sum, and another number."""
-    found = SUM.match(line)
-    if not found:
-        return
-    value, code, kind, x, y = found.groups()
-    right = f"{{}} = {code} {kind} {x}, {y}"
-    if not NUMBER.fullmatch(y):
-        yield "exchange", chosen(value, f"{{}} = {EXCHANGED[code]} {kind} {x}, {y}", right, kind)
-    elif code in ("add", "sub"):
-        wrong = f"{{}} = {code} {kind} {x}, {other_number(y)}"
-        yield "another number", chosen(value, wrong, right, kind)
-
-
-def of_store(line: str) -> Iterator[tuple[str, Change]]:
-    """Another number."""
-    found = STORE.match(line)
-    if not found:
-        return
-    kind, number, rest = found.groups()
-
-    def change(name: str) -> list[str]:
-        other = other_number(number)
-        return [f"  {name}.kept = select i1 {name}, {kind} {other}, {kind} {number}",
-                f"  store {kind} {name}.kept, {rest}"]
-    yield "another number", change
-
-
-def exchanged(head: str, parts: list[str], at: int) -> Change:
-    """A call with an argument and the next one exchanged."""
-    (kind, x), (_, y) = parts[at].split(" "), parts[at + 1].split(" ")
-
-    def change(name: str) -> list[str]:
-        both = [f"{kind} {name}.one", f"{kind} {name}.other"]
-        given = ", ".join([*parts[:at], *both, *parts[at + 2:]])
-        return [f"  {name}.one = select i1 {name}, {kind} {y}, {kind} {x}",
-                f"  {name}.other = select i1 {name}, {kind} {x}, {kind} {y}",
-                f"  {head}({given})"]
-    return change
-
-
-def other_argument(head: str, parts: list[str], at: int) -> Change:
-    """A call with another number as an argument."""
-    kind, number = parts[at].split(" ")
-
-    def change(name: str) -> list[str]:
-        given = ", ".join([*parts[:at], f"{kind} {name}.kept", *parts[at + 1:]])
-        other = other_number(number)
-        return [f"  {name}.kept = select i1 {name}, {kind} {other}, {kind} {number}",
-                f"  {head}({given})"]
-    return change
-
-
-def of_call(line: str) -> Iterator[tuple[str, Change]]:
-    """Exchanged arguments, and another number as one."""
-    found = CALL.match(line)
-    if not found:
-        return
-    head, parts = found[1], found[2].split(", ")
-    for at, part in enumerate(parts):
-        if not SCALAR.fullmatch(part):
-            continue
-        kind, value = part.split(" ")
-        following = parts[at + 1] if at + 1 < len(parts) else ""
-        is_like = SCALAR.fullmatch(following) and following.startswith(f"{kind} ")
-        if is_like and following != part:
-            yield f"exchanged arguments {at + 1} and {at + 2}", exchanged(head, parts, at)
-        if NUMBER.fullmatch(value):
-            yield f"another number as argument {at + 1}", other_argument(head, parts, at)
-
-
-RULES = (of_comparison, of_branch, of_sum, of_store, of_call)
-
-
-def early_return(lines: Sequence[str]) -> Optional[tuple[int, Change]]:
-    """A function that returns 0 once its places are made: the last line that makes one."""
-    found = RESULT.match(lines[0])
-    places = [at for at, line in enumerate(lines) if " = alloca " in line]
-    ends = [at for at, line in enumerate(lines) if END.match(line)]
-    if not found or not places or not ends or places[-1] >= ends[0]:
-        return None
-    kind, line = found[1], lines[places[-1]]
-
-    def change(name: str) -> list[str]:
-        label = name[1:]
-        return [line, f"  br i1 {name}, label %{label}.over, label %{label}.on", f"{label}.over:",
-                f"  ret {kind} 0", f"{label}.on:"]
-    return places[-1], change
-
-
-def changes_of(lines: Sequence[str]) -> Iterator[tuple[int, str, Change]]:
-    """What the rules change in a function."""
-    for at, line in enumerate(lines):
-        for rule in RULES:
-            for said, change in rule(line):
-                yield at, said, change
-    early = early_return(lines)
-    if early:
-        yield early[0], "returns at once", early[1]
-
-
-def functions(text: str, crates: frozenset[str]) -> Iterator[tuple[str, int, list[str]]]:
-    """The functions of crates: name, first line and lines."""
-    lines = text.split("\n")
-    start = None
-    for at, line in enumerate(lines):
-        if start is None:
-            found = NAME.match(line)
-            if found and found[1].split("::")[0] in crates and "Destruct" not in found[1]:
-                start, name = at, found[1]
-        elif line == "}":
-            yield name, start, lines[start:at]
-            start = None
-
-
-def draw(text: str, crates: frozenset[str], count: int, seed: int) -> list[Place]:
-    """So many places, of as many functions as there are."""
-    source = random.Random(seed)
-    by_function: dict[str, list[Place]] = {}
-    for function, _, lines in functions(text, crates):
-        found = [Place(function, at, said, lines[at].strip()) for at, said, _ in changes_of(lines)]
-        if found:
-            by_function.setdefault(re.sub(r"::<.*", "", function), []).extend(found)
-    names = sorted(by_function)
-    drawn = source.sample(names, min(count, len(names)))
-    return [source.choice(by_function[name]) for name in drawn]
-
-
-def with_switches(text: str, crates: frozenset[str], places: Sequence[Place]) -> str:
-    """The module with each place's second way, and a byte that chooses it."""
-    wanted: dict[str, list[tuple[int, Place]]] = {}
-    for number, place in enumerate(places):
-        wanted.setdefault(place.function, []).append((number, place))
-    lines = text.split("\n")
-    made: dict[int, list[str]] = {}
-    for function, start, body in functions(text, crates):
-        for number, place in wanted.get(function, []):
-            change = next(it for at, said, it in changes_of(body)
-                          if (at, said) == (place.line, place.rule))
-            name = f"%switch.{number}"
-            parts = change(name)
-            kept = [parts.pop(0)] if " = alloca " in parts[0] else []
-            made[start + place.line] = [*kept, *read_switch(number, name), *parts]
-    kept_lines = [it for at, line in enumerate(lines) for it in made.get(at, [line])]
-    return "\n".join([*kept_lines, array(len(places))])
-
-
-def read_switch(number: int, name: str) -> list[str]:
-    """The lines that look at a byte."""
-    at = len(MARK) + number
-    return [f"  {name}.byte = load i8, ptr getelementptr (i8, ptr @\"wrong bodies\", i64 {at})",
-            f"  {name} = icmp ne i8 {name}.byte, 0"]
-
-
-def array(count: int) -> str:
-    """The bytes of the switches, all 0."""
-    text = "".join(f"\\{it:02X}" for it in MARK + bytes(count))
-    return f'@"wrong bodies" = global [{len(MARK) + count} x i8] c"{text}"\n'
-
-
-def switched(program: bytes, number: int) -> bytes:
-    """A program with one wrong body."""
-    start = program.index(MARK) + len(MARK)
-    assert program.count(MARK) == 1 and program[start + number] == 0
-    return program[:start + number] + b"\1" + program[start + number + 1:]
+def draw(path: pathlib.Path, crates: frozenset[str], count: int, seed: int) -> list[Body]:
+    """So many bodies, of as many functions. The seed puts all functions in an order, so that a
+    change of one changes nothing of what is drawn of others."""
+    found, drawn = bodies_of(path, crates), list[Body]()
+    keys = {hashlib.sha256(f"{seed} {name}".encode()).hexdigest(): name for name in found}
+    for key in sorted(keys)[:count]:
+        source, rules = random.Random(key), found[keys[key]]
+        drawn.append(source.choice(rules[source.choice(sorted(rules))]))
+    return drawn
 
 
 def crates_that_explain(root: pathlib.Path) -> frozenset[str]:
@@ -271,3 +102,90 @@ def crates_that_explain(root: pathlib.Path) -> frozenset[str]:
         elif is_wanted and ":" in line and not line.startswith("#"):
             found.add(line.split(":")[0].split()[0])
     return frozenset(found)
+
+
+# ---- bodies of files, behind switches
+
+
+def parts_of(module: str) -> dict[str, str]:
+    """The functions and the constants of a module by their names, each with what stands up to the
+    next one."""
+    found: dict[str, str] = {}
+    for part in PART.split(module):
+        named = NAMED.search(part.split("\n", 1)[0])
+        found[named[0] if named else f"part {len(found)}"] = part
+    return found
+
+
+def plain(parts: Parts, name: str) -> str:
+    """A function, with its constants in place of their names, which are numbers."""
+    def value(it: "re.Match[str]") -> str:
+        return NAMED.sub("@", parts[it[0]]) if it[0].startswith("@static") else it[0]
+    return NAMED.sub(value, HEAD.sub(r"\1\3\4", parts[name].split("\n}\n")[0]))
+
+
+def changed(right: Parts, wrong: Parts) -> list[str]:
+    """The functions that are other ones in a second module."""
+    both = [it for it, text in wrong.items() if it[:2] == '@"' and right.get(it, text) != text]
+    return [it for it in both if plain(right, it) != plain(wrong, it)]
+
+
+def other_name(name: str, number: int) -> str:
+    """The name of a part of a wrong body."""
+    return f'@"{name[1:].strip(chr(34))} wrong {number}"'
+
+
+def body_of(right: Parts, wrong: Parts, names: Sequence[str], number: int) -> str:
+    """Functions of a second module with all that the first one lacks for them, by other names."""
+    found: dict[str, str] = {}
+    waiting = list(names)
+    while waiting:
+        name = waiting.pop()
+        if name not in found:
+            end = "\n}\n" if name[:2] == '@"' else "\n"
+            found[name] = wrong[name][:wrong[name].index(end) + len(end)]
+            waiting += [it for it in NAMED.findall(found[name])
+                        if it in wrong and (it not in right or it.startswith("@static"))]
+    text = HEAD.sub(r"define internal \1\3\4 #0 {\n", "".join(found.values()))
+    text = re.sub(r", !range !\d+", "", text)
+    return NAMED.sub(lambda it: other_name(it[0], number) if it[0] in found else it[0], text)
+
+
+def chooser(text: str, name: str, numbers: Sequence[int]) -> str:
+    """A function under another name, and one in its place that calls it or a wrong body."""
+    found = HEAD.match(text)
+    assert found, text[:200]
+    kind, result, _, given = found.groups()
+    right = way = f'{name[:-1]} right"'
+    lines = [f"define internal {kind}{name}{given} #0 {{"]
+    for number in numbers:
+        at = f'getelementptr (i8, ptr @"wrong bodies", i64 {len(MARK) + number})'
+        lines += [f"  %byte.{number} = load i8, ptr {at}",
+                  f"  %is.{number} = icmp ne i8 %byte.{number}, 0",
+                  f"  %way.{number} = select i1 %is.{number}, ptr {other_name(name, number)}, "
+                  f"ptr {way}"]
+        way = f"%way.{number}"
+    call, answer = ("  call", "") if result == "void" else ("  %answer = call", " %answer")
+    lines += [f"{call} {kind}{way}{given}", f"  ret {result}{answer}", "}", ""]
+    return "\n".join(lines) + text.replace(name, right, 1)
+
+
+def with_bodies(right: Parts, bodies: Sequence[tuple[Parts, Sequence[str]]]) -> str:
+    """A module with the wrong bodies of others behind switches: of each one the parts of its module
+    and the names of its functions."""
+    made = dict(right)
+    for name in {it for _, names in bodies for it in names}:
+        numbers = [at for at, (_, names) in enumerate(bodies) if name in names]
+        made[name] = chooser(right[name], name, numbers)
+    more = [body_of(right, parts, names, at) for at, (parts, names) in enumerate(bodies)]
+    text = "".join(f"\\{it:02X}" for it in MARK + bytes(len(bodies)))
+    size = len(MARK) + len(bodies)
+    more.append(f'@"wrong bodies" = global [{size} x i8] c"{text}"\n')
+    return "".join([*made.values(), *more])
+
+
+def switches_of(program: bytes, names: Sequence[str]) -> list[Body]:
+    """The wrong bodies of a program that has them behind switches."""
+    assert program.count(MARK) == 1
+    start = program.index(MARK) + len(MARK)
+    return [Body(name, start + number, b"\1") for number, name in enumerate(names)]

@@ -4,7 +4,7 @@
 # builds it first.
 #     library.sh
 set -euo pipefail
-here=$(cd "$(dirname "$0")" && pwd)
+here=$(dirname "$(readlink -f "$0")")
 # shellcheck source=examples/command_line.sh
 source "$here/../command_line.sh"
 show_help "$0" "$@"

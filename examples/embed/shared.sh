@@ -6,7 +6,7 @@
 # it is older than the sources. In a prefix it is then a copy of the one that is installed.
 # Needed to link: cc, and the toolchain's rt.
 set -euo pipefail
-here=$(cd "$(dirname "$0")" && pwd)
+here=$(dirname "$(readlink -f "$0")")
 # shellcheck source=examples/command_line.sh
 source "$here/../command_line.sh"
 show_help "$0" "$@"

@@ -13,6 +13,7 @@ With --c++ it gets the C++ library too, LLVM's libc++ with exceptions; with --on
 where FOLDER has the C library. This needs binutils-aarch64-linux-gnu besides.
 """
 import concurrent.futures
+import os
 import pathlib
 import shutil
 import subprocess
@@ -37,7 +38,7 @@ BUILTINS = ["-std=c11", "-ffreestanding", "-fno-builtin"]
 # What this folder has in musl's place, or a tenant has no use for.
 LEFT_OUT = {
     "env/__init_tls.c", "env/__libc_start_main.c", "env/__stack_chk_fail.c", "exit/abort.c",
-    "internal/vdso.c", "mq/mq_notify.c", "process/system.c", "process/vfork.c",
+    "internal/vdso.c", "mman/mmap.c", "mq/mq_notify.c", "process/system.c", "process/vfork.c",
     "setjmp/longjmp.c", "setjmp/setjmp.c", "signal/restore.c", "signal/sigsetjmp.c",
     "stdio/__stdout_write.c", "temp/__randname.c", "thread/__set_thread_area.c",
     "thread/__timedwait.c", "thread/__unmapself.c", "thread/__wait.c", "thread/clone.c",
@@ -233,6 +234,8 @@ def main():
         if not shutil.which(tool):
             leave(f"{tool} is not there (Debian: {package})")
     out = options.out.resolve()
+    if out.exists() and not os.access(out, os.W_OK):
+        leave(f"{out} may not be written to (--out FOLDER is another one)")
     sources = options.sources or out / "sources"
     if not options.only_cxx:
         build_c(out, sources, options.jobs)

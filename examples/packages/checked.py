@@ -2,13 +2,15 @@
 """Runs programs of others by mte_run --check, and says of which of them something is told.
 
     checked.py torture [--every N]     500 of gcc's torture tests, as compilers.py takes them
+    checked.py csmith [--count N] [--first SEED]    programs that csmith draws, a build of each
     checked.py packages                the packages of packages.toml
     checked.py --write                 writes what came of all into docs/project/CHECKED.md
 
 Each program is built as a tenant by clang and by gcc, at -O0 and at -O2, with -g. It runs plain,
-with --check, and with --check=all,places. Its output and its exit status have to be the same each
-time, and nothing may be told. A torture test counts where it is compiled and its plain run ends
-with the status 0 within 100 million steps; a package where its plain runs do what they do natively.
+with --check, and with --check=all,places; one of csmith also with --exact beside that. Its output
+and its exit status have to be the same each time, and nothing may be told. A torture test counts
+where it is compiled and its plain run ends with the status 0 within 100 million steps; a package,
+or a program of csmith, where its plain runs do what they do natively.
 A line says what is told, or differs. What is a fault of the program is in faults.toml, with the
 reason. The exit status is 1 where anything else is told, or something differs.
 
@@ -44,10 +46,11 @@ SCRIPT = "examples/packages/checked.py"
 BUILDS = {f"{name}{level}": (name, level)
           for name in compilers.COMPILERS for level in ("-O0", "-O2")}
 PLAIN, WAYS = "", ("--check", "--check=all,places")
+EXACT = "--check=all,places --exact"
 TORTURE, STEPS, SECONDS = 500, "100000000", 1200
 NOTHING = "nothing"
 KEY = ("kind", "program", "build")
-TITLES = {"torture": "gcc's torture tests", "packages": "packages"}
+TITLES = {"torture": "gcc's torture tests", "csmith": "csmith", "packages": "packages"}
 # What mte_run says of a run in which nothing is wrong.
 NOTES = re.compile(r"mte_run: (?:exited with \d+|no tag differed; .*|a request of .*)")
 # Runs mte_run with a way of checking, and keeps what it says.
@@ -140,10 +143,10 @@ def result_of(plain: Ran, checked: Ran) -> str:
     return NOTHING if checked.output == plain.output else "another output"
 
 
-def torture_image(program: compilers.Program, build: Build,
-                  place: packages.Place) -> tuple[pathlib.Path, str]:
-    """The image of a torture test in a build, and why it is not compiled. Both stay."""
-    image = place.out / "checked" / "torture" / build.build / program.name
+def image_of(program: compilers.Program, build: Build,
+             place: packages.Place) -> tuple[pathlib.Path, str]:
+    """The image of a program in a build, and why it is not compiled. Both stay."""
+    image = place.out / "checked" / build.kind / build.build / program.name
     refused = image.with_name(f"{program.name}.refused")
     if image.exists() or refused.exists():
         return image, first_error(refused.read_text()) if refused.exists() else ""
@@ -159,16 +162,23 @@ def torture_image(program: compilers.Program, build: Build,
     return image, ""
 
 
-def tried_torture(program: compilers.Program, build: Build, place: packages.Place) -> Finding:
-    """What came of a torture test in a build."""
-    image, reason = torture_image(program, build, place)
+def tried_program(program: compilers.Program, build: Build, place: packages.Place) -> Finding:
+    """What came of a torture test or a program of csmith in a build."""
+    image, reason = image_of(program, build, place)
     if reason:
         return left_out(build, f"not compiled: {reason}")
     command = ["--steps", STEPS, image]
     plain = run([place.alone, *command])
     if plain.status:
         return left_out(build, f"status {plain.status}: {told_of(plain.said)}")
-    results = {way: result_of(plain, run([place.alone, way, *command])) for way in WAYS}
+    if build.kind == "csmith":
+        words = [build.level, "-w", *program.words]
+        with tempfile.TemporaryDirectory() as name:
+            ended = compilers.ended_natively(program, words, pathlib.Path(name), build.compiler)
+        if not ended or ended[1] != plain.output:
+            return left_out(build, "not as natively")
+    ways = (*WAYS, EXACT) if build.kind == "csmith" else WAYS
+    results = {way: result_of(plain, run([place.alone, *way.split(), *command])) for way in ways}
     return Finding(build.kind, build.program, build.build, results)
 
 
@@ -184,7 +194,16 @@ def torture_work(options: argparse.Namespace, place: packages.Place) -> Iterator
     for program, name in itertools.product(programs, options.builds):
         build = Build("torture", program.name, name)
         if not options.only or program.name in options.only:
-            yield functools.partial(tried_torture, program, build, place)
+            yield functools.partial(tried_program, program, build, place)
+
+
+def csmith_work(options: argparse.Namespace, place: packages.Place) -> Iterator[Work]:
+    """What is to do for programs of csmith: a build of each."""
+    folder = place.out / "checked" / "csmith"
+    folder.mkdir(parents=True, exist_ok=True)
+    for program in compilers.drawn_programs(folder, options.first, options.count):
+        build = Build("csmith", program.name, options.builds[program.number % len(options.builds)])
+        yield functools.partial(tried_program, program, build, place)
 
 
 def words_of(package: packages.Package, build: Build, place: packages.Place,
@@ -337,6 +356,8 @@ def arguments() -> argparse.Namespace:
     listed = functools.partial(str.split, sep=",")
     parser.add_argument("kind", nargs="?", choices=TITLES)
     parser.add_argument("--every", type=int, default=1)
+    parser.add_argument("--count", type=int, default=100)
+    parser.add_argument("--first", type=int, default=1)
     parser.add_argument("--only", type=listed, default=[])
     parser.add_argument("--builds", type=listed, default=list(BUILDS))
     packages.add_common(parser)
@@ -351,7 +372,7 @@ def main() -> int:
         kept = json.loads(path.read_text(encoding="utf-8"))
         write_part(PAGE, SCRIPT, f"{counts_of(kept)}\n{faults_of(kept)}")
         return 0
-    work = torture_work if options.kind == "torture" else package_work
+    work = {"torture": torture_work, "csmith": csmith_work, "packages": package_work}[options.kind]
     found = [keep(path, it) for it in tried(list(work(options, place)), options.jobs)]
     counted = [each for each in found if each.results]
     is_wrong = any(map(wrong, counted))

@@ -101,8 +101,8 @@ def read_packages(path: pathlib.Path = HERE / "packages.toml") -> list[Package]:
 
 def version_of(sources: pathlib.Path, name: str) -> str:
     """The version, as the archive's name has it."""
-    archives = [it.name for it in sources.glob(f"{name}_*.orig.tar.*") if it.suffix != ".asc"]
-    found = re.fullmatch(rf"{re.escape(name)}_(.*?)\.orig\.tar\.\w+", archives[0])
+    archive = debian_source.archives_of(sources, name)[0].name
+    found = re.fullmatch(rf"{re.escape(name)}_(.*?)(?:\.orig)?\.tar\.\w+", archive)
     return found[1] if found else "?"
 
 

@@ -146,6 +146,22 @@ static int bug(void)
     return 0;
 #elif BUG == 21 /* 401 bytes set in 400 of a stack with arguments, by a function */
     return (int)sum_many(1, 2, 3, 4, 5, 6, 7, 8, 9, 10, 11, 12, 13, one);
+#elif BUG == 22 /* a variable of a block that is read after the block */
+    int *all;
+    {
+        int block[4] = {one, 2, 3, 4};
+        all = block;
+        sink = all[1];
+    }
+    return all[one];
+#elif BUG == 23 /* a variable of a loop that a function writes after the loop */
+    for (int i = 0; i < 3; i++) {
+        int turn[4] = {i, one};
+        kept = turn;
+        sink = kept[1];
+    }
+    set_second((long *)kept);
+    return 0;
 #endif
 }
 

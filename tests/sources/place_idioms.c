@@ -218,14 +218,15 @@ static int idiom(void)
     }
     return sum;
 }
-#elif IDIOM == 12 /* A variable of a block, used after the block in its function. */
+#elif IDIOM == 12 /* A pointer to a variable of a block, kept after the block and not used. */
 static int idiom(void)
 {
-    int *outer = 0;
-    if (one) {
+    int *outer = 0, kept = one;
+    for (int turn = 0; turn < 3; turn++) {
         int inner = 5;
-        outer = &inner;
+        outer = turn < 2 ? &inner : &kept;
         cell = outer;
+        sink = *(int *)cell + inner;
     }
     return outer != 0 && *(int *)cell >= 0;
 }
@@ -249,8 +250,13 @@ static int idiom(void)
     int depth = 3;
     set_all(table, 6);
     for (volatile int turn = 0; turn < 4; turn++)
-        if (save_place(place) == 0)
+        if (save_place(place) == 0) {
             go_back(&depth);
+        } else {
+            int behind[4], *kept = behind;
+            set_all(kept, 4);
+            sink = kept[one];
+        }
     int again[5];
     set_all(again, 5);
     return table[5 * one] + again[4 * one] + left;
@@ -518,6 +524,63 @@ static int idiom(void)
     }
     below[4499 * one] += kept[(4999 + PAST) * one];
     return first + second + third + below[4499 * one] + small[14] + more[20 * one];
+}
+#elif IDIOM == 28 /* Variables of blocks, while their blocks run and however they are left. */
+static int *volatile kept;
+__attribute__((noinline)) static int sum_kept(int count)
+{
+    int sum = 0;
+    while (count > 0)
+        sum += kept[--count];
+    return sum;
+}
+static void count_down(int **all)
+{
+    for (int i = 0; i < 4; i++)
+        (*all)[i]--;
+}
+static int idiom(void)
+{
+    int sum = 0, *last = &sum;
+    for (int turn = 0; turn < 6; turn++) {
+        int all[4] = {turn, one, 2, 3};
+        int *own __attribute__((cleanup(count_down))) = all;
+        kept = all;
+        if (turn == 1)
+            continue;
+        for (int i = 0; i < 4; i++) {
+            int *inner = i > 1 ? &own[i] : &turn;
+            kept = inner;
+            sum += *last + sum_kept(1);
+        }
+        kept = own;
+        if (turn == 4 * one)
+            goto out;
+        sum += sum_kept(4);
+    }
+out:
+    switch (one) {
+        int common[4];
+    case 0:
+        sum = 0;
+        break;
+    case 1:
+        set_all(kept = common, 4);
+        if (one) {
+        case 2:;
+            int part[4];
+            set_all(last = part, 4);
+            sum += sum_kept(4) + *last;
+        }
+        sum += sum_kept(4);
+    }
+    sum += ({
+        int all[4] = {one, 2, 3, 4};
+        kept = all;
+        sum_kept(4) + *kept;
+    });
+    kept = (int[]){one, 2, 3};
+    return sum + sum_kept(3) + *(last = &sum);
 }
 #endif
 

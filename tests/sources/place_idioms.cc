@@ -170,8 +170,104 @@ static long places_of_others()
     return sum;
 }
 
+// Objects whose destructors use variables of their own block, however it is left.
+struct Mutex {
+    int locked = 0;
+    [[gnu::noinline]] ~Mutex() { locked = -locked; }
+};
+
+struct Guard {
+    Mutex &mutex;
+    explicit Guard(Mutex &it) : mutex(it) { mutex.locked++; }
+    ~Guard() { mutex.locked--; }
+};
+
+template <class F> struct Exit {
+    F last;
+    ~Exit() { last(); }
+};
+
+template <class F> static Exit<F> at_exit(F last)
+{
+    return Exit<F>{last};
+}
+
+struct List {
+    int *at;
+    int count;
+    List(int *all, int of) : at(all), count(of) { at[0]++; }
+    ~List()
+    {
+        for (int i = 0; i < count; i++)
+            at[i]--;
+    }
+    int *begin() const { return at; }
+    int *end() const { return at + count; }
+};
+
+struct Node {
+    Node *next;
+    int *count;
+    Node(Node *behind, int *of) : next(behind), count(of) { ++*count; }
+    ~Node()
+    {
+        --*count;
+        if (next)
+            next->count = count;
+    }
+};
+
+static int left_blocks(int way)
+{
+    int sum = 0;
+    for (int i = 0; i < 3; i++) {
+        int all[4] = {i, 1, 2, 3};
+        List list(all, 4);
+        if (way == i)
+            continue;
+        if (way == i + 10)
+            break;
+        if (way == i + 20)
+            return sum;
+        sum += list.at[1];
+    }
+    {
+        int all[4] = {one, 1, 2, 3};
+        const List &list = List(all, 4);
+        Node nodes[3] = {Node(nullptr, all), Node(&nodes[0], all), Node(&nodes[1], all)};
+        sum += list.at[1] + *nodes[1].count;
+    }
+    {
+        int number = one, other = 7;
+        auto first = at_exit([&] { sum += ++number; });
+        auto second = at_exit([&number, &other] { number += other; });
+        for (int &it : List(&other, 1)) {
+            int kept = it;
+            auto third = at_exit([&kept, &sum] { sum += kept; });
+            it += kept;
+        }
+    }
+    while (Mutex *outer = sum & 64 ? nullptr : reinterpret_cast<Mutex *>(&sum)) {
+        Mutex inner;
+        Guard guard(*outer), again(inner);
+        sum += 65 + inner.locked;
+        if (way == 5)
+            goto out;
+    }
+    if (int *all = way ? &sum : nullptr) {
+        int last = *all;
+        auto set = at_exit([&] { *all = last + 1; });
+    }
+out:
+    Mutex mutex;
+    Guard guard(mutex);
+    return sum + mutex.locked;
+}
+
 extern "C" int main()
 {
+    for (int way = 0; way < 25; way++)
+        sink = left_blocks(way);
     sink = static_cast<int>(named_parts() + members() + structures() + places_of_others());
     return 0;
 }

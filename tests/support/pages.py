@@ -32,6 +32,11 @@ SAMPLE = re.compile(r"(mte_\w+|[\w-]+\.sh|error|install\.sh): |tenant \d+$|refus
 FORM = re.compile(r"\[[A-Z-]|\.\.\.")
 
 
+def is_for_users(page: str) -> bool:
+    """Whether a page is on the shelf of users and auditors."""
+    return page == "README.md" or re.fullmatch(r"docs/\w+\.md", page) is not None
+
+
 @dataclass(frozen=True)
 class Part:
     """Lines of a block between empty ones."""

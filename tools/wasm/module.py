@@ -25,6 +25,16 @@ WORDS = {
 SLICE = re.compile(r'(^define [^\n]*@"tenant_run::slices::run_slice::[^\n]*i32 noundef (%\w+)'
                    r'[^\n]*\{\nstart:\n)', re.M)
 COUNTED = "system_slice"
+# Crates of which no function runs at each step: they are made small, all else is made fast.
+SMALL = (
+    "a64_text", "clap", "command_run", "cxx_tree", "debug_info", "debug_lines", "debug_variables",
+    "debuggee", "elf_sections", "elf_symbols", "gdb_front", "gdb_packets", "gdb_travel",
+    "heap_picture", "hex", "mte_backtrace", "mte_elf", "mte_program", "mte_report", "mte_script",
+    "mte_session", "report_documents", "run_explanation", "run_options", "run_request", "run_terms",
+    "strsim", "tenant_map",
+)
+IS_SMALL = re.compile(rf'^(define [^\n]*@"<?(?:core::fmt|std_io|{"|".join(SMALL)})::[^\n]*) \{{$',
+                      re.M)
 
 
 def run(words: Sequence[object]) -> str:
@@ -48,6 +58,7 @@ def for_the_target(text: str, layout: str) -> str:
     text = re.sub(r"^target triple.*$", 'target triple = "wasm64-unknown-unknown"', text, count=1,
                   flags=re.M)
     text = SLICE.sub(rf"\1  call void @{COUNTED}(i32 \2)\n", text)
+    text = IS_SMALL.sub(r"\1 minsize optsize {", text)
     lines = text.split("\n")
     for at, line in enumerate(lines):
         if line.startswith("attributes #"):
@@ -80,7 +91,7 @@ def link(compiled: pathlib.Path, work: pathlib.Path) -> bytes:
              parts[-1]])
     # A linker is what it is called.
     linker.symlink_to(kit / "toolchain/bin/ld.lld")
-    run([linker, "-mwasm64", "--no-entry", "--gc-sections", "--stack-first", "--strip-all", "-z",
-         f"stack-size={STACK}", f"--max-memory={MOST_MEMORY}", "--export-memory", "-o", out,
-         *parts])
+    run([linker, "-mwasm64", "--no-entry", "--gc-sections", "--stack-first", "--strip-all",
+         "--compress-relocations", "-z", f"stack-size={STACK}", f"--max-memory={MOST_MEMORY}",
+         "--export-memory", "-o", out, *parts])
     return out.read_bytes()

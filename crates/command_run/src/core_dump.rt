@@ -1,9 +1,10 @@
 //! The core file of a tenant's end.
 
+use crate::files::read_course;
+use crate::request::RunRequest;
 use debuggee::{CoreSubject, write_core};
 use mte_flat::Flat;
 use mte_tags::TagMode;
-use run_request::{RunRequest, read_course};
 use run_terms::{Failure, Replay};
 use std::io;
 use tenant_run::WholeFile;

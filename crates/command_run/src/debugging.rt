@@ -2,14 +2,16 @@
 
 ghost use Rattle.std.specs.Prelude.{◌<◌};
 
+use crate::files::{read_course, read_input};
 use crate::first_finding::first_finding;
+use crate::request::RunRequest;
+use crate::unadmitted::{end_unadmitted, refuse};
 use common::{MAX_STEPS, Obstacle};
 use debuggee::{Cuts, Debuggee};
 use gdb_front::{Front, serve};
 use gdb_travel::DebugSubject;
 use mte_tenant::Admission;
 use run_cause::Finding;
-use run_request::{RunRequest, end_unadmitted, read_course, read_input, refuse};
 use run_terms::{Failure, Options, Replay};
 use std::alloc::{AllocError, Global};
 use tenant_run::admission_of;

@@ -1,10 +1,10 @@
 //! What a check of a tenant's run finds first, before GDB moves the tenant.
 
+use crate::limits::failure_of;
+use crate::request::RunRequest;
 use debuggee::Cuts;
 use mte_tenant::Admission;
 use run_cause::Finding;
-use run_explanation::failure_of;
-use run_request::RunRequest;
 use run_terms::Failure;
 use std::alloc::Global;
 use tenant_run::{Observer, TenantBench, WatchLevel, Watcher, finder_of};

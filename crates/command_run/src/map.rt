@@ -1,9 +1,9 @@
 //! The picture of the heap, in a file.
 
+use crate::title::MapTitle;
 use common::Printable;
 use mte_flat::Flat;
 use mte_report::{PictureForm, Report};
-use run_explanation::MapTitle;
 use run_terms::{Failure, Options};
 use std::io;
 use std::io::{BufWriter, Write};

@@ -1,15 +1,16 @@
 //! The run of a command line, from its first instruction to the exit status.
 
 use crate::core_dump::mode_in;
+use crate::files::{read_file, read_input};
+use crate::replay::Replayed;
+use crate::request::{Run, RunRequest};
+use crate::session_replay::{SessionReplay, events_of};
 use crate::telling::tell_end;
+use crate::unadmitted::{refuse, refuse_unadmitted};
 use common::Obstacle;
 use mte_program::StreamSink;
 use mte_session::{Event, file_of, write_all, write_report};
 use mte_tags::TagMode;
-use run_request::{
-    Replayed, Run, RunRequest, SessionReplay, events_of, read_file, read_input, refuse,
-    refuse_unadmitted,
-};
 use run_terms::{Failure, Replay};
 use std::io::BufWriter;
 use tenant_run::{LoneTenant, Observer, TenantBench, observer_of};

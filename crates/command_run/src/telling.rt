@@ -1,15 +1,18 @@
 //! Reports and files of a tenant at its end.
 
+use crate::account::RunAccount;
 use crate::core_dump::dump_core;
+use crate::ended_run::EndedRun;
+use crate::limits::{failure_of, reserved_pages};
+use crate::lost::lost_chunks;
 use crate::map::draw_map;
+use crate::request::{Run, RunRequest};
 use debuggee::CoreSubject;
 use mte_backtrace::Names;
 use mte_flat::Flat;
 use mte_report::Report;
 use mte_svc::TenantParts;
 use report_documents::Document;
-use run_explanation::{EndedRun, RunAccount, failure_of, lost_chunks, reserved_pages};
-use run_request::{Run, RunRequest};
 use run_terms::{Failure, FileFault, Options};
 use std::io;
 use std::io::{BufWriter, Write};

@@ -55,9 +55,21 @@ pub struct PlacedVariable {
     pub start: u64,
     /// The address after its last byte.
     pub end: u64,
-    /// The address up to which an access is not known to be one to another: where a function was
-    /// optimized, the next variable's, since what has no name may share the place.
+    /// The address up to which an access is not known to be one to another: the next variable's
+    /// where what has no name may share the place, as where a function was optimized.
     pub limit: u64,
+}
+
+/// A compiler, by what is known of its blocks.
+#[derive(Clone, Copy, PartialEq, Eq)]
+pub(crate) enum Compiler {
+    /// gcc, which puts what has no name into the places of variables whose blocks do not run, also
+    /// where it does not optimize.
+    Gcc,
+    /// clang, of C and C++.
+    Clang,
+    /// Another, which may use variables outside of their blocks.
+    Other,
 }
 
 /// A function of an image.
@@ -71,6 +83,8 @@ pub struct FrameFunction {
     pub(crate) base: FrameBase,
     /// Whether it was optimized, as far as that shows, or has inlined calls.
     pub is_optimized: bool,
+    /// The compiler that wrote it.
+    pub(crate) compiler: Compiler,
     /// The number of its first slot, and how many there are.
     pub(crate) first: usize,
     pub(crate) count: usize,
@@ -96,6 +110,9 @@ pub struct FrameVariable {
     /// Where it is declared, if that is known.
     pub declaration: Option<Declaration>,
 }
+
+/// The least bytes of a variable whose place gcc shares where it does not optimize.
+const LEAST_SHARED: u64 = 32;
 
 /// The number added to an offset modulo 2^64 so that negative ones come first.
 const SIGN: u64 = 1 << 63;
@@ -249,9 +266,9 @@ impl FrameVariables {
     }
 
     /// The variable of a function that has the byte at an address, by the values of its bases. Of
-    /// those that share bytes, and where the function was optimized, it is the one of the innermost
-    /// block that has the counter; several of one block are one. `None` where the address is in two
-    /// slots, which are counted from different bases.
+    /// those that share bytes, and where the function was optimized or gcc wrote it, it is the one
+    /// of the innermost block that has the counter; several of one block are one. `None` where the
+    /// address is in two slots, which are counted from different bases.
     pub fn variable_at(
         &self,
         function: &FrameFunction,
@@ -261,16 +278,25 @@ impl FrameVariables {
     ) -> Option<PlacedVariable> {
         let slot = self.one_slot(function, bases, addr)?;
         let value = bases.of(slot.whole.base);
-        let variable = if slot.count == 1 && !function.is_optimized {
+        let has_own_place = !function.is_optimized && function.compiler != Compiler::Gcc;
+        let variable = if slot.count == 1 && has_own_place {
             slot.whole
         } else {
             self.variable_in(&slot, place_of(addr, value), pc)?
         };
         let mut placed = variable.placed(value)?;
-        if function.is_optimized {
+        if function.is_optimized || self.may_be_shared(function, &variable) {
             placed.limit = self.next_start(function, bases, addr).max(placed.end);
         }
         Some(placed)
+    }
+
+    /// Whether what has no name may be in a variable's place while the variable's block runs, in a
+    /// function that was not optimized: by gcc, in front of the first use of a variable of an inner
+    /// block, if that is not small.
+    fn may_be_shared(&self, function: &FrameFunction, variable: &FrameVariable) -> bool {
+        let is_large = function.compiler == Compiler::Gcc && variable.size >= LEAST_SHARED;
+        is_large && !self.blocks.has(&variable.block, function.low)
     }
 
     /// All variables of a function, of any block, that share the bytes with the one at an address,
@@ -283,6 +309,22 @@ impl FrameVariables {
     ) -> Option<PlacedVariable> {
         let slot = self.one_slot(function, bases, addr)?;
         slot.whole.placed(bases.of(slot.whole.base))
+    }
+
+    /// The block that a variable is declared in, where it is not the function as a whole, and all
+    /// that is done with the variable while it is there is in the block, but for what ends objects.
+    pub fn inner_block(
+        &self,
+        function: &FrameFunction,
+        variable: &FrameVariable,
+    ) -> Option<LexicalBlock> {
+        let is_known = !function.is_optimized && function.compiler != Compiler::Other;
+        Some(variable.block).filter(|block| is_known && !self.blocks.has(block, function.low))
+    }
+
+    /// Whether an address is one of a block.
+    pub fn is_in_block(&self, block: &LexicalBlock, address: u64) -> bool {
+        self.blocks.has(block, address)
     }
 
     /// The variables of a function that end at an address.

@@ -10,6 +10,7 @@ mod object_table;
 mod search;
 mod types;
 
+pub use blocks::LexicalBlock;
 pub use declaration::{Declaration, VariableName};
 pub use frame_table::{
     FrameBase, FrameBases, FrameFunction, FrameVariable, FrameVariables, Neighbor, PlacedVariable,

@@ -2,7 +2,7 @@
 
 use crate::blocks::{BlockTable, LexicalBlock};
 use crate::declaration::{Declaration, VariableName};
-use crate::frame_table::{DeclaredObject, FrameBase, FrameFunction, FrameVariable};
+use crate::frame_table::{Compiler, DeclaredObject, FrameBase, FrameFunction, FrameVariable};
 use crate::types::{TypeSize, UnitTypes};
 use debug_info::{
     Abbreviation, Abbreviations, AddressRange, AttributeValue, Budget, CompilationUnit,
@@ -79,8 +79,8 @@ struct UnitScope<'t, 'a> {
     types: UnitTypes<'t, 'a>,
     /// Where its lines are in `.debug_line`.
     lines: Option<u64>,
-    /// Whether gcc wrote it, which says of a function without calls that all have entries.
-    is_of_gcc: bool,
+    /// What wrote it: gcc says of a function without calls that all have entries.
+    compiler: Compiler,
 }
 
 /// A search through `.debug_info`.
@@ -157,7 +157,7 @@ impl VariableSearch {
                 scope,
                 types: UnitTypes { unit: *unit, table },
                 lines: first.lines.offset(),
-                is_of_gcc: producer.starts_with(b"GNU "),
+                compiler: compiler_of(producer),
             };
             self.search_entries(&scope, entries)?;
         }
@@ -251,7 +251,8 @@ impl VariableSearch {
     ) -> Result<(), AllocError> {
         match abbreviation.tag {
             FUNCTION => {
-                self.is_optimized = self.is_optimized || (entry.has_all_calls && !scope.is_of_gcc);
+                self.is_optimized = self.is_optimized
+                    || (entry.has_all_calls && scope.compiler != Compiler::Gcc);
                 let of = self.enter_function(scope, entry)?;
                 self.open(abbreviation, depth, of)
             }
@@ -437,6 +438,7 @@ impl<'t, 'a> UnitScope<'t, 'a> {
             high: range.end,
             base: base_of(expression)?,
             is_optimized: false,
+            compiler: self.compiler,
             first: 0,
             count: 0,
         })
@@ -523,6 +525,20 @@ fn base_of(expression: &[u8]) -> Option<FrameBase> {
         [REGISTER_29] => Some(FrameBase::FramePointer),
         [REGISTER_31] => Some(FrameBase::StackPointer),
         _ => None,
+    }
+}
+
+/// The compiler of a producer's words.
+fn compiler_of(producer: &[u8]) -> Compiler {
+    if producer.starts_with(b"GNU ") {
+        Compiler::Gcc
+    } else if producer
+        .windows(14)
+        .any(|word| word.starts_with(b"clang version "))
+    {
+        Compiler::Clang
+    } else {
+        Compiler::Other
     }
 }
 

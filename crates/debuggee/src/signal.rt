@@ -45,6 +45,9 @@ impl Signal {
             Violation::Undefined(_) | Violation::Arithmetic(_) => {
                 Signal::new(6, SENT_BY_ITSELF, 0)
             }
+            Violation::Argument(fault) if fault.place().is_none() => {
+                Signal::new(6, SENT_BY_ITSELF, 0)
+            }
             violation if violation.is_free() => Signal::new(6, SENT_BY_ITSELF, 0),
             _ => Signal::new(11, 3, with_tag(wrong.addr, tag_of(wrong.span.addr) % 16)),
         }

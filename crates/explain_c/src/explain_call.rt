@@ -1,6 +1,6 @@
 //! The export that tells why a tenant ended.
 
-ghost use Rattle.std.specs.Prelude.{◌≡◌, length};
+ghost use Rattle.std.specs.Prelude.{◌≡◌, drop, length};
 
 use crate::answer::Answer;
 use crate::explaining::{Question, explain};
@@ -66,6 +66,7 @@ pub extern "C" fn tb_explain(
 ) -> u32
     ensures code { result ≡ end.new.code }
     ensures room { length answer.new ≡ length answer.old }
+    ensures behind { drop end.new.length answer.new ≡ drop end.new.length answer.old }
 {
     *end = match told(alloc, question) {
         Ok(told) => copied(&told, answer),
@@ -82,6 +83,7 @@ pub extern "C" fn tb_explain(
 /// Copies as much of an answer as the buffer holds.
 fn copied(told: &Answer, answer: &mut [u8]) -> ExplainEnd
     ensures room { length answer.new ≡ length answer.old }
+    ensures behind { drop result.length answer.new ≡ drop result.length answer.old }
 {
     let bytes = told.text.as_slice();
     let count = bytes.len().min(answer.len());

@@ -2,6 +2,7 @@
 
 use crate::answer::Answer;
 use crate::form::AnswerForm;
+use command_run::{EndedRun, MapTitle, RunAccount, failure_of, lost_chunks, reserved_pages};
 use common::Obstacle;
 use mte_backtrace::Names;
 use mte_flat::Flat;
@@ -9,7 +10,6 @@ use mte_report::PictureForm;
 use mte_svc::TenantParts;
 use report_documents::Document;
 use run_cause::CheckTerms;
-use run_explanation::{EndedRun, MapTitle, RunAccount, failure_of, lost_chunks, reserved_pages};
 use run_terms::{Failure, Options, Suppressions};
 use std::alloc::Global;
 use std::io;

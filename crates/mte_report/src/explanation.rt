@@ -108,8 +108,8 @@ impl<'a> Report<'a> {
                 self.push_entry(alloc, frames, entry)?;
             }
         }
-        match cause.frame() {
-            Some(pc) => frames.push_instruction(pc),
+        match cause.instruction() {
+            Some((pc, _)) => frames.push_instruction(pc),
             None => Ok(()),
         }
     }

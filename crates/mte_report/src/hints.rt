@@ -5,11 +5,9 @@ use circular_buffer::HeapCircularBuffer;
 use mte_backtrace::FrameNames;
 use run_cause::{Cause, CauseKind, LastStore, TargetLoad, branch_in};
 use run_records::{BookEntry, EntryText, Instruction, Moment};
+use scudo_heap::{HeapCall, MAX_REQUEST};
 use std::io;
 use std::io::Write;
-
-/// The most bytes of a chunk.
-const MOST: u64 = 1_048_576;
 
 impl<'a> Context<'a> {
     /// Writes what led to a null pointer or to a jump to no code, as far as it is known.
@@ -85,11 +83,22 @@ fn tell_load<W: Write>(out: &mut W, load: TargetLoad) -> io::Result<()> {
 /// Writes a call that returned no chunk, and why.
 fn tell_refused<W: Write>(out: &mut W, entry: &BookEntry) -> io::Result<()> {
     let call = EntryText(entry);
-    let (first, second) = entry.call.call.arguments();
-    let why = if first.max(second) > MOST {
+    let why = if requested_bytes(entry.call.call) > MAX_REQUEST {
         "a chunk has at most 1,048,576 bytes"
     } else {
         "too few pages were left, or the request was none that can be met"
     };
     writeln!(out, "  the newest call without a chunk is {call}: {why}")
+}
+
+/// The bytes of the chunk that a call asks for, 2^64 - 1 where they are more; 0 where it asks for
+/// none.
+pub fn requested_bytes(call: HeapCall) -> u64 {
+    match call {
+        HeapCall::Malloc { size }
+        | HeapCall::Realloc { size, .. }
+        | HeapCall::Memalign { size, .. } => size,
+        HeapCall::Calloc { count, size } => count.saturating_mul(size),
+        HeapCall::Free { .. } | HeapCall::UsableSize { .. } => 0,
+    }
 }

@@ -15,5 +15,6 @@ mod story;
 pub use context::Context;
 pub use explanation::Explanation;
 pub use findings::FindingList;
+pub use hints::requested_bytes;
 pub use report::Report;
 pub use tenant_map::PictureForm;

@@ -128,12 +128,12 @@ impl<'a> Context<'a> {
         }
     }
 
-    /// Writes which instruction moved SP to the place on the stack that a cause names.
+    /// Writes which instruction made the place or the chunk that a cause names.
     fn tell_frame<W: Write>(&self, out: &mut W, cause: &Cause) -> io::Result<()> {
-        match cause.frame() {
-            Some(pc) => {
+        match cause.instruction() {
+            Some((pc, act)) => {
                 let frame = self.names.instruction(pc);
-                writeln!(out, "  SP was moved there by {frame}")
+                writeln!(out, "  {act} {frame}")
             }
             None => Ok(()),
         }

@@ -1,9 +1,10 @@
 //! `mte_run [OPTIONS] ELF`: runs one tenant alone, and says why it ended, or lets GDB debug it.
 #![tactic(auto)]
 
-use command_run::{debug_program, run_alone, run_replay};
+use command_run::{
+    RunRequest, debug_program, read_files, read_suppressions, run_alone, run_replay,
+};
 use run_options::{EarlyEnd, read_command_line};
-use run_request::{RunRequest, read_files, read_suppressions};
 use run_terms::{Failure, Options, report};
 use std::process::ExitCode;
 

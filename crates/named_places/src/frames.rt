@@ -21,14 +21,29 @@ pub(crate) struct CalledFrame {
     pub(crate) entry: u64,
     /// The newest of its places.
     pub(crate) first: Option<usize>,
+    /// How many calls came before it.
+    serial: u64,
+    /// Whether its function may be one that ends an object of its caller, as a destructor.
+    is_cleanup: bool,
     /// The marks of its caller's registers.
     marks: RegisterMarks,
+}
+
+/// A frame that is known again as long as it is among those that run.
+#[derive(Clone, Copy)]
+pub(crate) struct FrameNumber {
+    /// How many frames were below it.
+    pub(crate) depth: usize,
+    /// How many calls came before it.
+    serial: u64,
 }
 
 /// The frames, the oldest first.
 #[derive(Drop)]
 pub(crate) struct FrameStack {
     frames: Vec<CalledFrame>,
+    /// How many calls there were.
+    calls: u64,
 }
 
 impl FrameStack {
@@ -36,6 +51,7 @@ impl FrameStack {
     pub(crate) fn new(alloc: Global) -> FrameStack {
         FrameStack {
             frames: Vec::new(alloc),
+            calls: 0,
         }
     }
 
@@ -44,12 +60,45 @@ impl FrameStack {
         self.frames.last()
     }
 
+    /// The number of the frame of the function that was called last.
+    pub(crate) fn top_number(&self) -> Option<FrameNumber> {
+        Some(FrameNumber {
+            depth: self.frames.len().checked_sub(1)?,
+            serial: self.top()?.serial,
+        })
+    }
+
+    /// Whether a frame is still among those that run.
+    #[inline(always)]
+    pub(crate) fn has(&self, number: &FrameNumber) -> bool {
+        match self.frames.get(number.depth) {
+            Some(frame) => frame.serial == number.serial,
+            None => false,
+        }
+    }
+
+    /// Where the function of the frame at a depth is: at its call of another, or at the counter.
+    #[inline(always)]
+    pub(crate) fn counter_of(&self, depth: usize, pc: u64) -> u64 {
+        match self.frames.get(depth.saturating_add(1)) {
+            Some(called) => called.return_address.wrapping_sub(4),
+            None => pc,
+        }
+    }
+
+    /// Whether the function at a depth may be one that ends an object of its caller, if there is
+    /// one.
+    pub(crate) fn is_cleanup(&self, depth: usize) -> Option<bool> {
+        Some(self.frames.get(depth)?.is_cleanup)
+    }
+
     /// Enters a call. Of too many calls in one another none is known any more.
     pub(crate) fn call(
         &mut self,
         return_address: u64,
         sp: u64,
         entry: u64,
+        is_cleanup: bool,
         marks: RegisterMarks,
     ) -> Result<(), AllocError> {
         if self.frames.len() >= MOST {
@@ -60,8 +109,11 @@ impl FrameStack {
             sp,
             entry,
             first: None,
+            serial: self.calls,
+            is_cleanup,
             marks,
         })?;
+        self.calls = self.calls.wrapping_add(1);
         Ok(())
     }
 

@@ -20,6 +20,8 @@ pub enum PlaceMisuseKind {
     Underflow,
     /// An access to the frame of a function that has returned.
     AfterReturn,
+    /// An access to a variable whose block has ended.
+    AfterScope,
     /// A free of what no heap call returned.
     Free,
 }
@@ -46,6 +48,8 @@ struct Strictness {
     is_below: bool,
     /// Whether what falls into another variable is not told.
     is_lenient: bool,
+    /// Whether the variable's block has ended.
+    is_past: bool,
 }
 
 impl NamedPlaces {
@@ -88,6 +92,7 @@ impl NamedPlaces {
             is_above: (is_exact && !is_shared) || is_above,
             is_below: is_exact && !is_shared && self.is_below(index, is_indexed && is_fresh),
             is_lenient: !is_exact && is_own,
+            is_past: self.is_past_block(index, at.pc, base),
         }
     }
 
@@ -125,6 +130,9 @@ impl NamedPlaces {
             let is_there = place.has(addr);
             return misuse_if(is_there, PlaceMisuseKind::AfterReturn, addr, access, &text);
         }
+        if strictness.is_past && place.has(addr) {
+            return misuse_if(true, PlaceMisuseKind::AfterScope, addr, access, &text);
+        }
         if !matches!(text.kind, PlaceKind::Object | PlaceKind::Variable) {
             return None;
         }
@@ -145,13 +153,15 @@ impl NamedPlaces {
 }
 
 impl NamedPlaces {
-    /// The misuse by a service that accesses bytes by the pointer in x0.
+    /// The misuse by a service that accesses bytes by the pointer in x0, requested at an address.
     pub fn judge_service(
         &self,
         bytes: AccessedBytes,
         origin: PointerOrigin,
+        pc: u64,
     ) -> Option<PlaceMisuse> {
-        let place = self.table.get(origin.place()?)?;
+        let index = origin.place()?;
+        let place = self.table.get(index)?;
         if bytes.count == 0 {
             return None;
         }
@@ -159,6 +169,7 @@ impl NamedPlaces {
             is_above: true,
             is_below: place.is_exact && place.before == Neighbor::Nothing,
             is_lenient: false,
+            is_past: self.is_past_block(index, pc, 0),
         };
         self.judge_bytes(place, bytes, strictness)
     }

@@ -11,6 +11,7 @@ mod notes;
 mod place;
 mod places;
 mod quick;
+mod scope;
 mod selection;
 mod table;
 

@@ -20,6 +20,10 @@ const RELOADED: u8 = 4;
 /// It is as it was when the function was called that runs.
 const PASSED: u8 = 8;
 
+/// It was loaded from a variable, or from what is not of the frame of the function that runs, and
+/// its variable is one of a block.
+const VARIABLE: u8 = 16;
+
 /// Of each register, how the pointer in it was made, which is of a place that has a name. None is
 /// both fresh and reloaded.
 #[derive(Clone, Copy)]
@@ -67,6 +71,19 @@ impl RegisterMarks {
         self.of(n) & PASSED != 0
     }
 
+    /// Whether a register was loaded from a variable, so that what is done by it is written in the
+    /// source: compilers keep a pointer that they made themselves in places without a name.
+    #[inline(always)]
+    pub(crate) fn is_of_variable(&self, n: u8) -> bool {
+        self.of(n) & VARIABLE != 0
+    }
+
+    /// Enters that a register was loaded from a variable.
+    pub(crate) fn load_variable(&mut self, n: u8) {
+        let marks = self.of(n);
+        self.set(n, marks | VARIABLE);
+    }
+
     /// Enters that a register was made of SP or the counter by constants.
     pub(crate) fn make(&mut self, n: u8) {
         self.set(n, FRESH);
@@ -107,7 +124,7 @@ impl RegisterMarks {
         } else {
             both & RELOADED
         };
-        self.set(n, made | MOVED);
+        self.set(n, made | MOVED | both & VARIABLE);
     }
 
     /// Enters a call: what is in registers is passed.
@@ -117,12 +134,13 @@ impl RegisterMarks {
         }
     }
 
-    /// Enters a return, by the marks at the call.
+    /// Enters a return, by the marks at the call. What it returns is as what a variable has.
     pub(crate) fn return_back(&mut self, caller: &RegisterMarks) {
         let mut marks = *caller;
         for n in CHANGED {
             marks.set(n, self.of(n) & MOVED);
         }
+        marks.load_variable(0);
         *self = marks;
     }
 }

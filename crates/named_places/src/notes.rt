@@ -93,9 +93,10 @@ impl NamedPlaces {
 
     /// Notes a call, by the registers after it.
     pub fn note_call(&mut self, after: &Regs) -> Result<(), AllocError> {
-        let marks = self.marks;
+        let (marks, is_cleanup) = (self.marks, self.is_cleanup(after));
+        let (back, sp, entry) = (plain(after.x[30]), plain(after.sp), plain(after.pc));
         self.marks.call();
-        self.frames.call(plain(after.x[30]), plain(after.sp), plain(after.pc), marks)
+        self.frames.call(back, sp, entry, is_cleanup, marks)
     }
 
     /// Notes a return.
@@ -336,9 +337,12 @@ impl NamedPlaces {
             self.note_write_back(at, shadow, form.base, is_pre_indexed)?;
         }
         if !form.is_write() {
+            let addr = form.addr(step.before);
             self.note_loaded(form.first, form.base);
+            self.note_source(at, shadow, form.first, addr);
             if let Some(second) = form.second {
                 self.note_loaded(second, form.base);
+                self.note_source(at, shadow, second, addr.wrapping_add(u64::from(form.bytes)));
             }
         }
         Ok(())

@@ -1,6 +1,7 @@
 //! A place that has a name: a variable, or the frame of a function.
 
-use debug_variables::{Declaration, FrameBases, Neighbor, VariableName};
+use crate::frames::FrameNumber;
+use debug_variables::{Declaration, FrameBases, LexicalBlock, Neighbor, VariableName};
 use std::fmt;
 
 /// The kind of a place.
@@ -62,6 +63,13 @@ pub(crate) const NO_BASES: FrameBases = FrameBases {
     stack_pointer: 0,
 };
 
+/// The block that a variable lives in, of a frame.
+#[derive(Clone, Copy)]
+pub(crate) struct PlaceScope {
+    pub(crate) block: LexicalBlock,
+    pub(crate) frame: FrameNumber,
+}
+
 /// A place, and what is known of the pointers to it.
 #[derive(Clone, Copy)]
 pub(crate) struct NamedPlace {
@@ -80,6 +88,8 @@ pub(crate) struct NamedPlace {
     pub(crate) bases: FrameBases,
     /// The variables that end where it begins.
     pub(crate) before: Neighbor,
+    /// The block that it lives in, where it is not there as long as its frame.
+    pub(crate) scope: Option<PlaceScope>,
     /// The next place of its frame.
     pub(crate) next: Option<usize>,
 }

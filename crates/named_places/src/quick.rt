@@ -14,23 +14,23 @@ impl NamedPlaces {
     /// Whether a load or a store by a pointer, at an address with its tag, is no misuse. It may be
     /// none where this says no.
     #[inline(always)]
-    pub fn allows(&self, used: &RegisterUse, origin: PointerOrigin, addr: u64) -> bool {
+    pub fn allows(&self, used: &RegisterUse, origin: PointerOrigin, addr: u64, pc: u64) -> bool {
         match origin.place() {
-            Some(index) => self.allows_at(index, plain(addr), used.len()),
+            Some(index) => self.allows_at(index, plain(addr), used.len(), pc),
             None => true,
         }
     }
 
     /// Whether an access to bytes from a plain address on by a pointer to a place is no misuse.
     #[inline(always)]
-    fn allows_at(&self, index: usize, addr: u64, bytes: u64) -> bool {
+    fn allows_at(&self, index: usize, addr: u64, bytes: u64, pc: u64) -> bool {
         let Some(place) = self.table.get(index) else {
             return true;
         };
         let text = &place.text;
         let has_bounds = matches!(text.kind, PlaceKind::Object | PlaceKind::Variable);
         let is_within = text.start <= addr && addr.saturating_add(bytes) <= place.limit;
-        place.is_live && (is_within || !has_bounds)
+        place.is_live && (is_within || !has_bounds) && self.has_block(place, pc)
     }
 
     /// Notes an instruction on registers that leaves no pointer where it writes.
@@ -79,13 +79,14 @@ impl NamedPlaces {
         self.note_address(shadow, is_page, used.first, after);
     }
 
-    /// Notes a load or a store, which was noted of the pointers.
+    /// Notes a load or a store at an address, which was noted of the pointers.
     #[inline(always)]
     pub fn note_followed_access(
         &mut self,
         used: &RegisterUse,
         at: &NotedInstruction<'_>,
         shadow: &mut Shadow,
+        addr: u64,
     ) -> Result<(), AllocError> {
         if used.source != ValueSource::Other && used.base < 31 {
             let is_pre_indexed = used.source == ValueSource::PreIndexed;
@@ -93,8 +94,11 @@ impl NamedPlaces {
         }
         if used.class == InstructionClass::Load {
             self.note_loaded(used.first, used.base);
+            self.note_source(at, shadow, used.first, addr);
             if used.is_pair() {
+                let next = addr.wrapping_add(u64::from(used.bytes));
                 self.note_loaded(used.second, used.base);
+                self.note_source(at, shadow, used.second, next);
             }
         }
         Ok(())

@@ -126,6 +126,7 @@ impl NamedPlaces {
             is_marked: false,
             bases: NO_BASES,
             before: Neighbor::Nothing,
+            scope: None,
             next: frame.first,
         }
     }
@@ -153,6 +154,7 @@ impl NamedPlaces {
             is_marked: false,
             bases: *bases,
             before: self.variables.neighbor(function, bases, placed.start),
+            scope: self.scope_of(function, &placed),
             next: frame.first,
         })
     }
@@ -189,7 +191,7 @@ impl NamedPlaces {
     }
 
     /// Whether a place is one of a frame of the function at an address.
-    fn is_of_function(&self, pc: u64, index: usize) -> bool {
+    pub(crate) fn is_of_function(&self, pc: u64, index: usize) -> bool {
         let Some(function) = self.function_at(pc) else {
             return false;
         };

@@ -152,6 +152,7 @@ fn fixed_place(text: PlaceText) -> NamedPlace {
         is_marked: false,
         bases: NO_BASES,
         before: Neighbor::Nothing,
+        scope: None,
         next: None,
     }
 }

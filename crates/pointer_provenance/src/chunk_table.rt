@@ -1,18 +1,32 @@
 //! The chunks that pointers point into.
 
 use a64_bits::plain;
-use shadow_memory::HeapFunction;
+use shadow_memory::{HeapFunction, PointerOrigin};
 use std::alloc::{AllocError, Global};
+
+/// What made a chunk.
+#[derive(Clone, Copy, PartialEq, Eq)]
+pub enum ChunkSource {
+    /// The heap call with a number, from 1.
+    Call(u64),
+    /// The program, of memory that it hands out itself, by the instruction at an address.
+    Program(u64),
+    /// The program, by the instruction at an address, which forbids all accesses.
+    Forbidden(u64),
+}
 
 /// A chunk, live or freed.
 #[derive(Clone, Copy, PartialEq, Eq)]
 pub struct TracedChunk {
-    /// The number of the heap call that made it, from 1.
-    pub number: u64,
-    /// The pointer that the call returned.
+    /// What made it.
+    pub source: ChunkSource,
+    /// The pointer that the call returned, or that the program handed out.
     pub pointer: u64,
     /// The bytes that were asked for.
     pub size: u32,
+    /// Where the pointer pointed of which the program made it: to a chunk of a call, or nothing
+    /// is known of it.
+    pub(crate) outer: PointerOrigin,
     /// Whether it was not freed.
     pub is_live: bool,
     /// For which function it was made, where that is known.
@@ -20,6 +34,42 @@ pub struct TracedChunk {
 }
 
 impl TracedChunk {
+    /// The number of the heap call that made it, if one did.
+    pub fn call(&self) -> Option<u64> {
+        match self.source {
+            ChunkSource::Call(number) => Some(number),
+            ChunkSource::Program(_) | ChunkSource::Forbidden(_) => None,
+        }
+    }
+
+    /// Whether the program made it.
+    pub(crate) fn is_own(&self) -> bool {
+        self.call().is_none()
+    }
+
+    /// Whether the program forbids all accesses to it.
+    pub(crate) fn is_forbidden(&self) -> bool {
+        matches!(self.source, ChunkSource::Forbidden(_))
+    }
+
+    /// The same, freed: by what the program says at an address, or with the chunk that it is in.
+    pub(crate) fn freed_by(self, request: Option<u64>) -> TracedChunk {
+        let source = match request {
+            Some(pc) if self.is_live => ChunkSource::Forbidden(pc),
+            _ => self.source,
+        };
+        TracedChunk {
+            source,
+            is_live: false,
+            ..self
+        }
+    }
+
+    /// Whether it has one of some bytes from a plain address on.
+    pub(crate) fn overlaps(&self, addr: u64, bytes: u64) -> bool {
+        addr < self.end() && self.start() < addr.saturating_add(bytes)
+    }
+
     /// Its first plain address.
     pub fn start(&self) -> u64 {
         plain(self.pointer)
@@ -42,7 +92,7 @@ impl TracedChunk {
 }
 
 /// The most chunks that are kept: as many as 16 MiB of pages have blocks, and a quarter more that
-/// were freed. A chunk takes 24 bytes.
+/// were freed. A chunk takes 40 bytes.
 const MOST_CHUNKS: usize = 655_360;
 
 /// How many chunks there are before those are looked for that nothing points into.
@@ -107,6 +157,17 @@ impl ChunkTable {
     pub fn replace(&mut self, index: usize, chunk: TracedChunk) {
         if let Some(place) = self.chunks.get_mut(index) {
             *place = chunk;
+        }
+    }
+
+    /// Marks the chunks of calls of which the program made one that is live or marked.
+    pub(crate) fn mark_outer(&self, marks: &mut [bool]) {
+        for (index, chunk) in self.chunks.iter().enumerate() {
+            if chunk.is_live || marks.get(index) == Some(&true) {
+                if let Some(place) = chunk.outer.chunk().and_then(|outer| marks.get_mut(outer)) {
+                    *place = true;
+                }
+            }
         }
     }
 

@@ -1,6 +1,6 @@
 //! The effect of services on chunks and pointers.
 
-use crate::chunk_table::TracedChunk;
+use crate::chunk_table::{ChunkSource, TracedChunk};
 use crate::quick::NearChunks;
 use crate::shadow::Shadow;
 use a64_bits::plain;
@@ -40,9 +40,10 @@ impl Shadow {
         let made = match change.made {
             Some((pointer, size)) => {
                 let chunk = TracedChunk {
-                    number: change.number,
+                    source: ChunkSource::Call(change.number),
                     pointer,
                     size: u32::try_from(size).unwrap_or(u32::MAX),
+                    outer: PointerOrigin::UNKNOWN,
                     is_live: true,
                     maker: None,
                 };
@@ -50,9 +51,10 @@ impl Shadow {
             }
             None => PointerOrigin::UNKNOWN,
         };
-        if let Some((index, _)) = old {
+        if let Some((index, chunk)) = old {
             if made.chunk() != Some(index) {
                 self.chunks.free(index);
+                self.free_own(chunk.start(), chunk.end(), None);
             }
         }
         self.set(0, Provenance::whole(made), after);
@@ -82,9 +84,9 @@ impl Shadow {
         Some(chunk)
     }
 
-    /// The live chunk that begins at a plain address, with its index.
+    /// The live chunk of a call that begins at a plain address, with its index.
     fn live_at(&self, start: u64) -> Option<(usize, TracedChunk)> {
-        let index = self.memory.owner(start).chunk()?;
+        let index = self.outer(self.memory.owner(start)).chunk()?;
         match self.chunks.get(index) {
             Some(chunk) if chunk.is_live && chunk.start() == start => Some((index, *chunk)),
             _ => None,
@@ -109,15 +111,21 @@ impl Shadow {
         }
     }
 
+    /// Makes a place in the table of chunks.
+    pub(crate) fn make_place(&mut self) -> Result<(), Full> {
+        if self.chunks.is_full() && !self.give_up_chunks()? {
+            return Err(Full::Chunks);
+        }
+        Ok(())
+    }
+
     /// Enters a new chunk, with the pointers that were copied into it from an old one.
-    fn note_new(
+    pub(crate) fn note_new(
         &mut self,
         chunk: TracedChunk,
         old: Option<(usize, TracedChunk)>,
     ) -> Result<PointerOrigin, Full> {
-        if self.chunks.is_full() && !self.give_up_chunks()? {
-            return Err(Full::Chunks);
-        }
+        self.make_place()?;
         let origin = PointerOrigin::of_chunk(self.chunks.enter(chunk)?);
         self.memory.set_owner(chunk.start(), chunk.end(), origin)?;
         self.memory.clear(chunk.start(), u64::from(chunk.size));

@@ -31,6 +31,8 @@ pub enum MisuseKind {
     MismatchedFree,
     /// A free by an operator of C++ that is told another size than the chunk was made with.
     MismatchedSize,
+    /// An access to bytes that the program forbids.
+    Forbidden,
 }
 
 /// A use of a pointer that its chunk does not allow.
@@ -125,7 +127,7 @@ impl Shadow {
     /// The misuse of the pointer in x0, which a heap call is to free or to give another size,
     /// made for a function of C or C++, where it is known for which.
     pub fn judge_free(&self, pointer: u64, function: Option<FreeingFunction>) -> Option<Misuse> {
-        let chunk = *self.chunk(self.pointer(0))?;
+        let chunk = *self.chunk(self.outer(self.pointer(0)))?;
         let kind = if !chunk.is_live {
             MisuseKind::DoubleFree
         } else if plain(pointer) != chunk.start() {
@@ -158,6 +160,15 @@ impl Shadow {
         origin: PointerOrigin,
         access: AccessedBytes,
     ) -> Option<Misuse> {
+        let found = self.judge_by_origin(origin, access);
+        if found.is_none() && self.has_own {
+            return self.judge_forbidden(access);
+        }
+        found
+    }
+
+    /// The misuse by an access through a pointer to a chunk, or by its address.
+    fn judge_by_origin(&self, origin: PointerOrigin, access: AccessedBytes) -> Option<Misuse> {
         match origin.kind() {
             OriginKind::Stack | OriginKind::Place(_) => None,
             OriginKind::Chunk(index) => {
@@ -178,7 +189,7 @@ impl Shadow {
         if !is_in_heap(addr) {
             return None;
         }
-        match self.chunk(self.memory.owner(addr)) {
+        match self.chunk(self.outer(self.memory.owner(addr))) {
             Some(chunk) => judge_in(*chunk, access, true),
             None => Some(Misuse {
                 kind: MisuseKind::NoChunk,

@@ -11,10 +11,11 @@ mod judgement;
 mod quick;
 mod reach;
 mod register_rules;
+mod requests;
 mod shadow;
 
 pub use arguments::{ArgumentFault, ArgumentFaultKind, CopiedRange};
-pub use chunk_table::TracedChunk;
+pub use chunk_table::{ChunkSource, TracedChunk};
 pub use heap_calls::ChunkChange;
 pub use judgement::{Misuse, MisuseKind};
 pub use reach::{LostChunk, Reach, ReachTable, RootRange};

@@ -128,7 +128,10 @@ impl Shadow {
             return false;
         }
         let first = plain(addr);
-        if self.near.holds(origin, first, used.len()) || !origin.is_known() && !is_in_heap(first) {
+        if self.near.holds(origin, first, used.len()) {
+            return false;
+        }
+        if !origin.is_known() && !is_in_heap(first) && !self.has_own {
             return false;
         }
         self.may_misuse_far(used, origin, addr)
@@ -150,7 +153,7 @@ impl Shadow {
             return true;
         }
         if let Some(chunk) = self.chunk(origin) {
-            if chunk.is_live {
+            if chunk.is_live && !self.has_own {
                 let start = chunk.start();
                 let len = chunk.end().saturating_sub(start);
                 self.near.enter(NearChunk { origin, start, len });

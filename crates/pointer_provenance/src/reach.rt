@@ -93,7 +93,7 @@ impl ReachTable {
             root: None,
             is_cycle: false,
         };
-        table.enter_stack(shadow);
+        table.enter_stack(shadow)?;
         table.enter_registers(shadow, regs)?;
         for range in roots {
             table.scan(shadow, range, Reach::Reachable, memory)?;
@@ -155,9 +155,12 @@ impl ReachTable {
             if matches!(state, Reach::Nothing | Reach::Reachable) {
                 continue;
             }
-            if let Some(chunk) = shadow.chunks.get(index) {
+            let Some(chunk) = shadow.chunks.get(index) else {
+                continue;
+            };
+            if let Some(number) = chunk.call() {
                 lost.push(LostChunk {
-                    number: chunk.number,
+                    number,
                     size: u64::from(chunk.size),
                     is_indirect: *state == Reach::IndirectlyLost,
                     is_in_cycle: *state == Reach::LostInCycle,
@@ -169,7 +172,8 @@ impl ReachTable {
 
     /// Whether a chunk is live and nothing was found that points into it.
     fn is_unreached(&self, shadow: &Shadow, index: usize) -> bool {
-        let is_live = shadow.chunks.get(index).is_some_and(|chunk| chunk.is_live);
+        let chunk = shadow.chunks.get(index);
+        let is_live = chunk.is_some_and(|chunk| chunk.is_live && !chunk.is_own());
         is_live && self.states.get(index) == Some(&Reach::Nothing)
     }
 
@@ -182,14 +186,19 @@ impl ReachTable {
         Ok(())
     }
 
-    /// Enters the chunk that the stack is in, if it is in one, so that its words do not wait.
-    fn enter_stack(&mut self, shadow: &Shadow) {
+    /// Enters the chunk that the stack is in, if it is in one, so that its words do not wait; all
+    /// words of the chunk that the program made it of do.
+    fn enter_stack(&mut self, shadow: &Shadow) -> Result<(), AllocError> {
         let Some(index) = shadow.stack else {
-            return;
+            return Ok(());
         };
         if let Some(state) = self.states.get_mut(index) {
             *state = Reach::Reachable;
         }
+        if shadow.chunks.get(index).is_some_and(|chunk| chunk.is_own()) {
+            return self.enter_chunk(shadow, index, Reach::Reachable);
+        }
+        Ok(())
     }
 
     /// Enters that a chunk is lost, and those that it leads to. No other that is lost leads to it,
@@ -269,7 +278,7 @@ impl ReachTable {
             OriginKind::Chunk(index) => self.enter_chunk(shadow, index, reach),
             OriginKind::Sum(index) => self.enter_sum(shadow, index, reach),
             OriginKind::Unknown | OriginKind::Stack | OriginKind::Place(_) => {
-                match shadow.by_value(number).chunk() {
+                match shadow.around(number).chunk() {
                     Some(index) => self.enter_chunk(shadow, index, reach),
                     None => Ok(()),
                 }
@@ -290,13 +299,17 @@ impl ReachTable {
         Ok(())
     }
 
-    /// Enters that a chunk is reached, where it is live and was not.
+    /// Enters that a chunk is reached, where it is live and was not; of one that the program made,
+    /// that the chunk is of which it did.
     fn enter_chunk(
         &mut self,
         shadow: &Shadow,
-        index: usize,
+        pointed: usize,
         reach: Reach,
     ) -> Result<(), AllocError> {
+        let Some(index) = shadow.outer(PointerOrigin::of_chunk(pointed)).chunk() else {
+            return Ok(());
+        };
         let is_live = shadow.chunks.get(index).is_some_and(|chunk| chunk.is_live);
         let Some(state) = self.states.get_mut(index) else {
             return Ok(());

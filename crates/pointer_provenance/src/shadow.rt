@@ -43,6 +43,8 @@ pub struct Shadow {
     pub(crate) memory: MemoryShadow,
     pub(crate) chunks: ChunkTable,
     pub(crate) sums: PointerSums,
+    /// Whether the program said something of memory that it hands out itself.
+    pub(crate) has_own: bool,
     /// The chunk that the stack is in, where SP was moved into one.
     pub(crate) stack: Option<usize>,
 }
@@ -58,6 +60,7 @@ impl Shadow {
             memory: MemoryShadow::new(alloc)?,
             chunks: ChunkTable::new(alloc),
             sums: PointerSums::new(alloc),
+            has_own: false,
             stack: None,
         })
     }
@@ -154,15 +157,36 @@ impl Shadow {
         self.sums.combine(one, other, sign)
     }
 
-    /// The chunk that a number points into, if it is a pointer to a live one with the chunk's tag.
+    /// The chunk of a call that a number points into, if it is a pointer to a live one with the
+    /// chunk's tag, and to none that the program made in it.
     pub(crate) fn by_value(&self, number: u64) -> PointerOrigin {
+        self.pointed(self.owner_of(number), number)
+    }
+
+    /// The same, also to one that the program made in it.
+    pub(crate) fn around(&self, number: u64) -> PointerOrigin {
+        self.pointed(self.outer(self.owner_of(number)), number)
+    }
+
+    /// The newest chunk at the address that a number is, in the heap.
+    fn owner_of(&self, number: u64) -> PointerOrigin {
         let addr = plain(number);
         if !is_in_heap(addr) || number >= 1 << 60 {
             return PointerOrigin::UNKNOWN;
         }
-        let owner = self.memory.owner(addr);
+        self.memory.owner(addr)
+    }
+
+    /// A chunk, if it is a live one of a call and has the tag of a number.
+    fn pointed(&self, owner: PointerOrigin, number: u64) -> PointerOrigin {
         match self.chunk(owner) {
-            Some(chunk) if chunk.is_live && tag_of(chunk.pointer) == tag_of(number) => owner,
+            Some(chunk) if chunk.is_live && tag_of(chunk.pointer) == tag_of(number) => {
+                if chunk.is_own() {
+                    PointerOrigin::UNKNOWN
+                } else {
+                    owner
+                }
+            }
             _ => PointerOrigin::UNKNOWN,
         }
     }
@@ -189,6 +213,9 @@ impl Shadow {
     pub(crate) fn give_up_chunks(&mut self) -> Result<bool, AllocError> {
         let mut marks = vec![in self.alloc; false; self.chunks.len()]?;
         self.mark(Pointed::Chunks, marks.as_mut_slice());
+        if self.has_own {
+            self.chunks.mark_outer(marks.as_mut_slice());
+        }
         self.chunks.give_up(marks.as_slice())
     }
 

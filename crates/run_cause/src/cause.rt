@@ -11,7 +11,9 @@ use heap_bounds::{Block, Trespass};
 use mte_svc::{FREE, Record, Status};
 use mte_tags::{FaultKind, MemFault, tag_of};
 use named_places::{PlaceKind, PlaceMisuse, PlaceMisuseKind, PlaceText};
-use pointer_provenance::{ArgumentFault, ArgumentFaultKind, Misuse, MisuseKind};
+use pointer_provenance::{
+    ArgumentFault, ArgumentFaultKind, ChunkSource, Misuse, MisuseKind, TracedChunk,
+};
 use run_records::{Book, BookChunk, BookEntry, Bytes, ChunkQuery};
 use scudo_heap::HeapCall;
 use shadow_memory::{FreeingFunction, HeapFunction};
@@ -48,6 +50,10 @@ enum CauseDetail {
     Functions(HeapFunction, FreeingFunction),
     /// The address of the instruction that moved SP to the place on the stack.
     Frame(u64),
+    /// A chunk that the program made of its own memory.
+    OwnChunk(TracedChunk),
+    /// The same, by the address of the instruction that said so.
+    OwnPart(u64),
     /// The operation whose operands give it no result.
     Operation(ArithmeticFault),
     /// The arguments that a function does not allow.
@@ -168,6 +174,7 @@ impl Cause {
             PlaceMisuseKind::Underflow if is_global => CauseKind::GlobalUnderflow,
             PlaceMisuseKind::Underflow => CauseKind::LocalUnderflow,
             PlaceMisuseKind::AfterReturn => CauseKind::AfterReturn,
+            PlaceMisuseKind::AfterScope => CauseKind::AfterScope,
             PlaceMisuseKind::Free => CauseKind::PlaceFreed,
         };
         let distance = match misuse.kind {
@@ -202,6 +209,12 @@ impl Cause {
                 None => CauseDetail::Nothing,
             },
             UndefinedPlace::Frame(pc) => CauseDetail::Frame(pc),
+            UndefinedPlace::OwnChunk(pc) => {
+                return Cause {
+                    detail: CauseDetail::OwnPart(pc),
+                    ..Cause::of_kind(CauseKind::UndefinedOwnChunk)
+                };
+            }
             UndefinedPlace::Unknown => CauseDetail::Nothing,
         };
         Cause {
@@ -212,15 +225,21 @@ impl Cause {
 
     /// The cause of a use of a pointer that the pointer's own chunk does not allow.
     fn of_misuse(book: &Book, misuse: &Misuse) -> Cause {
-        let found = misuse.chunk.and_then(|chunk| numbered(book, chunk.number));
-        let Some(chunk) = found else {
+        let Some(traced) = misuse.chunk else {
+            return Cause::of_kind(CauseKind::NoChunkThere);
+        };
+        let Some(number) = traced.call() else {
+            return Cause::of_own_chunk(misuse, traced);
+        };
+        let Some(chunk) = numbered(book, number) else {
             return Cause::of_kind(CauseKind::NoChunkThere);
         };
         match misuse.kind {
             MisuseKind::AfterFree => Cause::of_freed(book, misuse.addr, chunk),
-            MisuseKind::Overflow | MisuseKind::Underflow | MisuseKind::NoChunk => {
-                Cause::of_neighbour(misuse.addr, chunk)
-            }
+            MisuseKind::Overflow
+            | MisuseKind::Underflow
+            | MisuseKind::NoChunk
+            | MisuseKind::Forbidden => { Cause::of_neighbour(misuse.addr, chunk) }
             MisuseKind::DoubleFree => Cause::of_chunk(CauseKind::DoubleFree, chunk),
             MisuseKind::InnerFree => {
                 let offset = misuse.addr.saturating_sub(chunk.start());
@@ -232,6 +251,22 @@ impl Cause {
             MisuseKind::MismatchedSize => {
                 Cause::of_mismatch(CauseKind::MismatchedSize, misuse, chunk)
             }
+        }
+    }
+
+    /// The cause of a use of a pointer to a chunk that the program made, or of bytes that it
+    /// forbids.
+    fn of_own_chunk(misuse: &Misuse, chunk: TracedChunk) -> Cause {
+        let (addr, start) = (misuse.addr, chunk.start());
+        let (kind, distance) = match misuse.kind {
+            MisuseKind::Overflow => (CauseKind::Overflow, addr.saturating_sub(chunk.end())),
+            MisuseKind::Underflow => (CauseKind::Underflow, start.saturating_sub(addr)),
+            MisuseKind::Forbidden => (CauseKind::ForbiddenBytes, addr.saturating_sub(start)),
+            _ => (CauseKind::UseAfterFree, addr.saturating_sub(start)),
+        };
+        Cause {
+            detail: CauseDetail::OwnChunk(chunk),
+            ..Cause::at(kind, distance)
         }
     }
 
@@ -349,10 +384,17 @@ impl Cause {
         }
     }
 
-    /// The address of the instruction that moved SP to the place on the stack that it names.
-    pub fn frame(&self) -> Option<u64> {
+    /// The address of the instruction that made what it names, and what it did: it moved SP to a
+    /// place on the stack, or said something of the program's own memory.
+    pub fn instruction(&self) -> Option<(u64, &'static str)> {
         match self.detail {
-            CauseDetail::Frame(pc) => Some(pc),
+            CauseDetail::Frame(pc) => Some((pc, "SP was moved there by")),
+            CauseDetail::OwnPart(pc) => Some((pc, MADE)),
+            CauseDetail::OwnChunk(chunk) => match chunk.source {
+                ChunkSource::Program(pc) => Some((pc, MADE)),
+                ChunkSource::Forbidden(pc) => Some((pc, "forbidden with CHECK_NO_ACCESS by")),
+                ChunkSource::Call(_) => None,
+            },
             _ => None,
         }
     }
@@ -373,6 +415,9 @@ impl Cause {
         self.kind.words().rule
     }
 }
+
+/// What the program does where it makes a chunk.
+const MADE: &str = "made with CHECK_CHUNK by";
 
 /// The chunk that the heap call with a number returned, with the call that freed it, where they are
 /// kept.
@@ -442,7 +487,14 @@ impl fmt::Display for Cause {
                 }
             }
             CauseDetail::Argument(fault) => ArgumentText(fault).fmt(f),
-            CauseDetail::Frame(_) | CauseDetail::Nothing => Ok(()),
+            CauseDetail::OwnChunk(chunk) => {
+                let TracedChunk { size, pointer, .. } = chunk;
+                write!(
+                    f,
+                    "{size}-byte chunk of the program's own at {pointer:#018x}"
+                )
+            }
+            CauseDetail::Frame(_) | CauseDetail::OwnPart(_) | CauseDetail::Nothing => Ok(()),
         }
     }
 }

@@ -45,6 +45,8 @@ pub enum CauseKind {
     GlobalUnderflow,
     /// An access to a variable of a function that has returned.
     AfterReturn,
+    /// An access to a variable of a block that has ended, in a function that runs.
+    AfterScope,
     /// A live chunk that one function made is freed by another, which is not for such chunks.
     MismatchedFree,
     /// A live chunk is freed by an operator of C++ that is told another size.
@@ -53,6 +55,10 @@ pub enum CauseKind {
     UndefinedChunk,
     /// The same of a place on the stack.
     UndefinedFrame,
+    /// The same of a chunk that the program made of its own memory.
+    UndefinedOwnChunk,
+    /// An access to bytes that the program forbids.
+    ForbiddenBytes,
     /// A live chunk whose header was overwritten.
     HeaderOverwritten,
     /// A pointer into a chunk is handed to the heap.
@@ -97,7 +103,7 @@ pub(crate) struct CauseWords {
 
 /// All causes.
 #[rattlefmt::skip]
-static CAUSES: [CauseWords; 35] = [
+static CAUSES: [CauseWords; 38] = [
     CauseWords { finder: "[MTE]: ", name: "Use After Free", joint: " into a ", rule: "use-after-free" },
     CauseWords { finder: "[MTE]: ", name: "Use After Free by a stale pointer", joint: " into a ", rule: "use-after-free" },
     CauseWords { finder: "", name: "Use After Free", joint: " of a ", rule: "use-after-free" },
@@ -116,10 +122,13 @@ static CAUSES: [CauseWords; 35] = [
     CauseWords { finder: "", name: "Buffer Overflow", joint: " right of ", rule: "global-buffer-overflow" },
     CauseWords { finder: "", name: "Buffer Underflow", joint: " left of ", rule: "global-buffer-underflow" },
     CauseWords { finder: "", name: "Use After Return", joint: " of ", rule: "use-after-return" },
+    CauseWords { finder: "", name: "Use After Scope", joint: " of ", rule: "use-after-scope" },
     CauseWords { finder: "", name: "Mismatched Free", joint: " of a ", rule: "mismatched-free" },
     CauseWords { finder: "", name: "Mismatched Size", joint: " of a ", rule: "new-delete-type-mismatch" },
     CauseWords { finder: "", name: "Uninitialized Value", joint: " of a ", rule: "uninitialized-value" },
     CauseWords { finder: "", name: "Uninitialized Value of the stack", joint: "", rule: "uninitialized-value" },
+    CauseWords { finder: "", name: "Uninitialized Value of a chunk of the program's own", joint: "", rule: "uninitialized-value" },
+    CauseWords { finder: "", name: "Forbidden Access", joint: " into a ", rule: "forbidden-access" },
     CauseWords { finder: "", name: "Corrupt Header: something was written in front", joint: " of a ", rule: "corrupt-header" },
     CauseWords { finder: "", name: "Invalid Pointer", joint: " into a ", rule: "invalid-pointer" },
     CauseWords { finder: "", name: "Invalid Pointer, which no heap call returned", joint: "", rule: "invalid-pointer" },
@@ -167,7 +176,7 @@ pub(crate) static TRESPASSES: [FindingWords; 3] = [
 
 /// The findings by `MisuseKind`.
 #[rattlefmt::skip]
-pub(crate) static MISUSES: [FindingWords; 8] = [
+pub(crate) static MISUSES: [FindingWords; 9] = [
     FindingWords { finder: "check", key: "AfterFree", kind: CheckKind::Provenance, words: "is no longer of the pointer's chunk, which was freed", by_address: "is of a chunk that was freed (by the address: where the pointer came from is not known)" },
     FindingWords { finder: "check", key: "Overflow", kind: CheckKind::Provenance, words: "is past the end of the pointer's chunk", by_address: "is past the size of the chunk there (by the address: where the pointer came from is not known)" },
     FindingWords { finder: "check", key: "Underflow", kind: CheckKind::Provenance, words: "is in front of the pointer's chunk", by_address: "is past the size of the chunk there (by the address: where the pointer came from is not known)" },
@@ -176,6 +185,7 @@ pub(crate) static MISUSES: [FindingWords; 8] = [
     FindingWords { finder: "check", key: "InnerFree", kind: CheckKind::Frees, words: "it points into its chunk, not to the start", by_address: "it points into its chunk, not to the start" },
     FindingWords { finder: "check", key: "MismatchedFree", kind: CheckKind::Frees, words: "the pointer's chunk is not for this function to free", by_address: "the pointer's chunk is not for this function to free" },
     FindingWords { finder: "check", key: "MismatchedSize", kind: CheckKind::Frees, words: "the pointer's chunk has another size", by_address: "the pointer's chunk has another size" },
+    FindingWords { finder: "check", key: "Forbidden", kind: CheckKind::Provenance, words: "is of bytes that the program forbids", by_address: "is of bytes that the program forbids" },
 ];
 
 /// The findings by `UseKind`.
@@ -191,10 +201,11 @@ pub(crate) static USES: [FindingWords; 6] = [
 
 /// The findings by `PlaceMisuseKind`.
 #[rattlefmt::skip]
-pub(crate) static PLACE_MISUSES: [FindingWords; 4] = [
+pub(crate) static PLACE_MISUSES: [FindingWords; 5] = [
     FindingWords { finder: "check", key: "PlaceOverflow", kind: CheckKind::Places, words: "is past the end of the pointer's variable", by_address: "is past the end of the pointer's variable" },
     FindingWords { finder: "check", key: "PlaceUnderflow", kind: CheckKind::Places, words: "is in front of the pointer's variable", by_address: "is in front of the pointer's variable" },
     FindingWords { finder: "check", key: "PlaceAfterReturn", kind: CheckKind::Places, words: "was of a function that has returned", by_address: "was of a function that has returned" },
+    FindingWords { finder: "check", key: "PlaceAfterScope", kind: CheckKind::Places, words: "was of a block that has ended", by_address: "was of a block that has ended" },
     FindingWords { finder: "check", key: "PlaceFree", kind: CheckKind::Frees, words: "it points to a variable", by_address: "it points to a variable" },
 ];
 

@@ -24,7 +24,9 @@ use pointer_provenance::{ArgumentFault, ChunkChange, Misuse, Shadow, TracedChunk
 use run_records::{Moment, SVC};
 use run_terms::CheckKinds;
 use scudo_heap::HeapCall;
-use shadow_memory::{AccessedBytes, CalledFunction, Full, HeapFunctionWatch, RegisterAccess, Step};
+use shadow_memory::{
+    AccessedBytes, CalledFunction, ClientRequest, Full, HeapFunctionWatch, RegisterAccess, Step,
+};
 use std::alloc::{AllocError, Global};
 use undefined_bits::{ArithmeticFault, ServiceArguments, UndefinedBits, UndefinedUse};
 
@@ -350,7 +352,7 @@ impl<'a> Checker<'a> {
         };
         let (before, origin) = (attempt.step.before, self.shadow.register(0).pointer());
         Ok(match asked.bytes {
-            Some(bytes) => places.judge_service(bytes, origin),
+            Some(bytes) => places.judge_service(bytes, origin, before.pc),
             None if is_free(before) => places.judge_free(before.x[0], origin),
             None => None,
         })
@@ -372,6 +374,9 @@ impl<'a> Checker<'a> {
 
     /// Notes an instruction other than SVC.
     pub(crate) fn note_instruction(&mut self, step: &Step<'_>) -> Result<(), Full> {
+        if let Some(request) = ClientRequest::of(step.instr, step.before) {
+            return self.note_request(&request, step.after);
+        }
         if let Some(bits) = &mut self.bits {
             bits.note(step)?;
         }
@@ -383,6 +388,16 @@ impl<'a> Checker<'a> {
             Some(places) => places.note(step, &mut self.shadow),
             None => Ok(()),
         }
+    }
+
+    /// Notes what the program says of its own memory. A chunk that gets another size keeps what it
+    /// has.
+    fn note_request(&mut self, request: &ClientRequest, after: &Regs) -> Result<(), Full> {
+        if let Some(bits) = &mut self.bits {
+            let kept = self.shadow.own_bytes_at(request.start());
+            bits.note_request(request, kept)?;
+        }
+        self.shadow.note_request(request, after)
     }
 
     /// The misuse of the pointer by which an attempt accesses memory, or which it frees, where

@@ -1,10 +1,11 @@
 //! The shadow of a tenant's memory and registers while it runs: of which pages something is
 //! known, where pointers point, what an instruction did, and which function of C or C++ makes or
-//! frees a chunk.
+//! frees a chunk; and what a program says of its own chunks.
 #![tactic(auto)]
 
 mod access;
 mod called_function;
+mod client_request;
 mod function_table;
 mod function_watch;
 mod heap_function;
@@ -18,6 +19,7 @@ mod step;
 
 pub use access::{AccessedBytes, RegisterAccess};
 pub use called_function::CalledFunction;
+pub use client_request::{ClientRequest, RequestKind};
 pub use function_watch::{FreeingFunction, HeapFunctionWatch, ReturnedChunk};
 pub use heap_function::HeapFunction;
 pub use memory_shadow::MemoryShadow;

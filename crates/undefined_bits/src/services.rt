@@ -4,7 +4,7 @@ use crate::judgement::{UndefinedUse, UseKind};
 use crate::state::UndefinedBits;
 use a64_bits::plain;
 use common::GRANULE_SIZE;
-use shadow_memory::{AccessedBytes, Full};
+use shadow_memory::{AccessedBytes, ClientRequest, Full, RequestKind};
 use undefined_values::{UndefinedOrigin, UndefinedValue};
 
 /// Which registers a service takes.
@@ -83,6 +83,23 @@ impl UndefinedBits {
             UndefinedValue::of(u64::MAX, UndefinedOrigin::of_chunk(call))
         };
         self.memory.fill(start, end, value)?;
+        self.short()
+    }
+
+    /// Notes what the program says of its own memory: a chunk is undefined but for its first bytes,
+    /// as many as are kept.
+    pub fn note_request(&mut self, request: &ClientRequest, kept: u64) -> Result<(), Full> {
+        let start = request.start();
+        let (start, value) = match request.kind {
+            RequestKind::NoAccess => return Ok(()),
+            RequestKind::Defined => (start, UndefinedValue::DEFINED),
+            RequestKind::Chunk => {
+                let origin = UndefinedOrigin::of_own_chunk(request.pc);
+                let value = UndefinedValue::of(u64::MAX, origin);
+                (start.saturating_add(kept), value)
+            }
+        };
+        self.memory.fill(start, request.end(), value)?;
         self.short()
     }
 

@@ -3,7 +3,7 @@
 /// The origin of undefined bits. It has four bytes, since each word of memory has one.
 #[derive(Clone, Copy, PartialEq, Eq)]
 pub struct UndefinedOrigin {
-    /// Twice the number of a heap call, or the address of an instruction and 1.
+    /// Twice the number of a heap call, or the address of an instruction and 1 or 3.
     number: u32,
 }
 
@@ -16,6 +16,8 @@ pub enum UndefinedPlace {
     Chunk(u64),
     /// A place on the stack, which the instruction at an address moved SP below, or above.
     Frame(u64),
+    /// A chunk of the program's own, which it made by the instruction at an address.
+    OwnChunk(u64),
 }
 
 impl UndefinedOrigin {
@@ -42,12 +44,24 @@ impl UndefinedOrigin {
         }
     }
 
+    /// A chunk of the program's own, by the address of the instruction that said so.
+    pub fn of_own_chunk(pc: u64) -> UndefinedOrigin {
+        match u32::try_from(pc) {
+            Ok(pc) if pc % 4 == 0 => UndefinedOrigin {
+                number: pc.wrapping_add(3),
+            },
+            _ => UndefinedOrigin::UNKNOWN,
+        }
+    }
+
     /// Its kind.
     pub fn place(self) -> UndefinedPlace {
         if self.number == 0 {
             UndefinedPlace::Unknown
         } else if self.number % 2 == 0 {
             UndefinedPlace::Chunk(u64::from(self.number / 2))
+        } else if self.number % 4 == 3 {
+            UndefinedPlace::OwnChunk(u64::from(self.number - 3))
         } else {
             UndefinedPlace::Frame(u64::from(self.number - 1))
         }

@@ -8,6 +8,8 @@
 
 /* The most bytes of a name with its end, and of a file that was written to: one chunk's. */
 enum { NAME_ROOM = 1024, MOST_BYTES = 1048576 };
+/* Of the flags of a node, each map of it. */
+enum { NODE_MAP = 65536 };
 
 /* The folder that all are in, and the one that names begin in. */
 hidden struct tenant_node *__tenant_root(void);

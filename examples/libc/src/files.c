@@ -7,6 +7,7 @@
 #include <limits.h>
 #include <stddef.h>
 #include <string.h>
+#include <sys/mman.h>
 #include <sys/stat.h>
 #include "kstat.h"
 #include "nodes.h"
@@ -112,11 +113,11 @@ static long open_path(long folder, const char *path, int flags, uint32_t mode)
         return __tenant_missing(name);
     if (!node)
         failed = __tenant_make(name, S_IFREG | (mode & 0755), &node);
-    else if (S_ISDIR(node->mode) && !is_read)
+    else if (S_ISDIR(node->mode) && (!is_read || flags & (O_CREAT | O_TRUNC)))
         failed = -EISDIR;
     else if (!S_ISDIR(node->mode) && (flags & O_DIRECTORY))
         failed = -ENOTDIR;
-    else if ((flags & O_TRUNC) && !is_read)
+    else if (flags & O_TRUNC)
         failed = __tenant_resize(node, 0);
     return failed ? failed : open_node(node, flags);
 }
@@ -168,9 +169,10 @@ static long write_at(struct open_file *file, const void *bytes, size_t count, si
         size_t written = tenant_write(bytes, count);
         return written ? (long)written : -ENOSPC;
     }
-    if (at >= MOST_BYTES)
+    size_t most = node->room > MOST_BYTES ? node->room : MOST_BYTES;
+    if (at >= most)
         return -EFBIG;
-    size_t some = count < MOST_BYTES - at ? count : MOST_BYTES - at;
+    size_t some = count < most - at ? count : most - at;
     long failed = __tenant_resize(node, at + some > node->size ? at + some : node->size);
     if (failed)
         return failed;
@@ -279,6 +281,13 @@ static long list(struct open_file *file, char *bytes, size_t room)
     return used ? (long)used : -EINVAL;
 }
 
+/* Nobody else has a lock, so each one is there that the descriptor may have. */
+static long lock(const struct open_file *file, const struct flock *wanted)
+{
+    int other = wanted->l_type == F_RDLCK ? O_WRONLY : O_RDONLY;
+    return wanted->l_type != F_UNLCK && (file->flags & O_ACCMODE) == other ? -EBADF : 0;
+}
+
 static long control(long number, long what, long value)
 {
     struct open_file *file = file_of(number);
@@ -296,10 +305,11 @@ static long control(long number, long what, long value)
     case F_GETLK:
         ((struct flock *)value)->l_type = F_UNLCK;
         return 0;
-    case F_GETFD:
-    case F_SETFD:
     case F_SETLK:
     case F_SETLKW:
+        return lock(file, (const struct flock *)value);
+    case F_GETFD:
+    case F_SETFD:
         return 0;
     default:
         return -EINVAL;
@@ -339,6 +349,21 @@ static long change_mode(struct tenant_node *node, long mode)
     if (!node)
         return -EINVAL;
     node->mode = (node->mode & S_IFMT) | (mode & 07777);
+    return 0;
+}
+
+/* The node of a descriptor that may be mapped so, or why it may not. */
+hidden long __tenant_mappable(long number, int kinds, int is_shared, struct tenant_node **node)
+{
+    struct open_file *file = file_of(number);
+    if (!file)
+        return -EBADF;
+    int mode = file->flags & O_ACCMODE, is_written = is_shared && kinds & PROT_WRITE;
+    if (mode == O_WRONLY || (is_written && mode != O_RDWR))
+        return -EACCES;
+    if (!file->node || !S_ISREG(file->node->mode))
+        return -ENODEV;
+    *node = file->node;
     return 0;
 }
 

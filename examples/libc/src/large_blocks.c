@@ -231,6 +231,17 @@ static int resize(struct head *it, char *bytes, size_t size)
     return 1;
 }
 
+/* For maps.c and nodes.c: whole blocks of the area. */
+__attribute__((__visibility__("hidden"))) void *__tenant_take_large(size_t alignment, size_t size)
+{
+    return take_large(alignment, size);
+}
+
+__attribute__((__visibility__("hidden"))) void __tenant_free_large(void *block)
+{
+    free_large(head_of(block));
+}
+
 static void *checked(void *chunk)
 {
     if (!chunk)

@@ -8,6 +8,8 @@
 #include "nodes.h"
 #include "tenant.h"
 
+hidden weak void __tenant_free_large(void *block);
+
 static struct tenant_node scratch = {
     .name = "/tmp", .mode = S_IFDIR | 0755, .number = FIRST_NODE,
 };
@@ -156,7 +158,9 @@ hidden void __tenant_leave(struct tenant_node *node)
 {
     if (--node->opened || !(node->flags & NODE_REMOVED))
         return;
-    if (node->room)
+    if (node->room > MOST_BYTES)
+        __tenant_free_large(node->bytes);
+    else if (node->room)
         tenant_free(node->bytes);
     if (node->flags & NAME_IS_CHUNK)
         tenant_free(node->name);
@@ -226,6 +230,8 @@ static long make_room(struct tenant_node *node, size_t size)
         return 0;
     if (size > MOST_BYTES)
         return -EFBIG;
+    if (node->flags >= NODE_MAP)
+        return -ENOSPC;
     size_t more = 2 * node->room < 512 ? 512 : 2 * node->room;
     size_t room = size > more ? size : more > MOST_BYTES ? MOST_BYTES : more;
     unsigned char *bytes = node->room ? tenant_realloc(node->bytes, room) : tenant_malloc(room);

@@ -11,6 +11,7 @@
 #include "tenant_given.h"
 
 hidden weak long __tenant_file_call(long number, long a, long b, long c, long d);
+hidden weak long __tenant_map_call(long number, char *from, size_t size, long how);
 hidden weak size_t __tenant_pack(void);
 
 /* As write(2): -ENOSPC where there is room for no byte more. */
@@ -96,7 +97,14 @@ long __tenant_system(long number, long a, long b, long c, long d)
         return 0;
     case SYS_rt_sigaction:
     case SYS_rt_sigprocmask:
+    case SYS_get_robust_list:
+    case SYS_set_robust_list:
         return 0;
+    case SYS_munmap:
+    case SYS_mprotect:
+    case SYS_msync:
+    case SYS_madvise:
+        return __tenant_map_call ? __tenant_map_call(number, (char *)a, (size_t)b, c) : -ENOSYS;
     case SYS_kill:
     case SYS_tkill:
         return raise_signal(b);

@@ -17,6 +17,12 @@ function listExamples() {
   };
 }
 
+// Takes files that were dropped or chosen; a folder, and a file that is gone, can't be read.
+function take(list) {
+  takeFiles(Array.from(list)).catch(error =>
+    showState('The files were not read: ' + error.message));
+}
+
 function bindDrop() {
   const area = find('drop');
   addEventListener('dragover', event => {
@@ -29,10 +35,10 @@ function bindDrop() {
   addEventListener('drop', event => {
     event.preventDefault();
     area.classList.remove('over');
-    takeFiles(Array.from(event.dataTransfer.files));
+    take(event.dataTransfer.files);
   });
   find('pick').onchange = () => {
-    takeFiles(Array.from(find('pick').files));
+    take(find('pick').files);
     find('pick').value = '';
   };
 }

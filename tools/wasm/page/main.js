@@ -3,6 +3,7 @@
 
 const ROLES = ['input', 'source', 'suppressions', 'script', 'file'];
 const LIVE_MILLISECONDS = 300, MOST_LIVE = 50_000, MOST_TYPED = 20_000;
+const MOST_READ = 16 << 20;
 let archive = null, examples = [], sessions = [];
 let subject = {name: '', image: new Uint8Array(), files: []};
 let lastRequest = null, wantsHeap = false;
@@ -300,7 +301,11 @@ function takeSession(files, script) {
 }
 
 async function takeFiles(list) {
-  const files = [];
+  const large = list.find(file => file.size > MOST_READ), files = [];
+  if (large) {
+    showState(large.name + ' has more than 16 MiB: it is not read.');
+    return undefined;
+  }
   for (const file of list) {
     files.push({name: file.name, bytes: new Uint8Array(await file.arrayBuffer())});
   }

@@ -1,8 +1,8 @@
 use Rattle.std.proofs.Common.{◌≡◌, map, drop}
 use Rattle.mte_sched.specs.Hosts.{content_of, ledger_in}
 use Rattle.mte_session.specs.Sessions.{calls_of, session_of}
-use Rattle.run_request.proofs.ReplayLemmas.{Known}
-use Rattle.run_request.proofs.replay.replay_tenant.Given as goal
+use Rattle.command_run.proofs.ReplayLemmas.{Known}
+use Rattle.command_run.proofs.replay.replay_tenant.Given as goal
 
 abbrev pub invariant-loop-before : goal.invariant-loop-before
 invariant-loop-before g l = record {

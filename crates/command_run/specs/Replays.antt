@@ -5,7 +5,7 @@ use Rattle.mte_tenant.specs.Ledger.{Call, Admit, Slice, Stop}
 use Rattle.mte_sched.specs.Lives.{Session, Life, lives, life_among}
 use Rattle.mte_sched.specs.Contents.{TenantState, Live, Gone, tenant_of}
 use Rattle.mte_session.specs.Sessions.{file_at}
-use Rattle.run_request.specs.declared.replay.Replayed.{Replayed}
+use Rattle.command_run.specs.declared.replay.Replayed.{Replayed}
 
 -- The machine that was replayed.
 abbrev pub machine_in : Replayed → Machine

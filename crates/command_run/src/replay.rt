@@ -9,8 +9,8 @@ ghost use Rattle.mte_sched.specs.Contents.{after_call};
 ghost use Rattle.mte_sched.specs.Hosts.{content_of, ledger_in};
 ghost use Rattle.mte_session.specs.Files.{contents};
 ghost use Rattle.mte_session.specs.Sessions.{call_of, session_of};
-ghost use Rattle.run_request.specs.Replays.{IsReplay, number_in, with_no_steps, machine_after, HasPages};
-ghost use Rattle.run_request.specs.Replays.{IsStarted, IsPlayed};
+ghost use Rattle.command_run.specs.Replays.{IsReplay, number_in, with_no_steps, machine_after, HasPages};
+ghost use Rattle.command_run.specs.Replays.{IsStarted, IsPlayed};
 
 use crate::session_replay::SessionReplay;
 use common::Obstacle;

@@ -18,8 +18,8 @@ use Rattle.mte_script.specs.declared.event.Event.{Event}
 use Rattle.mte_session.specs.Sessions.{file_at, call_of, calls_of}
 use Rattle.std.proofs.Common.{map, drop, length, get_or, ◌+◌, ◌≤◌, length-drop, subst}
 use Rattle.std.proofs.lemmas.List.{drop_more, nil_from_length}
-use Rattle.run_request.specs.declared.replay.Replayed.{Replayed}
-use Rattle.run_request.specs.Replays.{machine_in, IsOf, IsReplay, number_in, with_no_steps, machine_after, HasPages, IsStarted, IsPlayed}
+use Rattle.command_run.specs.declared.replay.Replayed.{Replayed}
+use Rattle.command_run.specs.Replays.{machine_in, IsOf, IsReplay, number_in, with_no_steps, machine_after, HasPages, IsStarted, IsPlayed}
 
 -- ---- a tenant that has ended
 

@@ -1,9 +1,9 @@
 use Rattle.std.proofs.Common.{map}
 use Rattle.mte_sched.specs.Hosts.{content_of, ledger_in}
 use Rattle.mte_session.specs.Sessions.{session_of}
-use Rattle.run_request.proofs.ReplayLemmas.{has_pages, accepted_next, refused_next, all_played}
-use Rattle.run_request.proofs.replay.replay_tenant.Goals.{in-Ok+in_ok-replayed-in-Ok, in-Err-Refused+in_ok-tell_refusal-in-Err-Refused}
-use Rattle.run_request.proofs.replay.replay_tenant.Goals as goal
+use Rattle.command_run.proofs.ReplayLemmas.{has_pages, accepted_next, refused_next, all_played}
+use Rattle.command_run.proofs.replay.replay_tenant.Goals.{in-Ok+in_ok-replayed-in-Ok, in-Err-Refused+in_ok-tell_refusal-in-Err-Refused}
+use Rattle.command_run.proofs.replay.replay_tenant.Goals as goal
 
 pub followed-requires : goal.followed-requires
 followed-requires g c = record { some = has_pages _ _ _ c.in-Ok.ensures.accepted }
