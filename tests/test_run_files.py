@@ -91,14 +91,15 @@ def test_files_are_replaced_whole(
             assert ran == wanted
             continue
         assert (ran.status, ran.out) == (WRITE, wanted.out)
-        assert option in ("--trace-file", "--progress") or ran.errors.startswith(report)
+        assert option == "--progress" or ran.errors.startswith(report)
     assert {it.name for it in tmp_path.iterdir()} == there and image.read_bytes() == before
 
 
 def test_a_trace_that_finds_no_room(alone: pathlib.Path) -> None:
     """The file's name is told where its lines cannot be written."""
     ran = run([alone, "--trace", "--trace-file", "/dev/full", HELLO])
-    assert (ran.status, ran.errors) == (WRITE, "mte_run: cannot write /dev/full\n")
+    assert (ran.status, ran.errors) == (
+        WRITE, "mte_run: cannot write /dev/full: no space is left\n")
 
 
 def test_names_never_reach_a_terminal_raw(alone: pathlib.Path, tmp_path: pathlib.Path) -> None:

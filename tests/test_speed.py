@@ -81,7 +81,7 @@ def test_a_real_program_beside_others(host: pathlib.Path, shared: pathlib.Path) 
     if "without bzip2" in ran.errors:
         give_up(ran.errors.strip()[-300:])
     assert ran.status == 0, ran.errors
-    sides = re.findall(r"^  (\w+): [0-9.]+ s after a start", ran.output, re.M)
+    sides = re.findall(r"^  (\w+): -?[0-9.]+ s after a start", ran.output, re.M)
     assert sides == ["QEMU", "native", "memcheck", "AddressSanitizer"] * 2, ran.output
 
 

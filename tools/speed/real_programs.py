@@ -298,7 +298,9 @@ def show(runs: Runs, best: Best, whole: Path, start: Path, steps: int) -> None:
         line = f"  {who}: {time:.3f} s after a start of {best[who, start]:.3f} s"
         if who in hosts:
             line += f", {time * 1e9 / steps:.2f} ns a step"
-        for host in hosts if who in others else ():
+        if who in others and time <= 0:
+            line += "; no longer than its start, so it is not compared"
+        for host in hosts if who in others and time > 0 else ():
             line += f"; {host} is {time / spent[host]:.2f} times as fast"
         print(line, flush=True)
 

@@ -13,7 +13,7 @@ use mte_flat::Flat;
 use mte_report::Report;
 use mte_svc::TenantParts;
 use report_documents::Document;
-use run_terms::{Failure, FileFault, Options};
+use run_terms::{Failure, Options};
 use std::io;
 use std::io::{BufWriter, Write};
 use tenant_run::{Observer, TenantBench, WholeFile};
@@ -25,19 +25,14 @@ pub fn tell_end<'a>(
     bench: TenantBench,
     observer: &mut Observer<'_>,
 ) -> Result<u8, Failure<'a>> {
-    let is_traced = observer.finish();
+    observer.finish();
     end_watch(observer)?;
     let TenantBench {
         parts,
         mut memory,
         ..
     } = bench;
-    let status = tell_parts(request, run, &parts, &mut memory, observer)?;
-    if is_traced {
-        Ok(status)
-    } else {
-        Err(unwritten_lines(request.options))
-    }
+    tell_parts(request, run, &parts, &mut memory, observer)
 }
 
 /// What of the watch is a failure: a chunk that is missing, or that it is full.
@@ -84,23 +79,29 @@ fn tell_parts<'a>(
         options,
         lost: lost.as_slice(),
     };
-    tell(request, &account, &subject, memory)
+    let lines = match observer.lines_fault() {
+        Some(kind) => Err(unwritten_lines(options, kind)),
+        None => Ok(()),
+    };
+    tell(request, &account, &subject, memory, lines)
 }
 
 /// The failure to write the lines of a trace.
-fn unwritten_lines(options: &Options) -> Failure<'_> {
+fn unwritten_lines(options: &Options, kind: io::ErrorKind) -> Failure<'_> {
     match &options.output.trace_file {
-        Some(name) => Failure::WriteFile(name.as_str(), FileFault::Other),
+        Some(name) => Failure::of_write(&io::Error::from(kind), name.as_str()),
         None => Failure::Write,
     }
 }
 
-/// Writes what happened, and what the options request, and returns the exit status.
+/// Writes what happened, and what the options request, and returns the exit status; the lines of a
+/// trace are written already, or could not be.
 fn tell<'a>(
     request: &RunRequest<'a, '_>,
     account: &RunAccount<'_>,
     subject: &CoreSubject<'_>,
     memory: &mut Flat,
+    lines: Result<(), Failure<'a>>,
 ) -> Result<u8, Failure<'a>> {
     let (rt, options) = (request.rt, request.options);
     let mut out = BufWriter::new(rt.alloc(), rt.stderr())?;
@@ -110,6 +111,7 @@ fn tell<'a>(
     let status = account.status();
     write_files(rt, account.report, options, status, memory)?;
     dump_core(request, subject, memory)?;
+    lines?;
     let _ = account.write_end(&mut out);
     let _ = out.flush();
     Ok(status)

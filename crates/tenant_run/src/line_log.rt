@@ -17,12 +17,12 @@ pub(crate) type Log = BufWriter<Either<Stderr, File>>;
 
 /// The records and texts of a tenant, as the options request them: with the names of an
 /// image's functions, where it is known before the run, and without what is not told.
-pub fn observer_of<'a, 'i>(
+pub fn observer_of<'i>(
     rt: &HostRuntime,
-    options: &'a Options,
+    options: &Options,
     image: &'i [u8],
     suppressions: &'i Suppressions,
-) -> Result<Observer<'i>, Failure<'a>> {
+) -> Result<Observer<'i>, AllocError> {
     let output = &options.output;
     let tracer = match output.traced {
         Some(traced) => Some(tracer_of(rt, output, traced, image)?),
@@ -34,7 +34,7 @@ pub fn observer_of<'a, 'i>(
         suppressions,
         continues: output.continues,
     };
-    Ok(observer_with(rt.alloc(), output, tracer, &terms)?)
+    observer_with(rt.alloc(), output, tracer, &terms)
 }
 
 /// The records of a tenant, as the options request them, of which no line is written while it runs.
@@ -83,24 +83,22 @@ fn observer_with<'i>(
 }
 
 /// The writer of some lines, with the names of an image's functions.
-fn tracer_of<'a, 'i>(
+fn tracer_of<'i>(
     rt: &HostRuntime,
-    output: &'a OutputOptions,
+    output: &OutputOptions,
     traced: Traced,
     image: &'i [u8],
-) -> Result<Tracer<'i>, Failure<'a>> {
+) -> Result<Tracer<'i>, AllocError> {
     let symbols = Symbols::of(rt.alloc(), image)?;
-    let log = open_log(rt, output)?;
-    Ok(Tracer::new(traced, symbols, log))
-}
-
-/// Where the lines go that are written while a tenant runs.
-fn open_log<'a>(rt: &HostRuntime, output: &'a OutputOptions) -> Result<Log, Failure<'a>> {
-    let out = match &output.trace_file {
-        Some(name) => Either::Right(create(rt, name.as_str())?),
-        None => Either::Left(rt.stderr()),
+    let (out, fault) = match &output.trace_file {
+        Some(name) => match replace_file(rt, name.as_str()) {
+            Ok(file) => (Either::Right(file), None),
+            Err(error) => (Either::Left(rt.stderr()), Some(error.kind())),
+        },
+        None => (Either::Left(rt.stderr()), None),
     };
-    Ok(BufWriter::new(rt.alloc(), out)?)
+    let log = BufWriter::new(rt.alloc(), out)?;
+    Ok(Tracer::new(traced, symbols, log, fault))
 }
 
 /// An empty file with a name, for lines.

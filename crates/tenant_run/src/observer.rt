@@ -219,11 +219,18 @@ impl<'a> Observer<'a> {
         }
     }
 
-    /// Writes what is held of the lines; whether all of them could be written.
-    pub fn finish(&mut self) -> bool {
-        match &mut self.tracer {
-            Some(tracer) => tracer.finish(),
-            None => true,
+    /// Writes what is held of the lines.
+    pub fn finish(&mut self) {
+        if let Some(tracer) = &mut self.tracer {
+            tracer.finish();
+        }
+    }
+
+    /// Why not all lines could be written.
+    pub fn lines_fault(&self) -> Option<io::ErrorKind> {
+        match &self.tracer {
+            Some(tracer) => tracer.fault(),
+            None => None,
         }
     }
 }

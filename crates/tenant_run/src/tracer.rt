@@ -16,26 +16,32 @@ pub struct Tracer<'a> {
     /// Where the function begins whose name was written last.
     function: u64,
     out: Log,
-    /// Whether a write failed; after that there are no more.
-    failed: bool,
+    /// Why none can be written any more.
+    fault: Option<io::ErrorKind>,
 }
 
 impl<'a> Tracer<'a> {
-    /// One that writes some lines, with the names of functions.
-    pub fn new(traced: Traced, symbols: Symbols<'a>, out: Log) -> Tracer<'a> {
+    /// One that writes some lines, with the names of functions, unless there is a fault.
+    pub fn new(
+        traced: Traced,
+        symbols: Symbols<'a>,
+        out: Log,
+        fault: Option<io::ErrorKind>,
+    ) -> Tracer<'a> {
         Tracer {
             traced,
             symbols,
             function: 0,
             out,
-            failed: false,
+            fault,
         }
     }
 
     /// Writes the lines of an instruction.
     pub fn note(&mut self, moment: &Moment, after: &Regs) {
-        if !self.failed && self.write_lines(moment, after).is_err() {
-            self.failed = true;
+        if self.fault.is_none() {
+            let written = self.write_lines(moment, after);
+            self.enter(written);
         }
     }
 
@@ -82,8 +88,23 @@ impl<'a> Tracer<'a> {
         writeln!(self.out, "{service}")
     }
 
-    /// Writes what is still held; whether every line could be written.
-    pub fn finish(&mut self) -> bool {
-        self.out.flush().is_ok() && !self.failed
+    /// Writes what is still held.
+    pub fn finish(&mut self) {
+        if self.fault.is_none() {
+            let written = self.out.flush();
+            self.enter(written);
+        }
+    }
+
+    /// Why not all lines could be written.
+    pub fn fault(&self) -> Option<io::ErrorKind> {
+        self.fault
+    }
+
+    /// Enters whether some could be written.
+    fn enter(&mut self, written: io::Result<()>) {
+        if let Err(error) = written {
+            self.fault = Some(error.kind());
+        }
     }
 }

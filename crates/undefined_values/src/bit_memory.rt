@@ -2,9 +2,12 @@
 
 use crate::bit_page::{BitPage, ones};
 use crate::origin::UndefinedValue;
-use common::PAGE_SIZE;
+use common::{MAX_PAGES, PAGE_SIZE};
 use shadow_memory::PageNumbers;
 use std::alloc::{AllocError, Global};
+
+/// How many bytes all pages of a tenant have.
+const MOST_BYTES: u64 = MAX_PAGES * PAGE_SIZE;
 
 /// The undefined bits of a tenant's memory. A page that was always defined takes none.
 #[derive(Drop)]
@@ -146,22 +149,26 @@ impl BitMemory {
         Ok(())
     }
 
-    /// The first undefined byte of some at a plain address, with its undefined bits.
+    /// The first undefined byte of some at a plain address, with its undefined bits. No more bytes
+    /// are looked at than a tenant has.
     pub fn first_undefined(&self, start: u64, bytes: u64) -> Option<(u64, UndefinedValue)> {
-        let end = start.saturating_add(bytes);
+        let end = start.saturating_add(bytes.min(MOST_BYTES));
         let mut at = start;
         for _ in start..end {
             if at >= end {
                 return None;
             }
-            let value = match self.page(at) {
-                Some(page) => page.load(at, 1),
-                None => UndefinedValue::DEFINED,
+            let Some(page) = self.page(at) else {
+                at = (at | PAGE_SIZE - 1).saturating_add(1);
+                continue;
             };
-            if !value.is_defined() {
-                return Some((at, value));
+            let count = bytes_in_word(at, end.wrapping_sub(at).min(8) as u8);
+            let bits = page.load(at, count).bits;
+            if bits != 0 {
+                at = at.wrapping_add(u64::from(bits.trailing_zeros() / 8));
+                return Some((at, page.load(at, 1)));
             }
-            at = at.saturating_add(1);
+            at = at.saturating_add(u64::from(count));
         }
         None
     }

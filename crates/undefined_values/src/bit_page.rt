@@ -51,7 +51,7 @@ impl BitPage {
         if let Some(bits) = self.bits.get_mut(word) {
             *bits = *bits & !mask | value.bits.wrapping_shl(shift_of(addr)) & mask;
         }
-        if value.bits != 0 {
+        if value.bits & ones(bytes) != 0 {
             if let Some(origin) = self.origins.get_mut(word) {
                 *origin = value.origin;
             }
