@@ -97,8 +97,10 @@ fn tracer_of<'i>(
         },
         None => (Either::Left(rt.stderr()), None),
     };
-    let log = BufWriter::new(rt.alloc(), out)?;
-    Ok(Tracer::new(traced, symbols, log, fault))
+    match BufWriter::new(rt.alloc(), out) {
+        Ok(log) => Ok(Tracer::new(traced, symbols, log, fault)),
+        Err(_) => Err(AllocError),
+    }
 }
 
 /// An empty file with a name, for lines.

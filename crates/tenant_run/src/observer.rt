@@ -17,6 +17,7 @@ use run_records::{Book, Moment, SVC, Statistics, StatisticsTable, Turn};
 use run_terms::Exactness;
 use shadow_memory::Full;
 use std::alloc::{AllocError, Global};
+use std::io;
 
 /// How many of the last instructions are remembered at least.
 const LEAST: usize = 16;
