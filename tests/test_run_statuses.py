@@ -402,7 +402,8 @@ def test_a_file_that_cannot_be_written(
         ran = explain(alone, act, "gcc-O0", tmp_path, "--services", option, place)
         *report, line = ran.errors.splitlines()
         assert ran.status == WRITE and line == f"mte_run: cannot write {place}{reason}"
-        assert not any(line.startswith("mte_run:") for line in report)
+        last = ("mte_run: ended by", "mte_run: cannot write")
+        assert not any(line.startswith(last) for line in report)
 
 
 def test_streams_that_cannot_be_written(alone: pathlib.Path, tmp_path: pathlib.Path) -> None:
