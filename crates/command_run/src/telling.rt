@@ -6,6 +6,7 @@ use crate::ended_run::EndedRun;
 use crate::limits::{failure_of, reserved_pages};
 use crate::lost::lost_chunks;
 use crate::map::draw_map;
+use crate::profile::write_profile;
 use crate::request::{Run, RunRequest};
 use debuggee::CoreSubject;
 use mte_backtrace::Names;
@@ -79,29 +80,27 @@ fn tell_parts<'a>(
         options,
         lost: lost.as_slice(),
     };
-    let lines = match observer.lines_fault() {
-        Some(kind) => Err(unwritten_lines(options, kind)),
-        None => Ok(()),
-    };
-    tell(request, &account, &subject, memory, lines)
+    tell(request, &account, &subject, memory, observer)
 }
 
-/// The failure to write the lines of a trace.
-fn unwritten_lines(options: &Options, kind: io::ErrorKind) -> Failure<'_> {
-    match &options.output.trace_file {
-        Some(name) => Failure::of_write(&io::Error::from(kind), name.as_str()),
-        None => Failure::Write,
+/// The failure to write the lines of a trace, if there was one.
+fn end_lines<'a>(options: &'a Options, observer: &Observer<'_>) -> Result<(), Failure<'a>> {
+    match (observer.lines_fault(), &options.output.trace_file) {
+        (None, _) => Ok(()),
+        (Some(_), None) => Err(Failure::Write),
+        (Some(kind), Some(name)) => {
+            Err(Failure::of_write(&io::Error::from(kind), name.as_str()))
+        }
     }
 }
 
-/// Writes what happened, and what the options request, and returns the exit status; the lines of a
-/// trace are written already, or could not be.
+/// Writes what happened, and what the options request, and returns the exit status.
 fn tell<'a>(
     request: &RunRequest<'a, '_>,
     account: &RunAccount<'_>,
     subject: &CoreSubject<'_>,
     memory: &mut Flat,
-    lines: Result<(), Failure<'a>>,
+    observer: &Observer<'_>,
 ) -> Result<u8, Failure<'a>> {
     let (rt, options) = (request.rt, request.options);
     let mut out = BufWriter::new(rt.alloc(), rt.stderr())?;
@@ -111,7 +110,8 @@ fn tell<'a>(
     let status = account.status();
     write_files(rt, account.report, options, status, memory)?;
     dump_core(request, subject, memory)?;
-    lines?;
+    write_profile(request, subject, observer)?;
+    end_lines(options, observer)?;
     let _ = account.write_end(&mut out);
     let _ = out.flush();
     Ok(status)

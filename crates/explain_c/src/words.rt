@@ -35,6 +35,7 @@ pub(crate) fn wants_system(options: &Options) -> bool {
     let output = &options.output;
     let reads = options.run.input.is_some() || output.suppressions.is_some();
     let writes = output.core.is_some()
+        || output.profile.is_some()
         || output.trace_file.is_some()
         || options.length.progress.is_some()
         || is_file(&output.json)

@@ -7,6 +7,7 @@ use crate::whole_file::replace_file;
 use either::Either;
 use elf_symbols::Symbols;
 use run_cause::CheckTerms;
+use run_profile::RunProfile;
 use run_terms::{Failure, Options, OutputOptions, Suppressions, Traced};
 use std::alloc::{AllocError, Global};
 use std::fs::File;
@@ -34,7 +35,11 @@ pub fn observer_of<'i>(
         suppressions,
         continues: output.continues,
     };
-    observer_with(rt.alloc(), output, tracer, &terms)
+    let mut observer = observer_with(rt.alloc(), output, tracer, &terms)?;
+    if output.profile.is_some() {
+        observer.count_branches(RunProfile::new(rt.alloc(), image)?);
+    }
+    Ok(observer)
 }
 
 /// The records of a tenant, as the options request them, of which no line is written while it runs.

@@ -1,0 +1,162 @@
+//! The calls of a run, by the calls that they were made in.
+
+use crate::long_calls::{LongCall, LongCalls};
+use crate::pair_numbers::{Pair, PairNumbers};
+use std::alloc::{AllocError, Global};
+
+/// How many calls may be open. Those in the last one count as its own.
+const DEEPEST: usize = 65_536;
+
+/// How many of the last calls a return is looked for in.
+const REACH: usize = 4_096;
+
+/// What was made before the first call: its pair is none of a call.
+const ROOT: Pair = Pair {
+    first: u64::MAX,
+    second: u64::MAX,
+};
+
+/// Calls of one function from one place, in the same calls.
+#[derive(Clone, Copy)]
+pub struct CallNode {
+    /// How many there were.
+    pub calls: u64,
+    /// Their steps, without those of the calls in them.
+    pub steps: u64,
+}
+
+/// A call that has not returned.
+#[derive(Clone, Copy)]
+struct OpenCall {
+    node: usize,
+    /// Where it returns to.
+    back: u64,
+    /// Its function's first instruction.
+    entry: u64,
+    /// The steps before it.
+    first: u64,
+}
+
+/// The calls of a run. Those that have the same branch in the same calls share a node.
+#[derive(Drop)]
+pub struct CallTree {
+    /// For each node but the first the number of the one that it is in, and that of its branch.
+    numbers: PairNumbers,
+    nodes: Vec<CallNode>,
+    open: Vec<OpenCall>,
+    /// The steps that nodes have.
+    charged: u64,
+    /// The longest calls.
+    pub long: LongCalls,
+    /// Whether a call found no room.
+    pub is_short: bool,
+}
+
+impl CallTree {
+    /// No calls: the first node has what is made in none.
+    pub fn new(alloc: Global) -> Result<CallTree, AllocError> {
+        let mut tree = CallTree {
+            numbers: PairNumbers::new(alloc)?,
+            nodes: Vec::new(alloc),
+            open: Vec::new(alloc),
+            charged: 0,
+            long: LongCalls::new(alloc),
+            is_short: false,
+        };
+        tree.is_short = tree.enter(ROOT).is_none();
+        Ok(tree)
+    }
+
+    /// The nodes, and for each its pair.
+    pub fn nodes(&self) -> (&[CallNode], &[Pair]) {
+        (self.nodes.as_slice(), self.numbers.pairs())
+    }
+
+    /// A call by the branch with a number, after some steps.
+    pub fn call(&mut self, edge: usize, entry: u64, back: u64, steps: u64) {
+        self.charge(steps);
+        let pair = Pair {
+            first: self.node() as u64,
+            second: edge as u64,
+        };
+        let pushed = match self.enter(pair) {
+            Some(node) if self.open.len() < DEEPEST => {
+                let call = OpenCall {
+                    node,
+                    back,
+                    entry,
+                    first: steps,
+                };
+                self.open.push(call).is_ok()
+            }
+            _ => false,
+        };
+        self.is_short = self.is_short || !pushed;
+    }
+
+    /// The last call becomes another one.
+    pub fn replace(&mut self, edge: usize, entry: u64, steps: u64) {
+        let back = self.open.last().map_or(0, |call| call.back);
+        self.close(self.open.len().saturating_sub(1), steps);
+        self.call(edge, entry, back, steps);
+    }
+
+    /// A return to an instruction of the function that begins at an address: the last calls are
+    /// closed up to the one that returns there, or, if none does, up to one of that function.
+    pub fn leave(&mut self, to: u64, function: u64, steps: u64) {
+        let reach = self.open.len().saturating_sub(REACH);
+        let last = self.open.as_slice().get(reach..).unwrap_or(&[]);
+        let left = match last.iter().rposition(|call| call.back == to) {
+            Some(at) => at,
+            None => match last.iter().rposition(|call| call.entry == function) {
+                Some(at) => at.saturating_add(1),
+                None => return,
+            },
+        };
+        self.close(reach.saturating_add(left), steps);
+    }
+
+    /// Ends the run, and with it all calls.
+    pub fn finish(&mut self, steps: u64) {
+        self.close(0, steps);
+    }
+
+    /// The node of the last call.
+    fn node(&self) -> usize {
+        self.open.last().map_or(0, |call| call.node)
+    }
+
+    /// Counts a call of the node with a pair.
+    fn enter(&mut self, pair: Pair) -> Option<usize> {
+        let number = self.numbers.enter(pair)?;
+        if number >= self.nodes.len() {
+            self.nodes.push(CallNode { calls: 0, steps: 0 }).ok()?;
+        }
+        let node = self.nodes.get_mut(number)?;
+        node.calls = node.calls.wrapping_add(1);
+        Some(number)
+    }
+
+    /// Gives the node of the last call the steps since the last one that was given some.
+    fn charge(&mut self, steps: u64) {
+        let node = self.node();
+        if let Some(node) = self.nodes.get_mut(node) {
+            node.steps = node.steps.wrapping_add(steps.wrapping_sub(self.charged));
+        }
+        self.charged = steps;
+    }
+
+    /// Closes the last calls, so that some are left.
+    fn close(&mut self, left: usize, steps: u64) {
+        self.charge(steps);
+        let closed = self.open.as_slice().get(left..).unwrap_or(&[]);
+        for call in closed.iter().rev() {
+            self.long.note(LongCall {
+                node: call.node,
+                first: call.first,
+                last: steps,
+            });
+        }
+        self.open.truncate(left);
+    }
+}

@@ -1,0 +1,147 @@
+//! Numbers of pairs, which a table of hashes finds.
+
+use std::alloc::{AllocError, Global};
+
+/// How many places are looked at for a pair: a tenant chooses its addresses, and so how many pairs
+/// have one hash.
+const PROBES: usize = 64;
+
+/// The places of an empty table.
+const FIRST_PLACES: usize = 1_024;
+
+/// The most pairs.
+const MOST_PAIRS: usize = 1_048_576;
+
+/// Two numbers.
+#[derive(Clone, Copy, PartialEq, Eq)]
+pub struct Pair {
+    pub first: u64,
+    pub second: u64,
+}
+
+/// Pairs, each with a number: from 0 on in the order in which they are entered.
+#[derive(Drop)]
+pub struct PairNumbers {
+    alloc: Global,
+    /// For each place the number and 1 of a pair, or 0 for none. They are a power of two.
+    places: Vec<u32>,
+    pairs: Vec<Pair>,
+}
+
+/// Where a pair is in a table.
+#[derive(Clone, Copy)]
+enum Place {
+    /// At this number.
+    Known(usize),
+    /// It may be entered at this place.
+    Free(usize),
+    /// Nowhere.
+    None,
+}
+
+impl PairNumbers {
+    /// No pairs.
+    pub fn new(alloc: Global) -> Result<PairNumbers, AllocError> {
+        Ok(PairNumbers {
+            alloc,
+            places: vec![in alloc; 0u32; FIRST_PLACES]?,
+            pairs: Vec::new(alloc),
+        })
+    }
+
+    /// The pairs, in the order of their numbers.
+    pub fn pairs(&self) -> &[Pair] {
+        self.pairs.as_slice()
+    }
+
+    /// The number of a pair where it is at the first place that it may have.
+    #[inline(always)]
+    pub fn find_first(&self, pair: Pair) -> Option<usize> {
+        let place = first_place(pair, self.places.len());
+        let number = self.number_at(place)?;
+        if self.pairs.get(number) == Some(&pair) {
+            Some(number)
+        } else {
+            None
+        }
+    }
+
+    /// The number of a pair, which is entered where it has none. `None` where there is no room.
+    pub fn enter(&mut self, pair: Pair) -> Option<usize> {
+        if self.pairs.len() >= self.places.len() / 2 {
+            self.grow();
+        }
+        match self.place_of(pair) {
+            Place::Known(number) => Some(number),
+            Place::Free(place) => self.enter_at(place, pair),
+            Place::None => None,
+        }
+    }
+
+    /// The number that a place has.
+    #[inline(always)]
+    fn number_at(&self, place: usize) -> Option<usize> {
+        (*self.places.get(place)? as usize).checked_sub(1)
+    }
+
+    /// Where a pair is, or where it may be entered.
+    fn place_of(&self, pair: Pair) -> Place {
+        let count = self.places.len();
+        let mut place = first_place(pair, count);
+        for _ in 0..PROBES {
+            match self.number_at(place) {
+                Some(number) if self.pairs.get(number) == Some(&pair) => {
+                    return Place::Known(number);
+                }
+                Some(_) => place = place.wrapping_add(1) & count.saturating_sub(1),
+                None => return Place::Free(place),
+            }
+        }
+        Place::None
+    }
+
+    /// Enters a pair at a place.
+    fn enter_at(&mut self, place: usize, pair: Pair) -> Option<usize> {
+        let number = self.pairs.len();
+        if number >= MOST_PAIRS {
+            return None;
+        }
+        self.pairs.push(pair).ok()?;
+        self.take(place, number);
+        Some(number)
+    }
+
+    /// Gives a place a number.
+    fn take(&mut self, place: usize, number: usize) {
+        if let Some(entry) = self.places.get_mut(place) {
+            *entry = u32::try_from(number.saturating_add(1)).unwrap_or(0);
+        }
+    }
+
+    /// Makes the table twice as large, where there is memory for that.
+    fn grow(&mut self) {
+        let count = self.places.len().saturating_mul(2);
+        let Ok(places) = (vec![in self.alloc; 0u32; count]) else {
+            return;
+        };
+        self.places = places;
+        for number in 0..self.pairs.len() {
+            if let Some(pair) = self.pairs.get(number).copied() {
+                if let Place::Free(place) = self.place_of(pair) {
+                    self.take(place, number);
+                }
+            }
+        }
+    }
+}
+
+/// The first of so many places that a pair may have.
+#[inline(always)]
+fn first_place(pair: Pair, count: usize) -> usize {
+    let mixed = pair
+        .first
+        .wrapping_mul(0x9E37_79B9_7F4A_7C15)
+        .rotate_left(29)
+        ^ pair.second;
+    (mixed.wrapping_mul(0x9E37_79B9_7F4A_7C15) >> 32) as usize & count.saturating_sub(1)
+}
