@@ -35,13 +35,13 @@ pub(crate) fn wants_system(options: &Options) -> bool {
     let output = &options.output;
     let reads = options.run.input.is_some() || output.suppressions.is_some();
     let writes = output.core.is_some()
-        || output.profile.is_some()
         || output.trace_file.is_some()
         || options.length.progress.is_some()
         || is_file(&output.json)
         || is_file(&output.sarif)
         || is_file(&output.page)
-        || is_file(&output.map);
+        || is_file(&output.map)
+        || is_file(&output.profile);
     let has_lines = output
         .traced
         .is_some_and(|traced| traced.services || traced.from <= traced.to);

@@ -35,11 +35,7 @@ pub fn observer_of<'i>(
         suppressions,
         continues: output.continues,
     };
-    let mut observer = observer_with(rt.alloc(), output, tracer, &terms)?;
-    if output.profile.is_some() {
-        observer.count_branches(RunProfile::new(rt.alloc(), image)?);
-    }
-    Ok(observer)
+    observer_with(rt.alloc(), output, tracer, &terms)
 }
 
 /// The records of a tenant, as the options request them, of which no line is written while it runs.
@@ -83,6 +79,9 @@ fn observer_with<'i>(
     let mut observer = Observer::new(alloc, output.last, exact, tracer, turns, checker)?;
     if output.statistics {
         observer.count();
+    }
+    if output.profile.is_some() {
+        observer.count_branches(RunProfile::new(alloc, terms.image)?);
     }
     Ok(observer)
 }

@@ -25,6 +25,7 @@ class AnswerForm(enum.IntEnum):
     SARIF = 3
     PAGE = 4
     PICTURE = 5
+    PROFILE = 6
 
 
 @dataclass(frozen=True)
