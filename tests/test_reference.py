@@ -23,7 +23,7 @@ from tests.reference.runs import Runner
 from tests.support.instructions import SERVICE, Words, add, call, copy, load, move, store
 
 DRAWN = int(os.environ.get("TOMBOLOPAN_DRAWN", "200"))
-MALLOC, FREE, EXIT = 3, 4, 0
+MALLOC, FREE, EXIT, REALLOC = 3, 4, 0, 6
 # How often each is reached, at the least, by 200 programs of its kind.
 LEAST = 3
 ROWS = {
@@ -93,9 +93,9 @@ def test_wrong_pointers(runner: Runner) -> None:
 # ---- rules that drawn programs seldom need
 
 
-def operand(register: int, value: int, undefined: int) -> list[int]:
+def operand(register: int, value: int, undefined: int, chunk: int = 9) -> list[int]:
     """A register with bits of a chunk that was not written; the others are those of a value."""
-    return [load(register, 9), *move(10, undefined),
+    return [load(register, chunk), *move(10, undefined),
             word("log_shift", sf=1, rm=10, rn=register, rd=register),
             *move(10, value & ~undefined),
             word("log_shift", sf=1, opc=1, rm=10, rn=register, rd=register)]
@@ -110,6 +110,9 @@ def flat(*parts: Words) -> list[int]:
 
 
 FRESH: list[int] = [*call(MALLOC, 24), copy(9, 0)]
+# Chunks in x9, x20 and x21: of which of them bits are is told.
+CHUNKS: list[int] = [*FRESH, *call(MALLOC, 24), copy(20, 0), *call(MALLOC, 24), copy(21, 0)]
+HIGH = 0xFFFFFFFF << 32
 IF_EQUAL = word("branch_cond", imm19=1, cond=0)
 COMPARE = word("add_sub_shift", sf=1, op=1, s=1, rm=2, rn=1, rd=31)
 
@@ -117,6 +120,11 @@ COMPARE = word("add_sub_shift", sf=1, op=1, s=1, rm=2, rn=1, rd=31)
 def if_bit(bit: int) -> int:
     """A branch by a bit of x4, to the next instruction."""
     return word("test_branch", b5=bit >> 5, b40=bit & 31, imm14=1, rt=4)
+
+
+def half(opc: int, register: int, base: int, at: int) -> int:
+    """A store or a load (0 or 1) of the lower half of a register."""
+    return word("ld_st_imm", size=2, opc=opc, imm12=at // 4, rn=base, rt=register)
 
 
 # A rule, and a program that ends with a use of what it leaves undefined, or defined.
@@ -139,6 +147,33 @@ RULES: tuple[tuple[str, list[int]], ...] = (
     ("irg", flat(FRESH, operand(1, 0, 1 << 57), word("irg", rm=31, rn=1, rd=4), if_bit(57))),
     ("gmi", flat(FRESH, operand(2, 0, 4), word("gmi", rm=2, rn=9, rd=4), if_bit(2))),
     ("addg", flat(FRESH, operand(1, 16, 16), word("add_g", uimm6=1, rn=1, rd=4), if_bit(5))),
+    # Of these the chunk is what counts: the operand or the bytes of the other one leave no bit
+    # undefined, or come before.
+    ("store-of-fewer-bytes", flat(CHUNKS, operand(1, 0, HIGH, 20), half(0, 1, 9, 4),
+                                  half(1, 4, 9, 0), if_bit(0))),
+    ("store-over-two-words", flat(CHUNKS, operand(1, 0, HIGH, 20), word(
+        "ld_st_unscaled", size=3, opc=0, imm9=4, rn=9, rt=1), half(1, 4, 9, 0), if_bit(0))),
+    ("moved-by-realloc", flat(FRESH, call(MALLOC, 20), copy(20, 0), load(1, 9), half(0, 1, 20, 16),
+                              copy(0, 20), move(1, 200), move(8, REALLOC), SERVICE, copy(20, 0),
+                              half(1, 4, 20, 20), if_bit(0))),
+    ("sum-of-32-bits", flat(CHUNKS, operand(1, 0, HIGH), operand(2, 0, 1, 20), word(
+        "add_sub_shift", rm=2, rn=1, rd=4), if_bit(0))),
+    ("adc-of-32-bits", flat(CHUNKS, operand(1, 0, HIGH), operand(2, 0, 1, 20), word(
+        "adc_sbc", rm=2, rn=1, rd=4), if_bit(0))),
+    ("ccmp-of-32-bits", flat(CHUNKS, operand(1, 0, HIGH), operand(2, 0, 1, 20), word(
+        "cond_cmp", op=1, rm=2, rn=1, cond=14), IF_EQUAL)),
+    ("and-of-two", flat(CHUNKS, operand(1, 0xF0, 0x0F), operand(2, 0, 0xF0, 20), word(
+        "log_shift", sf=1, rm=2, rn=1, rd=4), if_bit(4))),
+    ("orr-of-two", flat(CHUNKS, operand(1, 0, 0x0F), operand(2, 0x0F, 0xF0, 20), word(
+        "log_shift", sf=1, opc=1, rm=2, rn=1, rd=4), if_bit(4))),
+    ("bfi", flat(CHUNKS, operand(1, 0, 0xF0), operand(4, 0, 0xF0, 20), word(
+        "bitfield", sf=1, opc=1, n=1, imms=3, rn=1, rd=4), if_bit(4))),
+    ("extr", flat(CHUNKS, operand(1, 0, 1), operand(2, 0, 1, 20), word(
+        "extr", sf=1, n=1, imms=8, rm=2, rn=1, rd=4), if_bit(56))),
+    ("madd-with-0", flat(CHUNKS, operand(1, 0, 1), move(2, 0), operand(3, 0, 1, 20), word(
+        "mul_add", sf=1, rm=2, ra=3, rn=1, rd=4), if_bit(0))),
+    ("subp-of-56-bits", flat(CHUNKS, operand(1, 0, 1 << 60), operand(2, 0, 1, 20), word(
+        "sub_p", rm=2, rn=1, rd=4), if_bit(0))),
 )
 # Rows of which each is drawn with operands that have undefined bits, and fields of each.
 ROWS_OF_RULES: tuple[tuple[str, dict[str, tuple[int, ...]]], ...] = (
@@ -151,17 +186,25 @@ ROWS_OF_RULES: tuple[tuple[str, dict[str, tuple[int, ...]]], ...] = (
     ("irg", {"rm": (2, 31), "rd": (4,)}),
     ("gmi", {"rm": (2,), "rd": (4,)}),
     ("add_g", {"op": (0, 1), "uimm6": (0, 1, 63), "rd": (4,)}),
+    ("log_shift", {"sf": (0, 1), "opc": (0, 1, 2, 3), "n": (0, 1), "rm": (2,), "rd": (4,)}),
+    ("bitfield", {"sf": (1,), "n": (1,), "opc": (0, 1, 1, 2), "immr": tuple(range(64)),
+                  "imms": tuple(range(64)), "rd": (4,)}),
+    ("extr", {"sf": (1,), "n": (1,), "imms": tuple(range(64)), "rm": (2,), "rd": (4,)}),
+    ("mul_add", {"sf": (0, 1), "o0": (0, 1), "rm": (2, 31), "ra": (3, 31), "rd": (4,)}),
+    ("adc_sbc", {"sf": (0, 1), "op": (0, 1), "s": (0, 1), "rm": (2,), "rd": (4,)}),
+    ("cond_sel", {"sf": (0, 1), "op": (0, 1), "o2": (0, 1), "cond": tuple(range(14)), "rm": (2,),
+                  "rd": (4,)}),
 )
 # Bits of results that are tested more often than others.
 LOW_BITS, TAG_BITS, CONDITIONS = range(8), range(54, 62), 14
 
 
-def drawn_operand(source: random.Random, register: int) -> list[int]:
+def drawn_operand(source: random.Random, register: int, chunk: int) -> list[int]:
     """A register, most often with a few undefined bits, of the lowest, the highest or all."""
     value = source.choice((0, 1, 1 << 31, 1 << 63, ALL, source.getrandbits(64)))
     bits, at = source.choice(((0, 0), (1, 0), (3, 2), (8, 28), (6, 56), (2, 62), (64, 0)))
     undefined = source.getrandbits(bits) << at if bits else 0
-    return operand(register, value, undefined)
+    return operand(register, value, undefined, chunk)
 
 
 def drawn_rule(seed: int) -> list[int]:
@@ -171,10 +214,11 @@ def drawn_rule(seed: int) -> list[int]:
     drawn = {name: source.choice(values) for name, values in fields.items()}
     ends = [if_bit(source.choice((*LOW_BITS, *TAG_BITS, source.randrange(64))))]
     ends.append(word("branch_cond", imm19=1, cond=source.randrange(CONDITIONS)))
-    is_of_flags = row == "cond_cmp" or bool(drawn.get("s")) and source.random() < 0.8
-    compared = [*drawn_operand(source, 3), word("add_sub_imm", sf=1, op=1, s=1, rn=3, rd=31)]
-    return flat(FRESH, drawn_operand(source, 1), drawn_operand(source, 2), compared,
-                word(row, rn=1, **drawn), ends[is_of_flags])
+    sets = bool(drawn.get("s")) or row == "log_shift" and drawn["opc"] == 3
+    is_of_flags = row == "cond_cmp" or sets and source.random() < 0.8
+    compared = [*drawn_operand(source, 3, 21), word("add_sub_imm", sf=1, op=1, s=1, rn=3, rd=31)]
+    return flat(CHUNKS, drawn_operand(source, 1, 9), drawn_operand(source, 2, 20), copy(4, 2),
+                compared, word(row, rn=1, **drawn), ends[is_of_flags])
 
 
 @pytest.mark.parametrize("words", [words for _, words in RULES], ids=[name for name, _ in RULES])

@@ -6,8 +6,9 @@
     checked.py packages                the packages of packages.toml
     checked.py --write                 writes what came of all into docs/project/CHECKED.md
 
-Each program is built as a tenant by clang and by gcc, at -O0 and at -O2, with -g. It runs plain,
-with --check, and with --check=all,places; one of csmith also with --exact beside that. Its output
+Each program is built as a tenant by clang and by gcc, at -O0 and at -O2, with -g; one of csmith by
+one of the two at -O0 to -O3, as its seed chooses. It runs plain, with --check, and with
+--check=all,places; one of csmith also with --exact beside that. Its output
 and its exit status have to be the same each time, and nothing may be told. A torture test counts
 where it is compiled and its plain run ends with the status 0 within 100 million steps; a package,
 or a program of csmith, where its plain runs do what they do natively.
@@ -44,7 +45,8 @@ from page_part import write_part  # noqa: E402
 PAGE = HERE.parents[1] / "docs" / "project" / "CHECKED.md"
 SCRIPT = "examples/packages/checked.py"
 BUILDS = {f"{name}{level}": (name, level)
-          for name in compilers.COMPILERS for level in ("-O0", "-O2")}
+          for name in compilers.COMPILERS for level in ("-O0", "-O1", "-O2", "-O3")}
+USUAL = [name for name, (_, level) in BUILDS.items() if level in ("-O0", "-O2")]
 PLAIN, WAYS = "", ("--check", "--check=all,places")
 EXACT = "--check=all,places --exact"
 TORTURE, STEPS, SECONDS = 500, "100000000", 1200
@@ -359,9 +361,11 @@ def arguments() -> argparse.Namespace:
     parser.add_argument("--count", type=int, default=100)
     parser.add_argument("--first", type=int, default=1)
     parser.add_argument("--only", type=listed, default=[])
-    parser.add_argument("--builds", type=listed, default=list(BUILDS))
+    parser.add_argument("--builds", type=listed, default=[])
     packages.add_common(parser)
-    return parser.parse_args()
+    options = parser.parse_args()
+    options.builds = options.builds or (list(BUILDS) if options.kind == "csmith" else USUAL)
+    return options
 
 
 def main() -> int:

@@ -44,7 +44,8 @@ class Flags:
     def carry(self) -> Known:
         """C as a number."""
         must = len({it & C for it in self.must | {self.value}}) > 1
-        return Known(self.value >> 1 & 1, int(must), self.may >> 1 & 1, self.origins)
+        may = self.may >> 1 & 1
+        return Known(self.value >> 1 & 1, int(must), may, self.origins if must or may else NOWHERE)
 
 
 def is_order_open(x: Partial, y: Partial, bits: int, order: int) -> bool:

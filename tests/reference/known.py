@@ -36,8 +36,10 @@ class Known:
         return self.value, self.may
 
     def moved(self, function: Callable[[int], int]) -> "Known":
-        """Each bit goes to other places, as by a shift."""
-        return Known(function(self.value), function(self.must), function(self.may), self.origins)
+        """Each bit goes to other places, as by a shift. Where no undefined bit is left, it has no
+        origin."""
+        must, may = function(self.must), function(self.may)
+        return Known(function(self.value), must, may, self.origins if must | may else NOWHERE)
 
     def inverted(self, bits: int) -> "Known":
         """All bits inverted."""
@@ -45,7 +47,11 @@ class Known:
 
     def low(self, bits: int) -> "Known":
         """The lowest bits."""
-        return self.moved(lambda it: it & numbers.mask_of(bits))
+        return self.masked(numbers.mask_of(bits))
+
+    def masked(self, mask: int) -> "Known":
+        """Some of the bits."""
+        return self.moved(lambda it: it & mask)
 
 
 def combined(value: int, must: int, may: int, *operands: Known) -> Known:
@@ -64,15 +70,17 @@ def total(x: Known, y: Known, carry: Known, bits: int) -> Known:
 
 
 def conjunction(x: Known, y: Known) -> Known:
-    """AND."""
+    """AND: of each operand those bits count that a 0 of the other one does not decide."""
     return combined(x.value & y.value, numbers.in_and(x.lower, y.lower),
-                    numbers.in_and(x.upper, y.upper), x, y)
+                    numbers.in_and(x.upper, y.upper), x.masked(y.value | y.may),
+                    y.masked(x.value | x.may))
 
 
 def disjunction(x: Known, y: Known) -> Known:
-    """ORR."""
+    """ORR: of each operand those bits count that a 1 of the other one does not decide."""
     return combined(x.value | y.value, numbers.in_or(x.lower, y.lower),
-                    numbers.in_or(x.upper, y.upper), x, y)
+                    numbers.in_or(x.upper, y.upper), x.masked(~y.value | y.may),
+                    y.masked(~x.value | x.may))
 
 
 def difference(x: Known, y: Known) -> Known:

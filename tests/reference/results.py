@@ -104,9 +104,15 @@ def by_two(it: Instruction, x: Known, y: Known) -> Known:
                        x, amount)
 
 
+def factors(x: Known, y: Known) -> tuple[Known, Known]:
+    """Two factors; the bits of one do not count where the other is a defined 0."""
+    return (x if y.value | y.may else Known(x.value)), (y if x.value | x.may else Known(y.value))
+
+
 def product(it: Instruction, x: Known, y: Known, addend: Known) -> Known:
     """MADD, MSUB, and those of 32-bit factors."""
     bits = it.bits
+    x, y = factors(x, y)
 
     def result(a: int, b: int, c: int) -> int:
         return (c - a * b if it["o0"] else c + a * b) & mask_of(bits)
@@ -117,6 +123,8 @@ def product(it: Instruction, x: Known, y: Known, addend: Known) -> Known:
 
 def high_half(it: Instruction, x: Known, y: Known) -> Known:
     """SMULH and UMULH."""
+    x, y = factors(x, y)
+
     def result(a: int, b: int) -> int:
         if not it["u"]:
             a, b = signed(a, 64), signed(b, 64)

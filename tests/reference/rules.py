@@ -250,17 +250,16 @@ def sub_p(state: Registers, moment: Moment, it: Instruction) -> None:
 
 def irg(state: Registers, moment: Moment, it: Instruction) -> None:
     """Another tag in a pointer."""
-    x, y = state.base(it["rn"]), state.read(it["rm"])
-    may = x.may & ~TAG | (TAG if y.may else 0)
-    state.registers[it["rd"]] = known.combined(
-        moment.after[it["rd"]], x.must & ~TAG, may, x, y)
+    x, y = state.base(it["rn"]).masked(ALL & ~TAG), state.read(it["rm"], 16)
+    may = x.may | (TAG if y.may else 0)
+    state.registers[it["rd"]] = known.combined(moment.after[it["rd"]], x.must, may, x, y)
 
 
 def gmi(state: Registers, moment: Moment, it: Instruction) -> None:
     """A mask with the tag of a pointer."""
-    x, y = state.base(it["rn"]), state.read(it["rm"])
-    given = 0xFFFF if x.may & TAG else 1 << (x.value >> 56 & 15)
-    may = y.may | 0xFFFF if x.may & TAG else y.may & ~given
+    x, y = state.base(it["rn"]).masked(TAG), state.read(it["rm"])
+    given = 0xFFFF if x.may else 1 << (x.value >> 56)
+    may = y.may | 0xFFFF if x.may else y.may & ~given
     state.set(it["rd"], known.combined(moment.after[it["rd"]], y.must & ~given, may, x, y))
 
 

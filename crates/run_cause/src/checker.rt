@@ -465,8 +465,14 @@ fn note_chunk(
         }
         Some(old) if old.start() == start => Ok(()),
         Some(old) => {
+            let kept = size.min(u64::from(old.size));
             bits.note_made(change.number, start, size, false)?;
-            bits.note_moved(old.start(), start, size.min(u64::from(old.size)))
+            bits.note_moved(old.start(), start, kept)?;
+            if kept == size {
+                return Ok(());
+            }
+            // What is new names a word that has both.
+            bits.note_grown(change.number, start.saturating_add(kept), end)
         }
         None => {
             let is_defined = matches!(call.call, HeapCall::Calloc { .. });

@@ -71,12 +71,14 @@ impl UndefinedBits {
         } else {
             (self.operand(step, sf, rm), self.register(rm))
         };
+        let x = self.operand(step, sf, rn);
+        let origin = self.origin_of(x.undefined, rn, other);
         let operands = SumOperands {
             sf,
             op,
-            x: self.operand(step, sf, rn),
+            x,
             y,
-            origin: self.register(rn).origin_or(other),
+            origin,
         };
         let state = match self.flags().undefined_origin(cond % 16) {
             Some(origin) => either(&operands, flags_of(nzcv), origin),
@@ -101,10 +103,9 @@ impl UndefinedBits {
         };
         let (x, y) = (self.operand(step, sf, rn), self.operand(step, sf, rm));
         let carry = self.flags().undefined_origin(CARRY_SET);
-        let origin = self.register(rn).origin_or(self.register(rm));
         let origin = match carry {
             Some(carry) if x.undefined | y.undefined == 0 => carry,
-            _ => origin,
+            _ => self.origin_of(x.undefined, rn, self.register(rm)),
         };
         let bits = match carry {
             Some(_) => u64::MAX,

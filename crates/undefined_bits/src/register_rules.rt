@@ -135,13 +135,13 @@ impl UndefinedBits {
                 rn,
                 ..
             } => {
-                let y = self.operand(step, 1, rm);
+                let (x, y) = (self.operand(step, sf, rn), self.operand(step, 1, rm));
                 Some(SumOperands {
                     sf,
                     op,
-                    x: self.operand(step, sf, rn),
+                    x,
                     y: extended(sf, y, option, imm3),
-                    origin: self.register(rn).origin_or(self.register(rm)),
+                    origin: self.origin_of(x.undefined, rn, self.register(rm)),
                 })
             }
             _ => self.shifted_operands(step),
@@ -164,13 +164,13 @@ impl UndefinedBits {
         };
         let is_zero = op == 1 && rm == rn && imm6 == 0;
         let (rn, rm) = if is_zero { (31, 31) } else { (rn, rm) };
-        let y = self.operand(step, sf, rm);
+        let (x, y) = (self.operand(step, sf, rn), self.operand(step, sf, rm));
         Some(SumOperands {
             sf,
             op,
-            x: self.operand(step, sf, rn),
+            x,
             y: shifted(sf, shift, y, u32::from(imm6)),
-            origin: self.register(rn).origin_or(self.register(rm)),
+            origin: self.origin_of(x.undefined, rn, self.register(rm)),
         })
     }
 
@@ -215,7 +215,8 @@ impl UndefinedBits {
         let y = shifted(sf, shift, self.operand(step, sf, rm), u32::from(imm6));
         let y = if n == 1 { y.inverted(mask(sf)) } else { y };
         let result = truncate_operand(sf, logical(opc, x, y));
-        let origin = self.register(rn).origin_or(self.register(rm));
+        let of_first = result.undefined & x.undefined;
+        let origin = self.origin_of(of_first, rn, self.register(rm));
         self.enter_logic(sf, opc, rd, result, origin);
     }
 
@@ -254,7 +255,13 @@ impl UndefinedBits {
         let (immr, imms) = (u32::from(immr) % size, u32::from(imms) % size);
         let (to, moved) = (truncate(sf, old.bits), truncate(sf, from.bits));
         let bits = move_field(opc % 3, to, moved, immr, imms, size);
-        self.set(rd, UndefinedValue::of(bits, from.origin_or(old)));
+        let kept = move_field(opc % 3, to, 0, immr, imms, size);
+        let origin = if bits == kept {
+            old.origin
+        } else {
+            from.origin
+        };
+        self.set(rd, UndefinedValue::of(bits, origin));
     }
 
     /// Notes a move of a number, or of the bits of two registers one after the other.
@@ -271,8 +278,10 @@ impl UndefinedBits {
                 let (high, low) = (self.operand_bits(sf, rn), self.operand_bits(sf, rm));
                 let size = size_of_operands(sf);
                 let (above, below) = (truncate(sf, high.bits), truncate(sf, low.bits));
-                let bits = extract(above, below, u32::from(imms) % size, size);
-                self.set(rd, UndefinedValue::of(bits, low.origin_or(high)));
+                let by = u32::from(imms) % size;
+                let bits = extract(above, below, by, size);
+                let from_low = UndefinedValue::of(below.wrapping_shr(by), low.origin);
+                self.set(rd, UndefinedValue::of(bits, from_low.origin_or(high)));
             }
             Instr::MoveWide {
                 sf,
@@ -358,19 +367,15 @@ impl UndefinedBits {
             self.operand(step, of_factor, rn),
             self.operand(step, of_factor, rm),
         );
-        let added = self.operand_bits(sf, ra);
+        let (added, factors) = (self.operand_bits(sf, ra), product(x, y));
         let bits = match *step.instr {
-            Instr::MulHigh { .. } => all_if(product(x, y)),
-            _ => {
-                let low = product(x, y) | added.bits;
-                if low == 0 { 0 } else { from_lowest(low) }
-            }
+            Instr::MulHigh { .. } => all_if(factors),
+            _ => from_lowest(factors | added.bits),
         };
-        let origin = self.register(rn).origin_or(self.register(rm));
-        let origin = if x.undefined | y.undefined == 0 {
+        let origin = if factors == 0 {
             added.origin
         } else {
-            origin
+            self.origin_of(x.undefined, rn, self.register(rm))
         };
         self.set(rd, UndefinedValue::of(truncate(sf, bits), origin));
     }

@@ -127,6 +127,16 @@ impl UndefinedBits {
         }
     }
 
+    /// The origin of what an operand of a numbered register leaves undefined in a result, by these
+    /// bits of it; where there are none, that of the other operand.
+    pub(crate) fn origin_of(&self, bits: u64, n: u8, other: UndefinedValue) -> UndefinedOrigin {
+        if bits == 0 {
+            other.origin
+        } else {
+            self.register(n).origin
+        }
+    }
+
     /// Enters the undefined bits of a numbered register; nothing for 31.
     #[inline(always)]
     pub(crate) fn set(&mut self, n: u8, value: UndefinedValue) {

@@ -87,12 +87,13 @@ impl UndefinedBits {
         let Instr::SubP { s, rm, rn, rd } = *step.instr else {
             return;
         };
+        let x = self.plain_operand(step, rn);
         let operands = SumOperands {
             sf: 1,
             op: 1,
-            x: self.plain_operand(step, rn),
+            x,
             y: self.plain_operand(step, rm),
-            origin: self.register(rn).origin_or(self.register(rm)),
+            origin: self.origin_of(x.undefined, rn, self.register(rm)),
         };
         if s == 1 {
             self.set_flags(operands.flags());
