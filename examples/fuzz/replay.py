@@ -18,8 +18,8 @@ import sys
 sys.path.insert(0, str(pathlib.Path(__file__).resolve().parents[1]))
 from command_line import Parser  # noqa: E402
 
-# The exit statuses of mte_run (docs/MTE_RUN.md): of a crash, and where it runs nothing. A tenant may
-# exit with each of them, which the last line tells.
+# The exit statuses of mte_run: of a crash, and where it runs nothing (docs/MTE_RUN.md). A tenant
+# may exit with each of them, which the last line tells.
 CRASHES, NOTHING = {129, 130, 131, 132, 133, 137}, range(2, 7)
 STACK = re.compile(r"\s+(allocated|freed) by call")
 LINE = re.compile(r"\s+#\d+ .* at (\S+:\d+)")
