@@ -9,6 +9,7 @@ import sys
 import pytest
 
 from tests.support import fuzzers
+from tests.support.checkout import make_stub
 from tests.support.debugger import asked, target
 from tests.support.fuzzers import ENTER, FUZZ, NAME, PLANTED, card, field
 from tests.support.instructions import call, program
@@ -98,6 +99,23 @@ def test_a_finding_is_replayed(
     words: list[Word] = [sys.executable, FUZZ / "replay.py", "--times", "3", "--program", alone]
     assert "no crash (status 2)" in run([*words, image, text]).errors
     assert "3 runs alike: " in succeed([*words, "--exact", image, text]).output
+
+
+def test_a_fuzzer_that_is_missing(tmp_path: pathlib.Path) -> None:
+    """What is not there is named with where it comes from, and nothing is built or run."""
+    make_stub(tmp_path / "bin", "clang", f"echo {tmp_path}\n")
+    extra = make_stub(tmp_path / "bin", "ld.lld", "")
+    words: list[Word] = [sys.executable, FUZZ / "build.py", tmp_path / "made", "--fuzzer",
+                         "libfuzzer", "--library", FUZZ / "cards.c"]
+    ran = run(words, extra=extra)
+    assert ran == Ran(1, b"", b"build.py: libfuzzer is not there (Debian: libclang-rt-14-dev)\n")
+    assert not (tmp_path / "made").exists()
+    words = [sys.executable, FUZZ / "campaign.py", tmp_path, "cards", "--program", sys.executable]
+    told = f"campaign.py: {tmp_path}/libfuzzer is not there (build.py)\n"
+    assert run(words) == Ran(1, b"", told.encode())
+    make_stub(tmp_path, "afl", "")
+    ran = run([*words, "--fuzzer", "afl"], extra={"PATH": f"{tmp_path}/bin"})
+    assert ran == Ran(1, b"", b"campaign.py: afl-fuzz is not there (Debian: afl++)\n")
 
 
 def test_a_campaign_by_exact_runs(
