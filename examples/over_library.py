@@ -4,6 +4,7 @@ from __future__ import annotations
 import os
 import pathlib
 import shlex
+import shutil
 import subprocess
 from collections.abc import Sequence
 
@@ -57,6 +58,10 @@ def compile_program(
         if not near.exists():
             near.symlink_to(found)
     words = [*shlex.split(os.environ.get("CC", "cc")), *FLAGS, f"-I{prefix() / 'include'}", *more]
+    if not shutil.which(words[0]):
+        raise NotCompiled(f"{words[0]} is not there (Debian: gcc)")
+    if not (prefix() / "include" / "tombolopan.h").exists():
+        raise NotCompiled("tombolopan.h is not there (Debian: libtombolopan-dev)")
     try:
         subprocess.run([*words, "-o", str(program), str(source), *link], check=True)
     except (OSError, subprocess.CalledProcessError) as error:

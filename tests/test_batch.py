@@ -9,6 +9,7 @@ import pty
 import random
 import re
 import shlex
+import shutil
 import signal
 import subprocess
 import sys
@@ -22,7 +23,7 @@ from tests.support.embedding import folders
 from tests.support.host_sessions import HI_REPORT, admission
 from tests.support.library import shared_object
 from tests.support.once import make_once
-from tests.support.places import EXAMPLES
+from tests.support.places import EXAMPLES, ROOT
 from tests.support.running import HANG, Ran, run, succeed
 from tests.support.tools import give_up
 
@@ -420,6 +421,19 @@ def test_usage(made: Batch, tmp_path: pathlib.Path) -> None:
         ran = batch.run(*options)
         assert (ran.status, ran.output) == (2, "") and said in ran.errors
     assert not made.store.exists() and run([sys.executable, "-c", ""]).status == 0
+
+
+@pytest.mark.parametrize("folder", ["lib", "lib/x86_64-linux-gnu"])
+def test_the_library_of_a_prefix(tmp_path: pathlib.Path, folder: str) -> None:
+    """It is found in a prefix, also where a package of Debian has it."""
+    tools = tmp_path / "share" / "tombolopan" / "tools"
+    shutil.copytree(ROOT / "tools" / "batch", tools / "batch")
+    library = tmp_path / folder / "libtombolopan.so.2"
+    library.parent.mkdir(parents=True)
+    library.touch()
+    script = "from batch.runs import find_library; print(find_library())"
+    ran = succeed([sys.executable, "-B", "-c", script], cwd=tools, extra={"TOMBOLOPAN": ""})
+    assert ran.output == f"{library}\n"
 
 
 # Dask

@@ -9,6 +9,7 @@ import shutil
 
 import pytest
 
+from packing.parts import Place, place_of
 from tests.support import debian, debugger, installed
 from tests.support.cache import cache_folder
 from tests.support.checkout import copy_files
@@ -87,6 +88,15 @@ def test_files(packages: dict[str, pathlib.Path], built: pathlib.Path) -> None:
              if pathlib.PurePath(it).name not in more and "/lintian/" not in it]
     # The folder of the C library, and the first image, have a link where a checkout has them.
     assert sorted(there) == sorted([*(it for it in wanted if it != "installed"), "out", "hi.elf"])
+
+
+def test_headers() -> None:
+    """All headers of the library are in the one package that a program is built by."""
+    headers = sorted((ROOT / "include").iterdir())
+    assert len(headers) > 1
+    for path in headers:
+        found = place_of(f"include/{path.name}", "arch", "libtombolopan2")
+        assert found == Place("libtombolopan-dev", f"include/{path.name}")
 
 
 def test_same_bytes(packages: dict[str, pathlib.Path], built: pathlib.Path,

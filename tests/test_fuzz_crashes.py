@@ -9,9 +9,11 @@ import sys
 import pytest
 
 from tests.support import fuzzers
+from tests.support.checkout import make_stub
 from tests.support.debugger import asked, target
 from tests.support.fuzzers import ENTER, FUZZ, NAME, PLANTED, card, field
-from tests.support.running import Word, run, succeed
+from tests.support.instructions import call, program
+from tests.support.running import Ran, Word, run, succeed
 from tests.support.tools import need
 
 TIMES = 100
@@ -61,6 +63,33 @@ def test_an_input_without_a_crash(
     assert ran.status == 1 and "no crash (status 0)" in ran.errors
 
 
+@pytest.mark.parametrize("number", [*range(2, 7), *range(129, 139)])
+def test_an_exit_is_no_crash(alone: pathlib.Path, tmp_path: pathlib.Path, number: int) -> None:
+    """Also with a status by which mte_run tells of a crash, or that it runs nothing."""
+    (tmp_path / "image").write_bytes(program(*call(0, number)))
+    (tmp_path / "input").touch()
+    ran = run([sys.executable, FUZZ / "replay.py", "--program", alone, "image", "input"],
+              cwd=tmp_path)
+    assert ran == Ran(1, b"", f"input: no crash (status {number})\n".encode())
+
+
+@pytest.mark.parametrize("words", ["image none", "none input", "--seed x image input",
+                                   "image ."])
+def test_nothing_is_run(alone: pathlib.Path, tmp_path: pathlib.Path, words: str) -> None:
+    """Where mte_run runs nothing the replay ends with its status and line: 5 for a file that cannot
+    be read. Without mte_run it ends for a wrong command line."""
+    (tmp_path / "image").write_bytes(program(*call(0, 5)))
+    (tmp_path / "input").touch()
+    *options, image, text = words.split()
+    given = [it.rjust(16, "0") if it == "x" else it for it in options] or ["--seed", f"{1:016}"]
+    wanted = run([alone, *given, "--input", text, image], cwd=tmp_path)
+    replay = [sys.executable, str(FUZZ / "replay.py"), *words.split()]
+    ran = run([*replay, "--program", alone], cwd=tmp_path)
+    assert ran == wanted and ran.status == (2 if options else 5) and ran.err
+    ran = run([*replay, "--program", "./none"], cwd=tmp_path)
+    assert ran == Ran(2, b"", b"replay.py: ./none is not there (--help)\n")
+
+
 def test_a_finding_is_replayed(
     shared: pathlib.Path, alone: pathlib.Path, tmp_path: pathlib.Path
 ) -> None:
@@ -70,6 +99,23 @@ def test_a_finding_is_replayed(
     words: list[Word] = [sys.executable, FUZZ / "replay.py", "--times", "3", "--program", alone]
     assert "no crash (status 2)" in run([*words, image, text]).errors
     assert "3 runs alike: " in succeed([*words, "--exact", image, text]).output
+
+
+def test_a_fuzzer_that_is_missing(tmp_path: pathlib.Path) -> None:
+    """What is not there is named with where it comes from, and nothing is built or run."""
+    make_stub(tmp_path / "bin", "clang", f"echo {tmp_path}\n")
+    extra = make_stub(tmp_path / "bin", "ld.lld", "")
+    words: list[Word] = [sys.executable, FUZZ / "build.py", tmp_path / "made", "--fuzzer",
+                         "libfuzzer", "--library", FUZZ / "cards.c"]
+    ran = run(words, extra=extra)
+    assert ran == Ran(1, b"", b"build.py: libfuzzer is not there (Debian: libclang-rt-14-dev)\n")
+    assert not (tmp_path / "made").exists()
+    words = [sys.executable, FUZZ / "campaign.py", tmp_path, "cards", "--program", sys.executable]
+    told = f"campaign.py: {tmp_path}/libfuzzer is not there (build.py)\n"
+    assert run(words) == Ran(1, b"", told.encode())
+    make_stub(tmp_path, "afl", "")
+    ran = run([*words, "--fuzzer", "afl"], extra={"PATH": f"{tmp_path}/bin"})
+    assert ran == Ran(1, b"", b"campaign.py: afl-fuzz is not there (Debian: afl++)\n")
 
 
 def test_a_campaign_by_exact_runs(

@@ -200,6 +200,13 @@ def test_a_wrong_guess_is_told(
     assert f"replay: {said}" in ran.errors and (ran.status, ran.output) == (1, ""), ran.errors
 
 
+def test_without_a_compiler(tmp_path: pathlib.Path) -> None:
+    """The Debian package that has one is named."""
+    ran = run([sys.executable, ALLOC / "replay.py", "trace"], cwd=tmp_path,
+              extra={"PATH": str(tmp_path), "TOMBOLOPAN": ""})
+    assert ran == Ran(1, b"", b"replay.py: cc is not there (Debian: gcc)\n")
+
+
 @pytest.mark.parametrize("text, said", [
     ("", ":1: "), ("malloc 1 = 0x10\n", ":1: "), (HEAD + "malloc 1\n", ":2: "),
     (HEAD + "malloc 1 = 0x10\nfree\n", ":3: "), (HEAD + "mallocs 1 = 0x10\n", ":2: "),

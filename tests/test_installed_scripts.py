@@ -36,7 +36,8 @@ CALLED = {"tools/batch/__main__.py": "batch", "examples/many/run.sh": "batch"}
 WRONG = {"tenant-cc": "--stack=none", "tenant-c++": "--stack=none"}
 
 # What commands of pages name and is not installed: it builds and measures a checkout.
-CHECKOUT = {"tests/quick.sh", "tests/run.sh", "tools/build.sh", "tools/speed/measure.py"}
+CHECKOUT = {"tests/quick.sh", "tests/run.sh", "tools/build.sh", "tools/speed/fuzzed.py",
+            "tools/speed/measure.py"}
 
 
 @pytest.fixture
@@ -91,7 +92,7 @@ def test_commands_of_pages(moved: pathlib.Path, tmp_path: pathlib.Path) -> None:
     assert library == Ran(0, f"{moved}/lib/libtombolopan.a\n".encode(), b"")
     words: list[Word] = ["examples/embed/shared.sh", "examples/embed/libtombolopan.so"]
     assert bare(moved, words, tmp_path) == Ran(0, b"", b"")
-    parts = [it for it in all_parts() if it.has_commands and is_for_users(it.page)]
+    parts = [it for it in all_parts() if it.is_for_shell and is_for_users(it.page)]
     text = "\n".join(command for part in parts for command in part.commands())
     named = set(re.findall(r"(?<![\w/.])(?:examples|tools|crates|tests)/[\w./+-]+", text))
     assert {it for it in named if not (tmp_path / it).exists()} == CHECKOUT

@@ -8,7 +8,7 @@ import re
 import shlex
 import shutil
 import sys
-from collections.abc import Callable
+from collections.abc import Callable, Iterator
 from dataclasses import dataclass
 
 import pytest
@@ -22,10 +22,10 @@ from tests.support.page_commands import (
 )
 from tests.support.page_links import prose
 from tests.support.pages import (
-    Part, all_parts, folder_of, named_code, pages, parts_of, read_page, sample_of,
+    Part, all_parts, folder_of, is_for_users, named_code, pages, parts_of, read_page, sample_of,
 )
 from tests.support.library import rust_program, static_library
-from tests.support.places import EXAMPLES, ROOT
+from tests.support.places import EXAMPLES, ROOT, TESTS
 from tests.support.running import Word, run, succeed
 from tests.support.samples import (
     assert_in_order, assert_lines_in_order, assert_sample, tenant,
@@ -243,6 +243,48 @@ def test_scripts_of_commands(part: Part) -> None:
         program = re.split(r"[ ;)]", re.sub(BEFORE_PROGRAM, "", command))[0]
         if "/" in program and not re.search(r"(^|/)out/", program):
             assert (ROOT / folder_of(part.page) / program).is_file(), f"{part.place}: {command}"
+
+
+# Tools that Debian has by other names, each with its packages; and what is always there, or ours.
+PACKAGES = {"cc": "gcc g++ clang", "c++": "g++ clang", "pip": "python3-pip python3-venv",
+            "aarch64-linux-gnu-gcc": "gcc-aarch64-linux-gnu", "afl-fuzz": "afl++",
+            "afl-tmin": "afl++"}
+ALWAYS = {"apt-get", "cd", "dirname", "done", "for", "head", "ln", "mte_run", "perl", "python3",
+          "rt"}
+
+
+def tools_of(command: str) -> Iterator[str]:
+    """What a command starts by a name that is looked for on PATH."""
+    lexer = shlex.shlex(command, posix=True, punctuation_chars=True)
+    lexer.whitespace_split = is_first = True
+    for word in lexer:
+        if word.startswith("$("):
+            yield from tools_of(word[2:].rstrip(")"))
+        if set(word) <= set("();|&") or word == "do":
+            is_first = True
+        elif is_first and "=" not in word:
+            yield from [word] * ("/" not in word)
+            is_first = False
+
+
+@pytest.mark.parametrize("page", [it for it in pages() if is_for_users(it)])
+def test_tools_of_commands(page: str) -> None:
+    """A tool that a page's command starts is in a Debian package that the suite needs, and whose
+    name is the tool's or on the page."""
+    needed = (TESTS / "packages.txt").read_text(encoding="utf-8")
+    commands = [command for part in parts_of(page) if part.is_for_shell
+                for command in part.commands() if not command.startswith("(gdb) ")]
+    for tool in {it for command in commands for it in tools_of(command)} - ALWAYS:
+        names = PACKAGES.get(tool, tool).split()
+        forms = [rf"(?<![\w+-]){re.escape(it)}(?![\w+-])" for it in names]
+        assert any(re.search(f"^{form}", needed, re.M) for form in forms), tool
+        assert tool in names or any(re.search(it, read_page(page)) for it in forms), tool
+
+
+def test_tools_are_found() -> None:
+    """Behind what a shell reads in front of them, and within its substitutions."""
+    command = 'A=1 B=$(c "$(d | e)"); for i in 1 2; do F=$i g -x "h; i" | j; done && k/l && ./m < n'
+    assert [*tools_of(command)] == ["c", "d", "e", "for", "g", "j", "done"]
 
 
 def prepare(copy: Copy, part: Part, built: Built) -> None:

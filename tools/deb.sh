@@ -4,7 +4,7 @@
 #
 #     tombolopan          programs, tenant-cc with the C library of tenants, examples, completions
 #     libtombolopan2      the shared library
-#     libtombolopan-dev   header, static library, file for pkg-config, manual pages of the calls
+#     libtombolopan-dev   headers, static library, file for pkg-config, manual pages of the calls
 #     python3-tombolopan  the module for Python
 #     tombolopan-doc      pages, all theorems (THEOREMS.md, by tools/believe.py --all), and the list
 #                         of what is inside (tombolopan.spdx.json)

@@ -5,7 +5,7 @@
              [--fuzzer libfuzzer|afl]... [--counts N]
 
 FOLDER gets NAME.elf of each tenant, the programs libfuzzer and afl, and for each tenant a corpus
-and a dictionary. Without --tenant it is cards, without --fuzzer each one whose compiler is there.
+and a dictionary. Without --tenant it is cards, without --fuzzer each one that is there.
 N (4096) is how many counts of edges they have, a power of two up to 65536.
 LIBRARY is crates/tombolopan_c/out/libtombolopan_c.a, which tools/build.sh makes, or that of the
 prefix in which this is installed. expat and lua are built from Debian's sources by
@@ -113,7 +113,30 @@ def afl(folder: pathlib.Path, flags: Words, linked: Words) -> None:
          folder / "afl", HERE / "afl.c", *plain, *linked])
 
 
-FUZZERS = {"libfuzzer": (libfuzzer, "clang"), "afl": (afl, "afl-clang-fast")}
+def has_libfuzzer() -> bool:
+    """Whether clang has libFuzzer."""
+    told = subprocess.run(["clang", "-print-resource-dir"], stdout=subprocess.PIPE, text=True,
+                          check=True)
+    return any(pathlib.Path(told.stdout.strip()).glob("lib/*/libclang_rt.fuzzer*"))
+
+
+def has_afl() -> bool:
+    """Whether AFL++ is there."""
+    return shutil.which("afl-clang-fast") is not None
+
+
+# How each is built, whether it is there, and the Debian package that has it.
+FUZZERS = {"libfuzzer": (libfuzzer, has_libfuzzer, "libclang-rt-14-dev"),
+           "afl": (afl, has_afl, "afl++")}
+
+
+def there(wanted: Sequence[str]) -> list[str]:
+    """The fuzzers that are wanted, or all that are there; ends where one or each is not."""
+    found = [name for name, (_, is_there, _) in FUZZERS.items() if is_there()]
+    for name in wanted or ([] if found else FUZZERS):
+        if name not in found:
+            leave(f"{name} is not there (Debian: {FUZZERS[name][2]})")
+    return list(wanted) or found
 
 
 def heap(library: pathlib.Path) -> list[pathlib.Path]:
@@ -138,6 +161,7 @@ def main() -> None:
     for tool, package in TOOLS.items():
         if not shutil.which(tool):
             leave(f"{tool} is not there (Debian: {package})")
+    fuzzers = there(wanted.fuzzer or [])
     folder = wanted.folder.resolve()
     folder.mkdir(parents=True, exist_ok=True)
     for name in wanted.tenant or ["cards"]:
@@ -146,7 +170,7 @@ def main() -> None:
         shutil.copyfile(HERE / f"{name}.dict", folder / f"{name}.dict")
     flags = [f"-I{over_library.prefix()}/include", f"-DCOUNTS={wanted.counts}"]
     linked = [wanted.library, *heap(wanted.library)]
-    for name in wanted.fuzzer or [it for it, (_, tool) in FUZZERS.items() if shutil.which(tool)]:
+    for name in fuzzers:
         FUZZERS[name][0](folder, flags, linked)
 
 

@@ -144,8 +144,12 @@ def main() -> None:
     parser.add_argument("--program", default="mte_run")
     parser.add_argument("--exact", action="store_true")
     wanted = parser.parse_args()
-    if not shutil.which(wanted.program):
-        sys.exit(f"campaign.py: {wanted.program} is not there (--program)")
+    needed = {wanted.program: "--program", f"{wanted.folder.resolve()}/{wanted.fuzzer}": "build.py"}
+    if wanted.fuzzer == "afl":
+        needed["afl-fuzz"] = "Debian: afl++"
+    for program, where in needed.items():
+        if not shutil.which(program):
+            sys.exit(f"campaign.py: {program} is not there ({where})")
     campaign = Campaign(wanted)
     done, edges = FUZZERS[wanted.fuzzer](campaign)
     took = time.time() - campaign.began

@@ -6,18 +6,21 @@
 Runs each crash N times (1000) by mte_run, from a start of its own, and compares all that it says,
 byte for byte. A line for each crash: its cause, the source line of the access, of the call that
 made the chunk and of the one that freed it. Exit status 1: a run said something else, or was no
-crash. SEED is that of the fuzzer; --exact is for crashes of one with EXACT=1.
+crash; 2 to 6: that of mte_run, which says why there is no run: 5 where a file cannot be read. SEED
+is that of the fuzzer; --exact is for crashes of one with EXACT=1.
 """
 import pathlib
 import re
+import shutil
 import subprocess
 import sys
 
 sys.path.insert(0, str(pathlib.Path(__file__).resolve().parents[1]))
 from command_line import Parser  # noqa: E402
 
-# The exit statuses by which mte_run tells of a crash are those of signals.
-SIGNAL = 128
+# The exit statuses of mte_run: of a crash, and where it runs nothing (docs/MTE_RUN.md). A tenant
+# may exit with each of them, which the last line tells.
+CRASHES, NOTHING = {129, 130, 131, 132, 133, 137}, range(2, 7)
 STACK = re.compile(r"\s+(allocated|freed) by call")
 LINE = re.compile(r"\s+#\d+ .* at (\S+:\d+)")
 STACKS = {"allocated": "made", "freed": "freed"}
@@ -56,17 +59,23 @@ def main() -> None:
     parser.add_argument("--program", default="mte_run")
     parser.add_argument("--exact", action="store_true")
     wanted = parser.parse_args()
+    if not shutil.which(wanted.program):
+        parser.error(f"{wanted.program} is not there")
     program = [wanted.program, *["--exact"] * wanted.exact, "--seed", wanted.seed.rjust(16, "0")]
     for crash in wanted.crash:
         words = [*program, "--input", str(crash), str(wanted.image)]
-        first = told(words)
-        if first[0] <= SIGNAL:
-            sys.exit(f"{crash}: no crash (status {first[0]})")
+        status, said = first = told(words)
+        is_exit = said.endswith(f"mte_run: exited with {status}\n")
+        if status in NOTHING and not is_exit:
+            sys.stderr.write(said)
+            sys.exit(status)
+        if status not in CRASHES or is_exit:
+            sys.exit(f"{crash}: no crash (status {status})")
         for number in range(1, wanted.times):
             if told(words) != first:
                 sys.exit(f"{crash}: run {number} differs from the first one")
-        cause = re.search(r"^Cause: (.*)$", first[1], re.M)
-        stacks = "; ".join(f"{name} {' '.join(its)}" for name, its in places(first[1]).items())
+        cause = re.search(r"^Cause: (.*)$", said, re.M)
+        stacks = "; ".join(f"{name} {' '.join(its)}" for name, its in places(said).items())
         print(f"{crash}: {wanted.times} runs alike: {cause[1] if cause else 'no cause'}; {stacks}",
               flush=True)
 

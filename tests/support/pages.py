@@ -21,9 +21,11 @@ TOOLS = ("apt-get", "c++", "cc", "clang", "gdb-multiarch", "make", "mte_host", "
          "python3", "rustc", "sudo", "tenant-cc")
 # In front of a command: a change of the folder, and variables.
 BEFORE = r"(?:\(cd [^&]* && )?(?:\w+=[\w./-]* )*"
-PATH_WORD = r"(?:\.{0,2}/)?[\w.-]+(?:/[\w.-]+)+"
+PATH_WORD = r"(?:\.{0,2}/)?[\w.-]+(?:/[\w.+-]+)+"
 COMMAND = re.compile(rf"{BEFORE}(?:(?:{'|'.join(map(re.escape, TOOLS))})(?= |$)"
                      rf"|{PATH_WORD}(?= |$)|\w+=\$\()")
+# How commands begin that stand as text, since no test runs them.
+TYPED = re.compile(rf"(?!mte_run \d)(?:{COMMAND.pattern}|(?:cd|for) |{BEFORE}afl-\w+ )")
 # How the texts begin that the programs print: a line on standard error, a report, a row of a
 # picture, an instruction.
 SAMPLE = re.compile(r"(mte_\w+|[\w-]+\.sh|error|install\.sh): |tenant \d+$|refused \d+ "
@@ -62,6 +64,11 @@ class Part:
     def has_commands(self) -> bool:
         """Whether it is of commands."""
         return self.language in ("", "sh") and bool(COMMAND.match(self.lines[0]))
+
+    @property
+    def is_for_shell(self) -> bool:
+        """Whether it is of commands, those among them that stand as text."""
+        return self.has_commands or self.language == "text" and bool(TYPED.match(self.lines[0]))
 
     @property
     def is_sample(self) -> bool:

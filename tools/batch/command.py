@@ -148,8 +148,8 @@ def library_runner() -> tuple[runs.Runner, str]:
     """What runs sessions by the library, and its sum."""
     program = runs.library_sum()
     if not program:
-        raise Usage("libtombolopan.so is not found: examples/embed/shared.sh makes it, and the "
-                    f"variable {runs.LIBRARY} may name it")
+        raise Usage("libtombolopan.so is not found: examples/embed/shared.sh makes it, Debian's "
+                    f"libtombolopan2 has it, and the variable {runs.LIBRARY} may name it")
     return functools.partial(runs.run_by_library, wanted=program), program
 
 

@@ -36,10 +36,14 @@ def find_library() -> str:
     embed = top / "examples" / "embed"
     if str(embed) not in sys.path:
         sys.path.append(str(embed))
-    is_checkout = (top / "crates.txt").exists()
-    near = (embed if is_checkout else top.parents[1] / "lib") / "libtombolopan.so"
-    named = pathlib.Path(os.environ.get(LIBRARY) or near)
-    return str(named.resolve()) if named.is_file() else ""
+    near = [embed / "libtombolopan.so"]
+    if not (top / "crates.txt").exists():
+        lib = top.parents[1] / "lib"
+        # Debian has it in a folder of the machine's name.
+        near = [*lib.glob("libtombolopan.so.*"), *lib.glob("*/libtombolopan.so.*")]
+    named = os.environ.get(LIBRARY)
+    found = [it for it in ([pathlib.Path(named)] if named else near) if it.is_file()]
+    return str(found[0].resolve()) if found else ""
 
 
 def sum_of_file(path: str) -> str:

@@ -40,7 +40,7 @@ def all_packages(shared: str) -> tuple[Package, ...]:
                 depends="{libraries}", multi_arch="same"),
         Package(DEVELOPMENT, ANY, "libdevel", "development files of Tombolopan",
                 "A library that runs sessions of A64 programs, or one of them step by step, over\n"
-                "a modelled memory with tags. This package has the header, the static library,\n"
+                "a modelled memory with tags. This package has the headers, the static library,\n"
                 "the manual pages of the calls, and a module of Rust.",
                 depends="{shared} (= {version})", suggests=PAGES),
         Package(PYTHON, ALL, "python", "Tombolopan's library for Python",

@@ -16,7 +16,7 @@ RULES = (
     (r"share/tombolopan/(?:installed|unproved)", "", ""),
     (r"lib/(libtombolopan\.so\.\d+)", "{shared}", r"lib/{arch}/\1"),
     (r"lib/(libtombolopan\.\w+|pkgconfig/.*)", DEVELOPMENT, r"lib/{arch}/\1"),
-    (r"(include/tombolopan\.h|share/man/man3/.*)", DEVELOPMENT, r"\1"),
+    (r"(include/tombolopan(?:_explain)?\.h|share/man/man3/.*)", DEVELOPMENT, r"\1"),
     (r"(share/tombolopan/tombolopan\.rs)", DEVELOPMENT, r"\1"),
     (r"share/tombolopan/(tombolopan/.*)", PYTHON, r"lib/python3/dist-packages/\1"),
     (r"share/doc/tombolopan/(.*)", PAGES, r"share/doc/tombolopan/\1"),
