@@ -4,6 +4,7 @@
 #![tactic(auto)]
 
 mod access_form;
+mod arrays;
 mod frames;
 mod judgement;
 mod marks;
