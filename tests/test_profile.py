@@ -28,6 +28,7 @@ import run_counts  # noqa: E402
 
 TOOL = EXAMPLES / "libc" / "tenant-profile"
 IMAGES = sorted((pathlib.Path(__file__).parent / "images").glob("*.elf"))
+PROGRAMS = sorted((EXAMPLES / "libc" / "tests" / "programs").glob("*.c"))[:8]
 ACTS = "afmu"
 DRAWN = int(os.environ.get("TOMBOLOPAN_DRAWN", "200")) // 4
 WAYS: list[list[Word]] = [[], ["--slices", "1,7,1000,1000000"], ["--exact"], ["--check"],
@@ -124,7 +125,7 @@ def test_drawn_programs(alone: pathlib.Path, tmp_path: pathlib.Path) -> None:
     steps = 0
     for seed in range(DRAWN):
         *words, path = runner.prepare(programs.draw(seed).words)
-        steps += compare(alone, tmp_path, pathlib.Path(path), [*words, *WAYS[seed % len(WAYS)]])
+        steps += compare(alone, tmp_path, pathlib.Path(str(path)), [*words, *WAYS[seed % len(WAYS)]])
     assert DRAWN < 50 or steps > 10_000
 
 
@@ -251,8 +252,7 @@ def test_runs_add_up(alone: pathlib.Path, tmp_path: pathlib.Path) -> None:
     assert ran.status == 5 and ran.errors.startswith("tenant-profile: ")
 
 
-@pytest.mark.parametrize("source", sorted(
-    (EXAMPLES / "libc" / "tests" / "programs").glob("*.c"))[:8], ids=lambda path: path.stem)
+@pytest.mark.parametrize("source", PROGRAMS, ids=[path.stem for path in PROGRAMS])
 def test_lines_beside_gcov(alone: pathlib.Path, tmp_path: pathlib.Path,
                            source: pathlib.Path) -> None:
     """A line that both know was executed by a tenant where gcov says so of a native build."""

@@ -1,4 +1,4 @@
-"""The counts of a run in the forms that other tools read. Each function gives the text of a file."""
+"""The counts of a run in the forms that other tools read. Each function gives a file's text."""
 from __future__ import annotations
 
 import gzip
@@ -31,7 +31,8 @@ def words_of(image: bytes) -> dict[int, int]:
     """The words of an ELF64 file's segments with code, by their addresses."""
     if image[:6] != b"\x7fELF\x02\x01":
         return {}
-    start, size, count = (*struct.unpack_from("<Q", image, 32), *struct.unpack_from("<HH", image, 54))
+    start, = struct.unpack_from("<Q", image, 32)
+    size, count = struct.unpack_from("<HH", image, 54)
     found = {}
     for number in range(count):
         kind, flags, offset, address, _, held = struct.unpack_from(

@@ -1,8 +1,8 @@
 //! The search for variables through `.debug_info`.
 
+use crate::array_table::ArrayVariable;
 use crate::blocks::{BlockTable, LexicalBlock};
 use crate::declaration::{Declaration, VariableName};
-use crate::array_table::ArrayVariable;
 use crate::frame_table::{Compiler, DeclaredObject, FrameBase, FrameFunction, FrameVariable};
 use crate::types::{TypeSize, UnitTypes};
 use debug_info::{

@@ -267,10 +267,7 @@ impl NamedPlaces {
                 ..array_place(frame, made)
             };
         }
-        let newest = Some(NewArray {
-            pc: made.pc,
-            index,
-        });
+        let newest = Some(NewArray { pc: made.pc, index });
         self.arrays.newest = newest;
         self.arrays.unnamed = newest;
         Ok(PointerOrigin::of_place(index))

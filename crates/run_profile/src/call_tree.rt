@@ -1,7 +1,7 @@
 //! The calls of a run, by the calls that they were made in.
 
 use crate::long_calls::{LongCall, LongCalls};
-use crate::pair_numbers::{Pair, PairNumbers};
+use crate::pair_numbers::{NumberPair, PairNumbers};
 use std::alloc::{AllocError, Global};
 
 /// How many calls may be open. Those in the last one count as its own.
@@ -11,7 +11,7 @@ const DEEPEST: usize = 65_536;
 const REACH: usize = 4_096;
 
 /// What was made before the first call: its pair is none of a call.
-const ROOT: Pair = Pair {
+const ROOT: NumberPair = NumberPair {
     first: u64::MAX,
     second: u64::MAX,
 };
@@ -68,14 +68,14 @@ impl CallTree {
     }
 
     /// The nodes, and for each its pair.
-    pub fn nodes(&self) -> (&[CallNode], &[Pair]) {
+    pub fn nodes(&self) -> (&[CallNode], &[NumberPair]) {
         (self.nodes.as_slice(), self.numbers.pairs())
     }
 
     /// A call by the branch with a number, after some steps.
     pub fn call(&mut self, edge: usize, entry: u64, back: u64, steps: u64) {
         self.charge(steps);
-        let pair = Pair {
+        let pair = NumberPair {
             first: self.node() as u64,
             second: edge as u64,
         };
@@ -127,7 +127,7 @@ impl CallTree {
     }
 
     /// Counts a call of the node with a pair.
-    fn enter(&mut self, pair: Pair) -> Option<usize> {
+    fn enter(&mut self, pair: NumberPair) -> Option<usize> {
         let number = self.numbers.enter(pair)?;
         if number >= self.nodes.len() {
             self.nodes.push(CallNode { calls: 0, steps: 0 }).ok()?;

@@ -72,7 +72,7 @@ impl<'n, 'a> CodeNames<'n, 'a> {
         Ok(())
     }
 
-    /// Writes a line for each address from which on the source line or the inlined calls are others.
+    /// Writes a line for each address from which on the line or the inlined calls are others.
     pub fn write_lines<W: Write>(&self, alloc: Global, out: &mut W) -> io::Result<()> {
         let lines = self.names.lines.lines_of(alloc, self.addresses)?;
         for some in self.addresses.chunks(INSTRUCTIONS) {

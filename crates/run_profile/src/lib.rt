@@ -3,13 +3,13 @@
 //! a tenant goes straight on between two of them.
 #![tactic(auto)]
 
+mod call_change;
 mod call_tree;
 mod code_names;
 mod long_calls;
 mod pair_numbers;
 mod profile_file;
 mod run_profile;
-mod turn;
 
 pub use profile_file::ProfileFile;
 pub use run_profile::RunProfile;

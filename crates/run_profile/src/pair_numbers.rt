@@ -14,7 +14,7 @@ const MOST_PAIRS: usize = 1_048_576;
 
 /// Two numbers.
 #[derive(Clone, Copy, PartialEq, Eq)]
-pub struct Pair {
+pub struct NumberPair {
     pub first: u64,
     pub second: u64,
 }
@@ -25,12 +25,12 @@ pub struct PairNumbers {
     alloc: Global,
     /// For each place the number and 1 of a pair, or 0 for none. They are a power of two.
     places: Vec<u32>,
-    pairs: Vec<Pair>,
+    pairs: Vec<NumberPair>,
 }
 
 /// Where a pair is in a table.
 #[derive(Clone, Copy)]
-enum Place {
+enum PairPlace {
     /// At this number.
     Known(usize),
     /// It may be entered at this place.
@@ -50,13 +50,13 @@ impl PairNumbers {
     }
 
     /// The pairs, in the order of their numbers.
-    pub fn pairs(&self) -> &[Pair] {
+    pub fn pairs(&self) -> &[NumberPair] {
         self.pairs.as_slice()
     }
 
     /// The number of a pair where it is at the first place that it may have.
     #[inline(always)]
-    pub fn find_first(&self, pair: Pair) -> Option<usize> {
+    pub fn find_first(&self, pair: NumberPair) -> Option<usize> {
         let place = first_place(pair, self.places.len());
         let number = self.number_at(place)?;
         if self.pairs.get(number) == Some(&pair) {
@@ -67,14 +67,14 @@ impl PairNumbers {
     }
 
     /// The number of a pair, which is entered where it has none. `None` where there is no room.
-    pub fn enter(&mut self, pair: Pair) -> Option<usize> {
+    pub fn enter(&mut self, pair: NumberPair) -> Option<usize> {
         if self.pairs.len() >= self.places.len() / 2 {
             self.grow();
         }
         match self.place_of(pair) {
-            Place::Known(number) => Some(number),
-            Place::Free(place) => self.enter_at(place, pair),
-            Place::None => None,
+            PairPlace::Known(number) => Some(number),
+            PairPlace::Free(place) => self.enter_at(place, pair),
+            PairPlace::None => None,
         }
     }
 
@@ -85,23 +85,23 @@ impl PairNumbers {
     }
 
     /// Where a pair is, or where it may be entered.
-    fn place_of(&self, pair: Pair) -> Place {
+    fn place_of(&self, pair: NumberPair) -> PairPlace {
         let count = self.places.len();
         let mut place = first_place(pair, count);
         for _ in 0..PROBES {
             match self.number_at(place) {
                 Some(number) if self.pairs.get(number) == Some(&pair) => {
-                    return Place::Known(number);
+                    return PairPlace::Known(number);
                 }
                 Some(_) => place = place.wrapping_add(1) & count.saturating_sub(1),
-                None => return Place::Free(place),
+                None => return PairPlace::Free(place),
             }
         }
-        Place::None
+        PairPlace::None
     }
 
     /// Enters a pair at a place.
-    fn enter_at(&mut self, place: usize, pair: Pair) -> Option<usize> {
+    fn enter_at(&mut self, place: usize, pair: NumberPair) -> Option<usize> {
         let number = self.pairs.len();
         if number >= MOST_PAIRS {
             return None;
@@ -127,7 +127,7 @@ impl PairNumbers {
         self.places = places;
         for number in 0..self.pairs.len() {
             if let Some(pair) = self.pairs.get(number).copied() {
-                if let Place::Free(place) = self.place_of(pair) {
+                if let PairPlace::Free(place) = self.place_of(pair) {
                     self.take(place, number);
                 }
             }
@@ -137,7 +137,7 @@ impl PairNumbers {
 
 /// The first of so many places that a pair may have.
 #[inline(always)]
-fn first_place(pair: Pair, count: usize) -> usize {
+fn first_place(pair: NumberPair, count: usize) -> usize {
     let mixed = pair
         .first
         .wrapping_mul(0x9E37_79B9_7F4A_7C15)

@@ -1,8 +1,8 @@
 //! What is counted while a tenant runs.
 
+use crate::call_change::CallChange;
 use crate::call_tree::CallTree;
-use crate::pair_numbers::{Pair, PairNumbers};
-use crate::turn::Turn;
+use crate::pair_numbers::{NumberPair, PairNumbers};
 use a64_registers::Regs;
 use a64_run::Edges;
 use mte_backtrace::Names;
@@ -13,7 +13,7 @@ use std::alloc::{AllocError, Global};
 pub struct TakenBranch {
     /// How often.
     pub count: u64,
-    turn: Turn,
+    change: CallChange,
 }
 
 /// The branches that a tenant takes, and the calls that they make, with the steps between them.
@@ -80,41 +80,41 @@ impl<'a> RunProfile<'a> {
     }
 
     /// The branches, and for each its pair of addresses.
-    pub(crate) fn branches(&self) -> (&[TakenBranch], &[Pair]) {
+    pub(crate) fn branches(&self) -> (&[TakenBranch], &[NumberPair]) {
         (self.branches.as_slice(), self.numbers.pairs())
     }
 
     /// Counts a branch that is at no first place of the table, or that makes or ends a call.
     #[inline(never)]
-    fn count_turn(&mut self, pair: Pair) {
+    fn count_change(&mut self, pair: NumberPair) {
         match self.count(pair) {
-            Some((number, turn)) => self.make(turn, number, pair),
+            Some((number, change)) => self.make(change, number, pair),
             None => self.is_short = true,
         }
     }
 
     /// Counts a branch; its number and what it does to the calls.
-    fn count(&mut self, pair: Pair) -> Option<(usize, Turn)> {
+    fn count(&mut self, pair: NumberPair) -> Option<(usize, CallChange)> {
         let number = self.numbers.enter(pair)?;
         if number >= self.branches.len() {
             let symbols = &self.names.symbols;
             let (from, to) = (symbols.place(pair.first), symbols.place(pair.second));
-            let turn = Turn::of(self.word, &from, &to);
-            self.branches.push(TakenBranch { count: 0, turn }).ok()?;
+            let change = CallChange::of(self.word, &from, &to);
+            self.branches.push(TakenBranch { count: 0, change }).ok()?;
         }
         let branch = self.branches.get_mut(number)?;
         branch.count = branch.count.wrapping_add(1);
-        Some((number, branch.turn))
+        Some((number, branch.change))
     }
 
     /// Changes the calls as a branch does.
-    fn make(&mut self, turn: Turn, number: usize, pair: Pair) {
+    fn make(&mut self, change: CallChange, number: usize, pair: NumberPair) {
         let (from, to, steps) = (pair.first, pair.second, self.steps);
-        match turn {
-            Turn::Stay => {}
-            Turn::Call => self.tree.call(number, to, from.wrapping_add(4), steps),
-            Turn::Tail => self.tree.replace(number, to, steps),
-            Turn::Return => {
+        match change {
+            CallChange::Stay => {}
+            CallChange::Call => self.tree.call(number, to, from.wrapping_add(4), steps),
+            CallChange::Tail => self.tree.replace(number, to, steps),
+            CallChange::Return => {
                 let function = to.wrapping_sub(self.names.symbols.place(to).offset());
                 self.tree.leave(to, function, steps);
             }
@@ -128,19 +128,19 @@ impl<'a> Edges for RunProfile<'a> {
         let run = from.wrapping_sub(self.start) / 4;
         self.steps = self.steps.wrapping_add(run).wrapping_add(1);
         self.start = to;
-        let pair = Pair {
+        let pair = NumberPair {
             first: from,
             second: to,
         };
         if let Some(number) = self.numbers.find_first(pair) {
             if let Some(branch) = self.branches.get_mut(number) {
-                if branch.turn == Turn::Stay {
+                if branch.change == CallChange::Stay {
                     branch.count = branch.count.wrapping_add(1);
                     return;
                 }
             }
         }
-        self.count_turn(pair);
+        self.count_change(pair);
     }
 
     #[inline(always)]

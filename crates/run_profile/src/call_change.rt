@@ -7,7 +7,7 @@ const BY_REGISTER: u32 = 0xFFFF_FC1F;
 
 /// What a branch does to the calls that are open.
 #[derive(Clone, Copy, PartialEq, Eq)]
-pub enum Turn {
+pub enum CallChange {
     /// Nothing.
     Stay,
     /// A call is opened.
@@ -18,20 +18,20 @@ pub enum Turn {
     Return,
 }
 
-impl Turn {
+impl CallChange {
     /// What the branch of a word does, by the symbols of its own place and of the next one.
-    pub fn of(word: u32, from: &SymbolOffset<'_>, to: &SymbolOffset<'_>) -> Turn {
+    pub fn of(word: u32, from: &SymbolOffset<'_>, to: &SymbolOffset<'_>) -> CallChange {
         // BL, then BLR, then RET.
         if word >> 26 == 0x25 || word & BY_REGISTER == 0xD63F_0000 {
-            return Turn::Call;
+            return CallChange::Call;
         }
         if word & BY_REGISTER == 0xD65F_0000 {
-            return Turn::Return;
+            return CallChange::Return;
         }
         match to.shares_function(from) {
-            Some(false) if to.offset() == 0 => Turn::Tail,
-            Some(false) => Turn::Return,
-            _ => Turn::Stay,
+            Some(false) if to.offset() == 0 => CallChange::Tail,
+            Some(false) => CallChange::Return,
+            _ => CallChange::Stay,
         }
     }
 }
