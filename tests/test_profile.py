@@ -125,7 +125,8 @@ def test_drawn_programs(alone: pathlib.Path, tmp_path: pathlib.Path) -> None:
     steps = 0
     for seed in range(DRAWN):
         *words, path = runner.prepare(programs.draw(seed).words)
-        steps += compare(alone, tmp_path, pathlib.Path(str(path)), [*words, *WAYS[seed % len(WAYS)]])
+        given = [*words, *WAYS[seed % len(WAYS)]]
+        steps += compare(alone, tmp_path, pathlib.Path(str(path)), given)
     assert DRAWN < 50 or steps > 10_000
 
 

@@ -33,7 +33,7 @@ def words_of(image: bytes) -> dict[int, int]:
         return {}
     start, = struct.unpack_from("<Q", image, 32)
     size, count = struct.unpack_from("<HH", image, 54)
-    found = {}
+    found: dict[int, int] = {}
     for number in range(count):
         kind, flags, offset, address, _, held = struct.unpack_from(
             "<IIQQQQ", image, start + number * size)
