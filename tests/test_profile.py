@@ -22,9 +22,9 @@ from tests.support.running import Word, run, succeed
 from tests.support.tools import need
 from tests.support.traces import Step, read_trace
 
-sys.path.insert(0, str(EXAMPLES / "libc"))
-import count_forms  # noqa: E402
-import run_counts  # noqa: E402
+sys.path.insert(0, str(EXAMPLES / "embed"))
+from tombolopan_profile import counts as run_counts  # noqa: E402
+from tombolopan_profile import forms  # noqa: E402
 
 TOOL = EXAMPLES / "libc" / "tenant-profile"
 IMAGES = sorted((pathlib.Path(__file__).parent / "images").glob("*.elf"))
@@ -149,7 +149,7 @@ def test_functions_and_lines(alone: pathlib.Path, tmp_path: pathlib.Path,
     assert addresses
     for address, row in zip(addresses, rows, strict=True):
         place = counts.place_at(address)
-        mine = [count_forms.number_of(line)
+        mine = [forms.number_of(line)
                 for line in (place.line, *(call.line for call in place.inlined))]
         assert mine == [frame["Line"] for frame in row["Symbol"]], hex(address)
         inlined = [frame["FunctionName"] for frame in row["Symbol"]][:-1]
@@ -273,7 +273,7 @@ def test_lines_beside_gcov(alone: pathlib.Path, tmp_path: pathlib.Path,
               for count, number, _ in (line.split(":", 2) for line in lines)
               if count.strip() != "-"}
     counts = run_counts.read_files([tmp_path / "counts"])
-    covered = count_forms.coverage(counts, {})
+    covered = forms.coverage(counts, {})
     mine = next(one.lines for file, one in covered.items() if file.endswith(source.name))
     shared_lines = sorted(theirs.keys() & mine.keys())
     assert {at: theirs[at] for at in shared_lines} == {at: mine[at] > 0 for at in shared_lines}

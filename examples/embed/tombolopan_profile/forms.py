@@ -10,7 +10,7 @@ from collections.abc import Iterable, Mapping
 from dataclasses import dataclass, field
 from xml.sax.saxutils import quoteattr
 
-from run_counts import BYTES, Counts, Line, Place
+from tombolopan_profile.counts import BYTES, Counts, Line, Place
 
 UNKNOWN = "??"
 
@@ -307,29 +307,42 @@ def pprof(counts: Counts) -> bytes:
 # ---- text
 
 
-def table(counts: Counts, most: int) -> str:
-    """The functions with the most own steps, and how many of all were not reached."""
+@dataclass(frozen=True)
+class FunctionSteps:
+    """A function: its own steps, those with the calls in it, and how often it was called."""
+
+    name: str
+    own: int
+    whole: int
+    calls: int
+
+
+def functions(counts: Counts) -> list[FunctionSteps]:
+    """The functions that were reached, those with the most own steps first."""
     own: Counter[int] = Counter()
     for address, count in counts.executions().items():
         own[counts.function_at(address)[0]] += count
     whole: Counter[int] = Counter()
     calls: Counter[int] = Counter()
-    inclusive = counts.inclusive()
-    for number, call in enumerate(counts.calls):
-        entry = counts.function_at(call.entry)[0]
+    for number, (call, steps) in enumerate(zip(counts.calls, counts.inclusive(), strict=True)):
+        *outer, entry = (counts.function_at(counts.calls[one].entry)[0]
+                         for one in counts.stack(number))
         calls[entry] += call.calls
-        outer = [counts.function_at(counts.calls[one].entry)[0]
-                 for one in counts.stack(number)[:-1]]
         if entry not in outer:
-            whole[entry] += inclusive[number]
+            whole[entry] += steps
+    return [FunctionSteps(counts.function_at(entry)[1], steps, whole[entry], calls[entry])
+            for entry, steps in own.most_common()]
+
+
+def table(counts: Counts, most: int) -> str:
+    """The functions with the most own steps, and how many of all were reached."""
+    rows = functions(counts)
     found = [f"{counts.steps} steps of {counts.image}", "",
              f"{'own':>12} {'%':>6} {'with calls':>12} {'calls':>9}  function"]
-    for entry, steps in own.most_common(most):
-        share = 100 * steps / max(1, counts.steps)
-        found.append(f"{steps:>12} {share:>6.2f} {whole[entry]:>12} {calls[entry]:>9}  "
-                     f"{counts.function_at(entry)[1]}")
-    missed = sum(address not in own for address, _ in counts.functions)
-    found += ["", f"{len(counts.functions) - missed} of {len(counts.functions)} functions reached"]
+    for row in rows[:most]:
+        share = 100 * row.own / max(1, counts.steps)
+        found.append(f"{row.own:>12} {share:>6.2f} {row.whole:>12} {row.calls:>9}  {row.name}")
+    found += ["", f"{len(rows)} of {len(counts.functions)} functions reached"]
     return "\n".join([*found, ""])
 
 

@@ -16,7 +16,7 @@ HEAD = "tombolopan profile\t1"
 BYTES = 4  # of an instruction
 
 
-class WrongCounts(Exception):
+class WrongCounts(ValueError):
     """A file that is no profile, or one of another image."""
 
 
