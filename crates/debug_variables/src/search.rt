@@ -1,10 +1,10 @@
 //! The search for variables through `.debug_info`.
 
-use crate::array_table::ArrayVariable;
+use crate::array_table::{ArrayVariable, KeptOfArray};
 use crate::blocks::{BlockTable, LexicalBlock};
 use crate::declaration::{Declaration, VariableName};
 use crate::frame_table::{Compiler, DeclaredObject, FrameBase, FrameFunction, FrameVariable};
-use crate::types::{TypeSize, UnitTypes};
+use crate::types::{CountedArray, TypeSize, UnitTypes};
 use debug_info::{
     Abbreviation, Abbreviations, AddressRange, AttributeValue, Budget, CompilationUnit,
     DebugSections, Entry, Ranges, Scope, UnitBytes, number,
@@ -368,7 +368,10 @@ impl VariableSearch {
         };
         match scope.place_of(expression) {
             Some(VariablePlace::Pointed(base, offset)) => match self.block_around(depth) {
-                Some(of) => self.enter_array(scope, entry, of.function, ((base, offset), true)),
+                Some(of) => {
+                    let kept = KeptOfArray::Address;
+                    self.enter_array(scope, entry, of.function, (base, offset), kept)
+                }
                 None => Ok(()),
             },
             Some(VariablePlace::Frame(base, offset)) => match self.block_around(depth) {
@@ -388,24 +391,29 @@ impl VariableSearch {
         entry: &Entry<'a>,
         depth: u64,
     ) -> Result<(), AllocError> {
-        let Some(count) = scope.count_of(entry, &mut self.budget) else {
+        let Some(counted) = scope.counted(entry, &mut self.budget) else {
             self.note_optimized(depth);
             return Ok(());
         };
-        match (scope.slot_of(&count), self.block_around(depth)) {
-            (Some(slot), Some(of)) => self.enter_array(scope, entry, of.function, (slot, false)),
+        let count = scope.types.entry_at(counted.count, &mut self.budget);
+        let slot = count.and_then(|count| scope.slot_of(&count));
+        match (slot, self.block_around(depth)) {
+            (Some(slot), Some(of)) => {
+                let kept = KeptOfArray::Count(counted.element);
+                self.enter_array(scope, entry, of.function, slot, kept)
+            }
             _ => Ok(()),
         }
     }
 
-    /// Enters an array of variable length of a function, by where its address is kept, or how many
-    /// elements it has.
+    /// Enters an array of variable length of a function, by what is kept of it, and where.
     fn enter_array<'a>(
         &mut self,
         scope: &UnitScope<'_, 'a>,
         entry: &Entry<'a>,
         function: usize,
-        ((base, offset), has_pointer): ((Option<FrameBase>, u64), bool),
+        (base, offset): (Option<FrameBase>, u64),
+        kept: KeptOfArray,
     ) -> Result<(), AllocError> {
         let Some(of) = self.functions.get(function).copied() else {
             return Ok(());
@@ -418,7 +426,7 @@ impl VariableSearch {
             function: of.low,
             base: base.unwrap_or(of.base),
             offset,
-            has_pointer,
+            kept,
             name: scope.name(&entry),
             declaration: scope.declaration(&entry),
         })?;
@@ -521,12 +529,10 @@ impl<'t, 'a> UnitScope<'t, 'a> {
         }
     }
 
-    /// The entry of the variable that has the number of elements of a variable, if that is an array
-    /// of variable length.
-    fn count_of(&self, entry: &Entry<'a>, budget: &mut Budget) -> Option<Entry<'a>> {
+    /// The facts about a variable that is an array of variable length.
+    fn counted(&self, entry: &Entry<'a>, budget: &mut Budget) -> Option<CountedArray> {
         let type_ = self.whole(entry, budget).type_.entry()?;
-        let at = self.types.counted_by(type_, budget)?;
-        self.types.entry_at(at, budget)
+        self.types.counted(type_, budget)
     }
 
     /// Where the variable of an entry is, if it is in a frame as a whole.
