@@ -72,6 +72,8 @@ WITH_FILES = {
     "unistd/readlink.c", "unistd/readlinkat.c", "unistd/renameat.c", "unistd/rmdir.c",
     "unistd/truncate.c", "unistd/unlink.c", "unistd/unlinkat.c",
 }
+# What sets something of signals, and links src/signals.c.
+WITH_SIGNALS = {"signal/sigaction.c", "signal/sigprocmask.c", "thread/pthread_sigmask.c"}
 # compiler-rt's helpers in C that are about a system or another machine, or have no use here.
 BUILTINS_LEFT_OUT = {
     "apple_versioning", "atomic", "atomic_flag_clear", "atomic_flag_clear_explicit",
@@ -142,6 +144,8 @@ def musl_units(musl, include, work):
             own = ["-U__GNUC__"] if str(name) in BYTE_BY_BYTE else []
             if str(name) in WITH_FILES:
                 own += ["-include", str(HERE / "arch/with_files.h")]
+            if str(name) in WITH_SIGNALS:
+                own += ["-include", str(HERE / "arch/with_signals.h")]
             yield file, work / f"musl.{'.'.join(name.parts)}.o", words + own
     for file in sorted((HERE / "src").iterdir()):
         yield file, work / f"tenant.{file.name}.o", words

@@ -12,6 +12,7 @@
 
 hidden weak long __tenant_file_call(long number, long a, long b, long c, long d);
 hidden weak long __tenant_map_call(long number, char *from, size_t size, long how);
+hidden weak long __tenant_signal_call(long number, long a, long b, long c);
 hidden weak size_t __tenant_pack(void);
 
 /* As write(2): -ENOSPC where there is room for no byte more. */
@@ -97,6 +98,7 @@ long __tenant_system(long number, long a, long b, long c, long d)
         return 0;
     case SYS_rt_sigaction:
     case SYS_rt_sigprocmask:
+        return __tenant_signal_call ? __tenant_signal_call(number, a, b, c) : 0;
     case SYS_get_robust_list:
     case SYS_set_robust_list:
         return 0;
