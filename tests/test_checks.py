@@ -94,8 +94,8 @@ PLAIN_PLACES = {
     22: (LEFT, "", "16-byte variable `block`"), 23: (LEFT, "", "16-byte variable `turn`"),
     24: (OVER, "0 bytes", "21-byte variable `text`"),
     25: (OVER, "0 bytes", "60-byte variable `rows`"),
-    26: (OVER, "0 bytes", "32-byte memory of `alloca`"),
-    27: (UNDER, "1 byte", "32-byte memory of `alloca`"),
+    26: (OVER, "0 bytes", "24-byte memory of `alloca`"),
+    27: (UNDER, "1 byte", "30-byte memory of `alloca`"),
     28: (RETURNED, "", "40-byte variable `local`"),
 }
 # The variables of blocks in C++, by the numbers in the source.
@@ -349,7 +349,7 @@ def test_variables(alone: pathlib.Path, tmp_path: pathlib.Path, build: str) -> N
         assert told.status == 137 and cause.format(distance, variable) in told.errors, (
             bug, told.errors)
         is_of_image, is_unnamed = bug in (7, 8, 9, 10, 16, 18, 20), bug in (26, 27)
-        of, at = ("  made by bug+0x", "") if is_unnamed else (
+        of, at = ("  made by ", "bug, place_bugs.c:") if is_unnamed else (
             "  a variable of ", "declared at place_bugs.c:")
         assert is_of_image or of in told.errors, (bug, told.errors)
         assert is_of_image or at in told.errors, (bug, told.errors)

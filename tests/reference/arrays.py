@@ -10,8 +10,6 @@ import random
 from dataclasses import dataclass, field
 
 FUNCTIONS, DEEPEST, IN_FRAME = 4, 3, 14
-# To a multiple of how many bytes SP moves.
-UNIT = 16
 # What no access has as its number.
 NONE = 0xFFFF
 # The number that each function is called with, which no compiler knows.
@@ -21,8 +19,6 @@ TYPES = (
     ("char", 1, ""), ("short", 2, ""), ("int", 4, ""), ("long", 8, ""),
     ("struct three", 3, ".at[2]"), ("struct wide", 24, ".at[0]"), ("struct even", 16, ".at[0]"),
 )
-# Where the member is that is written, and its bytes: at the start and 8 for others.
-MEMBERS = {"char": (0, 1), "short": (0, 2), "int": (0, 4), "struct three": (2, 1)}
 HEAD = """
 #ifdef __cplusplus
 #define IN_C extern "C"
@@ -102,35 +98,29 @@ class Array:
         """Its bytes."""
         return self.element * self.count
 
-    def known(self, compiler: str) -> int:
-        """The bytes that `mte_run` takes it for. clang does not show what was asked for of
-        `alloca`, but what that is rounded to."""
-        is_exact = self.is_named or compiler == "gcc"
-        return self.size if is_exact else self.size + -self.size % UNIT
+    @property
+    def text(self) -> str:
+        """What `mte_run` calls it."""
+        kind = f"variable `a{self.number}`" if self.is_named else "memory of `alloca`"
+        return f"{self.size}-byte {kind}"
 
 
 @dataclass(frozen=True)
 class Access:
-    """An access at a line, and what it is where it is wrong: bytes past its array's end, or in
-    front of its start, by their distance from these."""
+    """An access at a line, and what it is where it is wrong: how many bytes past the array's end,
+    or in front of its start."""
 
     array: Array
     line: int
     is_past: bool
     distance: int
-    count: int
 
-    def told(self, compiler: str) -> str:
-        """What `mte_run` says of it, if it says anything."""
-        size = self.array.known(compiler)
-        beyond = self.array.size + self.distance - size
-        if self.is_past and beyond + self.count <= 0:
-            return ""
-        far = max(beyond, 0) if self.is_past else self.distance
+    @property
+    def told(self) -> str:
+        """What `mte_run` says of it."""
         kind, side = ("Overflow", "right") if self.is_past else ("Underflow", "left")
-        of = f"variable `a{self.array.number}`" if self.array.is_named else "memory of `alloca`"
-        unit = "byte" if far == 1 else "bytes"
-        return f": Buffer {kind}, {far} {unit} {side} of the {size}-byte {of} at "
+        unit = "byte" if self.distance == 1 else "bytes"
+        return f": Buffer {kind}, {self.distance} {unit} {side} of the {self.array.text} at "
 
 
 @dataclass
@@ -171,35 +161,38 @@ def declare(it: Program, depth: int) -> Array:
 
 def access(it: Program, depth: int, array: Array) -> None:
     """An access to an array, which is wrong where its number is given."""
-    far, name, size = it.source.randrange(1, 4), f"a{array.number}", array.size
-    wrong = f"{far} * (wrong == {len(it.accesses)})"
-    is_past, distance, count = True, 0, far
+    number, far = len(it.accesses), it.source.randrange(1, 4)
+    name, size, wrong = f"a{array.number}", array.size, f"(wrong == {len(it.accesses)})"
+    is_past, distance = True, 0
     way = it.source.randrange(8)
     if way == 0:
-        text = f"sum += fill((char *){name}, {size} + {wrong});"
+        text = f"sum += fill((char *){name}, {size} + {far} * {wrong});"
     elif way == 1:
-        text = f"kept = (char *){name}, sum += fill_kept({size} + {wrong});"
+        text = f"kept = (char *){name}, sum += fill_kept({size} + {far} * {wrong});"
     elif way == 2:
-        text = f"sum += fill_deep(2, (char *){name}, {size} + {wrong});"
+        text = f"sum += fill_deep(2, (char *){name}, {size} + {far} * {wrong});"
     elif way == 3:
-        text = f"sum += sum_of((char *){name} + {size}, -{size} - {wrong}, 0);"
+        text = f"sum += sum_of((char *){name} + {size}, -{size} - {far} * {wrong}, 0);"
         is_past, distance = False, 1
     elif way == 4:
-        text = f"((char *){name})[{size - 1} + {wrong}] = 1;"
-        distance, count = far - 1, 1
+        text = f"((char *){name})[{size - 1} + {far} * {wrong}] = 1;"
+        distance = far - 1
     elif way == 5:
-        text = f"((char *){name})[-{wrong}] += 1;"
+        text = f"((char *){name})[-{far} * {wrong}] += 1;"
         is_past, distance = False, far
     elif way == 6:
-        text = f"{name}[n * 1 + {array.count - GIVEN_COUNT - 1} + {wrong}]{array.member} = 1;"
-        offset, count = MEMBERS.get(array.type_, (0, 8))
+        last = f"n * 1 + {array.count - GIVEN_COUNT - 1} + {far} * {wrong}"
+        text = f"{name}[{last}]{array.member} = 1;"
+        offset = 2 if array.type_ == "struct three" else 0
         distance = (far - 1) * array.element + offset
     else:
-        it.put(depth, f"sum += fill((char *){name}, {size});")
-        text = (f"for (char *at = (char *){name}; at < (char *){name} + {size} + {wrong}; at++)"
+        last = f"(char *){name} + {size}"
+        text = (f"for (char *at = (char *){name}; at < {last} + {far} * {wrong}; at++)"
                 " sum += (unsigned char)*at;")
+        it.put(depth, f"sum += fill((char *){name}, {size});")
     it.put(depth, text)
-    it.accesses.append(Access(array, len(it.lines), is_past, distance, count))
+    it.accesses.append(Access(array, len(it.lines), is_past, distance))
+    assert number + 1 == len(it.accesses)
 
 
 def block(it: Program, depth: int, outer: list[Array]) -> None:

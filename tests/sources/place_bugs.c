@@ -184,13 +184,13 @@ static int bug(void)
     }
     return other[one];
 #elif BUG == 26 /* 4 bytes past memory of alloca, by a function */
-    int *all = __builtin_alloca((7 + one) * sizeof(int));
-    for (int i = 0; i < 8; i++)
+    int *all = __builtin_alloca((5 + one) * sizeof(int));
+    for (int i = 0; i < 6; i++)
         all[i] = i;
-    return sum_of(all, 8 + one);
+    return sum_of(all, 6 + one);
 #elif BUG == 27 /* a write 1 in front of memory of alloca */
-    volatile char *all = __builtin_alloca((size_t)(32 * one));
-    fill((char *)all, 32);
+    volatile char *all = __builtin_alloca((size_t)(30 * one));
+    fill((char *)all, 30);
     all[-one] = 1;
     return all[one];
 #elif BUG == 28 /* an array of variable length that is read after its function has returned */

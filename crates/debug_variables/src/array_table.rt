@@ -3,15 +3,6 @@
 use crate::declaration::{Declaration, VariableName};
 use crate::frame_table::{BASES, FrameBase, FrameBases, FrameFunction, FrameVariables, place_of};
 
-/// What a function keeps of an array of variable length.
-#[derive(Clone, Copy, PartialEq, Eq)]
-pub enum KeptOfArray {
-    /// Its address.
-    Address,
-    /// The number of its elements, with the bytes of one, where they are known.
-    Count(Option<u64>),
-}
-
 /// An array of variable length, by what a function keeps of it in its frame.
 #[derive(Clone, Copy)]
 pub struct ArrayVariable {
@@ -21,7 +12,8 @@ pub struct ArrayVariable {
     pub(crate) base: FrameBase,
     /// How far it is from that, modulo 2^64.
     pub(crate) offset: u64,
-    pub kept: KeptOfArray,
+    /// Whether that is its address: else it is how many elements it has.
+    pub has_pointer: bool,
     /// Its name.
     pub name: VariableName,
     /// Where it is declared, if that is known.

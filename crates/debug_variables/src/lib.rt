@@ -11,7 +11,7 @@ mod object_table;
 mod search;
 mod types;
 
-pub use array_table::{ArrayVariable, KeptOfArray};
+pub use array_table::ArrayVariable;
 pub use blocks::LexicalBlock;
 pub use declaration::{Declaration, VariableName};
 pub use frame_table::{

@@ -3,8 +3,9 @@
 use crate::array_table::{ArrayVariable, KeptOfArray};
 use crate::blocks::{BlockTable, LexicalBlock};
 use crate::declaration::{Declaration, VariableName};
+use crate::array_table::ArrayVariable;
 use crate::frame_table::{Compiler, DeclaredObject, FrameBase, FrameFunction, FrameVariable};
-use crate::types::{CountedArray, TypeSize, UnitTypes};
+use crate::types::{TypeSize, UnitTypes};
 use debug_info::{
     Abbreviation, Abbreviations, AddressRange, AttributeValue, Budget, CompilationUnit,
     DebugSections, Entry, Ranges, Scope, UnitBytes, number,
@@ -368,10 +369,7 @@ impl VariableSearch {
         };
         match scope.place_of(expression) {
             Some(VariablePlace::Pointed(base, offset)) => match self.block_around(depth) {
-                Some(of) => {
-                    let kept = KeptOfArray::Address;
-                    self.enter_array(scope, entry, of.function, (base, offset), kept)
-                }
+                Some(of) => self.enter_array(scope, entry, of.function, ((base, offset), true)),
                 None => Ok(()),
             },
             Some(VariablePlace::Frame(base, offset)) => match self.block_around(depth) {
@@ -391,29 +389,24 @@ impl VariableSearch {
         entry: &Entry<'a>,
         depth: u64,
     ) -> Result<(), AllocError> {
-        let Some(counted) = scope.counted(entry, &mut self.budget) else {
+        let Some(count) = scope.count_of(entry, &mut self.budget) else {
             self.note_optimized(depth);
             return Ok(());
         };
-        let count = scope.types.entry_at(counted.count, &mut self.budget);
-        let slot = count.and_then(|count| scope.slot_of(&count));
-        match (slot, self.block_around(depth)) {
-            (Some(slot), Some(of)) => {
-                let kept = KeptOfArray::Count(counted.element);
-                self.enter_array(scope, entry, of.function, slot, kept)
-            }
+        match (scope.slot_of(&count), self.block_around(depth)) {
+            (Some(slot), Some(of)) => self.enter_array(scope, entry, of.function, (slot, false)),
             _ => Ok(()),
         }
     }
 
-    /// Enters an array of variable length of a function, by what is kept of it, and where.
+    /// Enters an array of variable length of a function, by where its address is kept, or how many
+    /// elements it has.
     fn enter_array<'a>(
         &mut self,
         scope: &UnitScope<'_, 'a>,
         entry: &Entry<'a>,
         function: usize,
-        (base, offset): (Option<FrameBase>, u64),
-        kept: KeptOfArray,
+        ((base, offset), has_pointer): ((Option<FrameBase>, u64), bool),
     ) -> Result<(), AllocError> {
         let Some(of) = self.functions.get(function).copied() else {
             return Ok(());
@@ -426,7 +419,7 @@ impl VariableSearch {
             function: of.low,
             base: base.unwrap_or(of.base),
             offset,
-            kept,
+            has_pointer,
             name: scope.name(&entry),
             declaration: scope.declaration(&entry),
         })?;
@@ -529,10 +522,12 @@ impl<'t, 'a> UnitScope<'t, 'a> {
         }
     }
 
-    /// The facts about a variable that is an array of variable length.
-    fn counted(&self, entry: &Entry<'a>, budget: &mut Budget) -> Option<CountedArray> {
+    /// The entry of the variable that has the number of elements of a variable, if that is an array
+    /// of variable length.
+    fn count_of(&self, entry: &Entry<'a>, budget: &mut Budget) -> Option<Entry<'a>> {
         let type_ = self.whole(entry, budget).type_.entry()?;
-        self.types.counted(type_, budget)
+        let at = self.types.counted_by(type_, budget)?;
+        self.types.entry_at(at, budget)
     }
 
     /// Where the variable of an entry is, if it is in a frame as a whole.

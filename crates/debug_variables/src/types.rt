@@ -36,15 +36,6 @@ pub struct TypeSize {
     pub is_single: bool,
 }
 
-/// The facts about an array of variable length.
-#[derive(Clone, Copy)]
-pub struct CountedArray {
-    /// The entry of the variable that has the number of its elements.
-    pub count: u64,
-    /// The bytes of one, where they are known: not where other dimensions are variable too.
-    pub element: Option<u64>,
-}
-
 /// The types of a unit.
 #[derive(Clone, Copy)]
 pub struct UnitTypes<'t, 'a> {
@@ -79,46 +70,33 @@ impl<'t, 'a> UnitTypes<'t, 'a> {
         None
     }
 
-    /// The facts about the type at an offset of the unit, if it is an array of variable length of
-    /// which a variable has the number of elements.
-    pub fn counted(&self, offset: u64, budget: &mut Budget) -> Option<CountedArray> {
+    /// The entry of the variable that has the number of elements of the type at an offset of the
+    /// unit, if that is an array of variable length: that of the first dimension which has one.
+    pub fn counted_by(&self, offset: u64, budget: &mut Budget) -> Option<u64> {
         let mut at = offset;
         for _ in 0..FOLLOWED {
             let mut entries = self.unit.entries_at(at)?;
             let abbreviation = self.table.of(number(&mut entries)?)?;
             let entry = Entry::read(&abbreviation, &mut entries, budget)?;
-            let inner = entry.type_.entry()?;
             if abbreviation.tag == ARRAY {
-                let element = self.size(inner, budget).map(|size| size.bytes);
-                return self.dimensions(entries, element, budget);
+                return self.count_entry(entries, budget);
             }
             if !OTHERS.contains(&abbreviation.tag) {
                 return None;
             }
-            at = inner;
+            at = entry.type_.entry()?;
         }
         None
     }
 
-    /// The facts about an array of variable length, by the entries after its own.
-    fn dimensions(
-        &self,
-        mut entries: Reader<'a>,
-        element: Option<u64>,
-        budget: &mut Budget,
-    ) -> Option<CountedArray> {
-        let (mut count, mut element) = (None, element);
+    /// The entry of the variable that has the number of elements of a dimension, by the entries
+    /// after an array's own.
+    fn count_entry(&self, mut entries: Reader<'a>, budget: &mut Budget) -> Option<u64> {
         for _ in 0..DIMENSIONS {
-            let code = number(&mut entries)?;
-            if code == 0 {
-                return count.map(|count| CountedArray { count, element });
-            }
-            let abbreviation = self.table.of(code)?;
+            let abbreviation = self.table.of(number(&mut entries)?)?;
             let entry = Entry::read(&abbreviation, &mut entries, budget)?;
-            match (entry.count.entry(), count) {
-                (Some(at), None) => count = Some(at),
-                (Some(_), Some(_)) => element = None,
-                (None, _) => element = times(element, count_of(&entry)),
+            if let Some(at) = entry.count.entry() {
+                return Some(at);
             }
         }
         None
@@ -169,11 +147,6 @@ fn count_of(entry: &Entry<'_>) -> Option<u64> {
         Some(count) => Some(count),
         None => entry.last.number()?.checked_add(1),
     }
-}
-
-/// A product of what is known.
-fn times(one: Option<u64>, other: Option<u64>) -> Option<u64> {
-    product(one?, other?)
 }
 
 /// A product, of at most 2^32.

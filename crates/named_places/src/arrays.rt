@@ -1,9 +1,5 @@
-//! Arrays of variable length and memory of `alloca`: a function that was not optimized moves SP
-//! down by a size in a register, which is rounded up.
-//!
-//! clang subtracts it from a copy of SP, and moves SP to the difference: of `alloca` all of that is
-//! taken for what was asked for, of a variable the bytes of as many elements as its function keeps
-//! the number of. gcc adds 15 to the size, rounds it down, and makes a pointer of SP next.
+//! Arrays of variable length and memory of `alloca`: a function that was not optimized rounds a
+//! size up, and moves SP down by that.
 
 use crate::frames::{CalledFrame, PLACES, has_room};
 use crate::notes::{NotedInstruction, value_in};
@@ -11,7 +7,7 @@ use crate::place::{NO_BASES, NamedPlace, PlaceKind, PlaceText};
 use crate::places::NamedPlaces;
 use crate::selection::RunningFunction;
 use a64_bits::plain;
-use debug_variables::{ArrayVariable, FrameBases, KeptOfArray, Neighbor, VariableName};
+use debug_variables::{FrameBases, Neighbor, VariableName};
 use pointer_provenance::Shadow;
 use shadow_memory::PointerOrigin;
 use std::alloc::AllocError;
@@ -23,7 +19,7 @@ const UNIT: u64 = 16;
 const ARGUMENTS: u64 = 4_096;
 
 /// The largest size that is known.
-const LARGEST: u64 = 1 << 24;
+const LARGEST: u64 = 1 << 32;
 
 /// How many bytes of instructions are at most between those that make an array.
 const NEAR: u64 = 64;
@@ -165,38 +161,18 @@ fn is_near(array: &Option<NewArray>, pc: u64, index: usize) -> bool {
 }
 
 impl NamedPlaces {
-    /// The array that an instruction makes by subtracting a register from a copy of SP, if it makes
-    /// one. Compilers leave out to round a size that has been rounded, so that what was asked for
-    /// may be all of it.
-    pub(crate) fn array_below(
-        &self,
-        at: &NotedInstruction<'_>,
-        rd: u8,
-        rm: u8,
-    ) -> Option<MadeArray> {
-        let (bottom, size) = (plain(value_in(at.after, rd)), value_in(at.after, rm));
-        let is_size = rd != rm && size > 0 && size <= LARGEST && size % UNIT == 0;
-        if !is_size || plain(at.sp).checked_sub(size) != Some(bottom) {
+    /// The array that an instruction makes by subtracting the size from SP, with a plain address as
+    /// the result, if it makes one. In front of that its function has set its frame pointer.
+    pub(crate) fn made_array(&self, at: &NotedInstruction<'_>, bottom: u64) -> Option<MadeArray> {
+        let RoundedSize { pc, size, whole } = self.arrays.rounded?;
+        let top = plain(at.sp);
+        if at.pc.wrapping_sub(pc) > NEAR || top.checked_sub(whole) != Some(bottom) {
             return None;
         }
-        self.made_array(at, bottom, size)
-    }
-
-    /// The size of an array for which SP is moved to a plain address, if it was rounded shortly in
-    /// front of that.
-    fn rounded_size(&self, at: &NotedInstruction<'_>, bottom: u64) -> Option<u64> {
-        let RoundedSize { pc, size, whole } = self.arrays.rounded?;
-        let is_near = at.pc.wrapping_sub(pc) <= NEAR;
-        Some(size).filter(|_| is_near && plain(at.sp).checked_sub(whole) == Some(bottom))
-    }
-
-    /// An array that an instruction makes, where it is one of a function that was not optimized,
-    /// and has set its frame pointer.
-    fn made_array(&self, at: &NotedInstruction<'_>, bottom: u64, size: u64) -> Option<MadeArray> {
         let frame = self.frames.top()?;
         let running = self.running(at, frame)?;
         let frame_pointer = plain(at.frame_pointer);
-        let is_set = plain(at.sp) <= frame_pointer && frame_pointer < frame.sp;
+        let is_set = top <= frame_pointer && frame_pointer < frame.sp;
         if !is_set || running.function.is_optimized {
             return None;
         }
@@ -216,6 +192,7 @@ impl NamedPlaces {
         made: &MadeArray,
         rd: u8,
     ) -> Result<(), AllocError> {
+        self.arrays.rounded = None;
         let Some(frame) = self.frames.top().copied() else {
             return Ok(());
         };
@@ -227,9 +204,7 @@ impl NamedPlaces {
 
     /// Notes that a register was subtracted from SP: a pointer to an array is made of SP next.
     pub(crate) fn note_subtraction(&mut self, at: &NotedInstruction<'_>) {
-        let bottom = plain(at.after.sp);
-        let size = self.rounded_size(at, bottom);
-        let made = size.and_then(|size| self.made_array(at, bottom, size));
+        let made = self.made_array(at, plain(at.after.sp));
         self.arrays.rounded = None;
         self.arrays.made = made.map(|made| MadeArray {
             is_open: true,
@@ -366,33 +341,14 @@ impl NamedPlaces {
             return;
         };
         let is_pointer = shadow.register(n).pointer().place() == Some(array.index);
-        if is_pointer != (variable.kept == KeptOfArray::Address) {
+        if is_pointer != variable.has_pointer {
             return;
         }
         if let Some(place) = self.table.get_mut(array.index) {
             place.text.name = variable.name;
             place.text.declaration = variable.declaration;
-            place.text.end = exact_end(&place.text, &variable, value_in(at.after, n));
-            place.limit = place.text.end;
         }
         self.arrays.unnamed = None;
-    }
-}
-
-/// The end of an array of which a number is kept: by that many elements, where these are known and
-/// their bytes are rounded to those that it takes.
-fn exact_end(text: &PlaceText, variable: &ArrayVariable, count: u64) -> u64 {
-    let KeptOfArray::Count(Some(element)) = variable.kept else {
-        return text.end;
-    };
-    let end = match count.checked_mul(element) {
-        Some(size) if size > 0 => text.start.saturating_add(size),
-        _ => text.end,
-    };
-    if end <= text.end && text.end.saturating_sub(end) < UNIT {
-        end
-    } else {
-        text.end
     }
 }
 

@@ -305,7 +305,7 @@ impl NamedPlaces {
             } => self.note_subtraction(at),
             Instr::AddSubShift { rn, rm, rd, .. } | Instr::AddSubExt { rn, rm, rd, .. } => {
                 self.marks.combine(rd, rn, rm);
-                self.note_sum(at, shadow, rd, rm)?;
+                self.note_sum(at, shadow, rd)?;
             }
             Instr::LogShift { rn, rm, rd, .. }
             | Instr::CondSel { rn, rm, rd, .. }
@@ -327,17 +327,16 @@ impl NamedPlaces {
         Ok(())
     }
 
-    /// Notes a sum of registers, or a difference: what is made of SP is a pointer into the frame,
-    /// or to an array of variable length, and what is made of a page is not known.
+    /// Notes a sum of registers: what is made of SP is a pointer into the frame, and what is made
+    /// of a page is not known.
     pub(crate) fn note_sum(
         &mut self,
         at: &NotedInstruction<'_>,
         shadow: &mut Shadow,
         rd: u8,
-        rm: u8,
     ) -> Result<(), AllocError> {
         let origin = shadow.register(rd).pointer();
-        if let Some(made) = self.array_below(at, rd, rm) {
+        if let Some(made) = self.made_array(at, plain(value_in(at.after, rd))) {
             return self.note_array(shadow, &made, rd);
         }
         if origin.place() == Some(PAGE) {

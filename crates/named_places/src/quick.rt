@@ -66,7 +66,7 @@ impl NamedPlaces {
             }
             ValueSource::Sum => {
                 self.marks.combine(used.first, used.one, used.other);
-                self.note_sum(at, shadow, used.first, used.other)
+                self.note_sum(at, shadow, used.first)
             }
             _ => {
                 self.note_unknown(used);
