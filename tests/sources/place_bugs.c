@@ -67,15 +67,6 @@ __attribute__((noinline)) static long sum_many(long a, long b, long c, long d, l
     return a + b + c + d + e + f + g + h + i + j + k + l + m + n + large[one] + small[one];
 }
 
-__attribute__((noinline)) static void keep_array(int count)
-{
-    int local[count];
-    for (int i = 0; i < count; i++)
-        local[i] = i;
-    kept = local;
-    sink = kept[1];
-}
-
 static int bug(void)
 {
 #if BUG == 1 /* a write 1 past an array of 16 bytes of the stack, by an index */
@@ -171,31 +162,6 @@ static int bug(void)
     }
     set_second((long *)kept);
     return 0;
-#elif BUG == 24 /* a byte past an array of variable length, by a function */
-    char text[20 + one];
-    fill(text, 22);
-    return text[one];
-#elif BUG == 25 /* an element past rows of variable length of an inner block */
-    char other[40 * one];
-    fill(other, 40);
-    for (int i = 0; i < 3; i++) {
-        int rows[one + 2][5];
-        ((volatile int *)rows)[5 * one + 10 + i / 2] = i;
-    }
-    return other[one];
-#elif BUG == 26 /* 4 bytes past memory of alloca, by a function */
-    int *all = __builtin_alloca((5 + one) * sizeof(int));
-    for (int i = 0; i < 6; i++)
-        all[i] = i;
-    return sum_of(all, 6 + one);
-#elif BUG == 27 /* a write 1 in front of memory of alloca */
-    volatile char *all = __builtin_alloca((size_t)(30 * one));
-    fill((char *)all, 30);
-    all[-one] = 1;
-    return all[one];
-#elif BUG == 28 /* an array of variable length that is read after its function has returned */
-    keep_array(9 + one);
-    return *kept;
 #endif
 }
 

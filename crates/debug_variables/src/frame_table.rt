@@ -1,6 +1,5 @@
 //! The variables in the frames of functions.
 
-use crate::array_table::ArrayVariable;
 use crate::blocks::{BlockTable, LexicalBlock};
 use crate::declaration::{Declaration, VariableName};
 use crate::search::VariableSearch;
@@ -19,7 +18,7 @@ pub enum FrameBase {
 }
 
 /// All bases, in order.
-pub(crate) const BASES: [FrameBase; 3] = [
+const BASES: [FrameBase; 3] = [
     FrameBase::Caller,
     FrameBase::FramePointer,
     FrameBase::StackPointer,
@@ -38,7 +37,7 @@ pub struct FrameBases {
 
 impl FrameBases {
     /// The value of a base.
-    pub(crate) fn of(&self, base: FrameBase) -> u64 {
+    fn of(&self, base: FrameBase) -> u64 {
         match base {
             FrameBase::Caller => self.caller,
             FrameBase::FramePointer => self.frame_pointer,
@@ -178,8 +177,6 @@ pub struct FrameVariables {
     /// Those of one slot together, the lowest first.
     variables: Vec<FrameVariable>,
     blocks: BlockTable,
-    /// Those of variable length, in the order of their keys.
-    pub(crate) arrays: Vec<ArrayVariable>,
     /// The lowest first.
     pub(crate) declared: Vec<DeclaredObject>,
 }
@@ -229,7 +226,6 @@ impl FrameVariables {
             mut functions,
             mut variables,
             mut declared,
-            mut arrays,
             blocks,
             ..
         } = search;
@@ -246,15 +242,11 @@ impl FrameVariables {
         declared
             .as_mut_slice()
             .sort_unstable_by_key(|object| object.addr);
-        arrays
-            .as_mut_slice()
-            .sort_unstable_by_key(|array| array.key());
         Ok(FrameVariables {
             functions,
             slots,
             variables,
             blocks,
-            arrays,
             declared,
         })
     }
@@ -439,7 +431,7 @@ impl FrameVariables {
 }
 
 /// The place of an address, counted from a base that has a value.
-pub(crate) fn place_of(addr: u64, value: u64) -> u64 {
+fn place_of(addr: u64, value: u64) -> u64 {
     addr.wrapping_sub(value).wrapping_add(SIGN)
 }
 

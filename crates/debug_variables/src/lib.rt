@@ -3,7 +3,6 @@
 //! Entries that cannot be read are left out: a file with wrong entries has fewer variables.
 #![tactic(auto)]
 
-mod array_table;
 mod blocks;
 mod declaration;
 mod frame_table;
@@ -11,7 +10,6 @@ mod object_table;
 mod search;
 mod types;
 
-pub use array_table::ArrayVariable;
 pub use blocks::LexicalBlock;
 pub use declaration::{Declaration, VariableName};
 pub use frame_table::{

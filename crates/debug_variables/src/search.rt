@@ -1,9 +1,7 @@
 //! The search for variables through `.debug_info`.
 
-use crate::array_table::{ArrayVariable, KeptOfArray};
 use crate::blocks::{BlockTable, LexicalBlock};
 use crate::declaration::{Declaration, VariableName};
-use crate::array_table::ArrayVariable;
 use crate::frame_table::{Compiler, DeclaredObject, FrameBase, FrameFunction, FrameVariable};
 use crate::types::{TypeSize, UnitTypes};
 use debug_info::{
@@ -58,9 +56,6 @@ const REGISTER_29: u8 = 0x6D;
 
 const REGISTER_31: u8 = 0x6F;
 
-/// DW_OP_deref.
-const POINTED: u8 = 0x06;
-
 /// A function, a block or an inlined call whose entries are being read.
 #[derive(Clone, Copy)]
 struct OpenScope {
@@ -95,7 +90,6 @@ pub struct VariableSearch {
     pub functions: Vec<FrameFunction>,
     pub variables: Vec<FrameVariable>,
     pub declared: Vec<DeclaredObject>,
-    pub arrays: Vec<ArrayVariable>,
     pub blocks: BlockTable,
     /// The functions and blocks around the entry that is read, the outermost first.
     open: Vec<OpenScope>,
@@ -111,7 +105,6 @@ impl VariableSearch {
             functions: Vec::new(alloc),
             variables: Vec::new(alloc),
             declared: Vec::new(alloc),
-            arrays: Vec::new(alloc),
             blocks: BlockTable::new(alloc),
             open: Vec::new(alloc),
             is_optimized: false,
@@ -363,15 +356,12 @@ impl VariableSearch {
         let expression = match entry.location {
             AttributeValue::Block(expression) => expression,
             AttributeValue::Offset(_) | AttributeValue::ListAt(_) => {
-                return self.enter_listed(scope, entry, depth);
+                self.note_optimized(depth);
+                return Ok(());
             }
             _ => return Ok(()),
         };
         match scope.place_of(expression) {
-            Some(VariablePlace::Pointed(base, offset)) => match self.block_around(depth) {
-                Some(of) => self.enter_array(scope, entry, of.function, ((base, offset), true)),
-                None => Ok(()),
-            },
             Some(VariablePlace::Frame(base, offset)) => match self.block_around(depth) {
                 Some(of) => self.enter_local(scope, entry, &of, (base, offset)),
                 None => Ok(()),
@@ -379,51 +369,6 @@ impl VariableSearch {
             Some(VariablePlace::Image(addr)) => self.enter_object(scope, entry, addr),
             None => Ok(()),
         }
-    }
-
-    /// Enters a variable at a depth that has a list of locations: compilers write these where they
-    /// optimize, and of arrays of variable length.
-    fn enter_listed<'a>(
-        &mut self,
-        scope: &UnitScope<'_, 'a>,
-        entry: &Entry<'a>,
-        depth: u64,
-    ) -> Result<(), AllocError> {
-        let Some(count) = scope.count_of(entry, &mut self.budget) else {
-            self.note_optimized(depth);
-            return Ok(());
-        };
-        match (scope.slot_of(&count), self.block_around(depth)) {
-            (Some(slot), Some(of)) => self.enter_array(scope, entry, of.function, (slot, false)),
-            _ => Ok(()),
-        }
-    }
-
-    /// Enters an array of variable length of a function, by where its address is kept, or how many
-    /// elements it has.
-    fn enter_array<'a>(
-        &mut self,
-        scope: &UnitScope<'_, 'a>,
-        entry: &Entry<'a>,
-        function: usize,
-        ((base, offset), has_pointer): ((Option<FrameBase>, u64), bool),
-    ) -> Result<(), AllocError> {
-        let Some(of) = self.functions.get(function).copied() else {
-            return Ok(());
-        };
-        if self.arrays.len() >= MOST {
-            return Ok(());
-        }
-        let entry = scope.whole(entry, &mut self.budget);
-        self.arrays.push(ArrayVariable {
-            function: of.low,
-            base: base.unwrap_or(of.base),
-            offset,
-            has_pointer,
-            name: scope.name(&entry),
-            declaration: scope.declaration(&entry),
-        })?;
-        Ok(())
     }
 
     /// Enters a variable of a block, at an offset from a base, or from the function's.
@@ -513,31 +458,10 @@ impl<'t, 'a> UnitScope<'t, 'a> {
             }
             _ => return None,
         };
-        match (operations.rest, place) {
-            ([], _) => Some(place),
-            ([POINTED], VariablePlace::Frame(base, offset)) => {
-                Some(VariablePlace::Pointed(base, offset))
-            }
-            _ => None,
-        }
-    }
-
-    /// The entry of the variable that has the number of elements of a variable, if that is an array
-    /// of variable length.
-    fn count_of(&self, entry: &Entry<'a>, budget: &mut Budget) -> Option<Entry<'a>> {
-        let type_ = self.whole(entry, budget).type_.entry()?;
-        let at = self.types.counted_by(type_, budget)?;
-        self.types.entry_at(at, budget)
-    }
-
-    /// Where the variable of an entry is, if it is in a frame as a whole.
-    fn slot_of(&self, entry: &Entry<'a>) -> Option<(Option<FrameBase>, u64)> {
-        let AttributeValue::Block(expression) = entry.location else {
-            return None;
-        };
-        match self.place_of(expression)? {
-            VariablePlace::Frame(base, offset) => Some((base, offset)),
-            _ => None,
+        if operations.rest.is_empty() {
+            Some(place)
+        } else {
+            None
         }
     }
 
@@ -562,7 +486,9 @@ impl<'t, 'a> UnitScope<'t, 'a> {
 
     /// The entry that an entry refers to, which says more.
     fn origin(&self, entry: &Entry<'a>, budget: &mut Budget) -> Option<Entry<'a>> {
-        self.types.entry_at(entry.origin.entry()?, budget)
+        let mut entries = self.types.unit.entries_at(entry.origin.entry()?)?;
+        let abbreviation = self.types.table.of(number(&mut entries)?)?;
+        Entry::read(&abbreviation, &mut entries, budget)
     }
 
     /// The name of an entry.
@@ -588,8 +514,6 @@ impl<'t, 'a> UnitScope<'t, 'a> {
 enum VariablePlace {
     /// At an offset from a base, or from that of its function, modulo 2^64.
     Frame(Option<FrameBase>, u64),
-    /// Where a pointer is to that is there.
-    Pointed(Option<FrameBase>, u64),
     /// At an address of the image.
     Image(u64),
 }

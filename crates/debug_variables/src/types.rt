@@ -70,45 +70,6 @@ impl<'t, 'a> UnitTypes<'t, 'a> {
         None
     }
 
-    /// The entry of the variable that has the number of elements of the type at an offset of the
-    /// unit, if that is an array of variable length: that of the first dimension which has one.
-    pub fn counted_by(&self, offset: u64, budget: &mut Budget) -> Option<u64> {
-        let mut at = offset;
-        for _ in 0..FOLLOWED {
-            let mut entries = self.unit.entries_at(at)?;
-            let abbreviation = self.table.of(number(&mut entries)?)?;
-            let entry = Entry::read(&abbreviation, &mut entries, budget)?;
-            if abbreviation.tag == ARRAY {
-                return self.count_entry(entries, budget);
-            }
-            if !OTHERS.contains(&abbreviation.tag) {
-                return None;
-            }
-            at = entry.type_.entry()?;
-        }
-        None
-    }
-
-    /// The entry of the variable that has the number of elements of a dimension, by the entries
-    /// after an array's own.
-    fn count_entry(&self, mut entries: Reader<'a>, budget: &mut Budget) -> Option<u64> {
-        for _ in 0..DIMENSIONS {
-            let abbreviation = self.table.of(number(&mut entries)?)?;
-            let entry = Entry::read(&abbreviation, &mut entries, budget)?;
-            if let Some(at) = entry.count.entry() {
-                return Some(at);
-            }
-        }
-        None
-    }
-
-    /// The entry at an offset of the unit.
-    pub fn entry_at(&self, offset: u64, budget: &mut Budget) -> Option<Entry<'a>> {
-        let mut entries = self.unit.entries_at(offset)?;
-        let abbreviation = self.table.of(number(&mut entries)?)?;
-        Entry::read(&abbreviation, &mut entries, budget)
-    }
-
     /// How many elements an array has, by the entries after its own.
     fn elements(&self, mut entries: Reader<'a>, budget: &mut Budget) -> Option<u64> {
         let mut elements = 1u64;

@@ -145,11 +145,6 @@ impl<'a> Context<'a> {
             return Ok(());
         };
         let names = self.report.names;
-        let is_unnamed = place.kind == PlaceKind::Array && place.declaration.is_none();
-        if let (true, Some(pc)) = (is_unnamed, place.function) {
-            let maker = self.names.instruction(pc);
-            return writeln!(out, "  made by {maker}");
-        }
         let line = match place.declaration {
             Some(Declaration { unit, file, line }) => names
                 .lines

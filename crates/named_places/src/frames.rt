@@ -8,7 +8,7 @@ use std::alloc::{AllocError, Global};
 const MOST: usize = 65_536;
 
 /// How many places of a frame are looked at.
-pub(crate) const PLACES: u32 = 32;
+const PLACES: u32 = 32;
 
 /// The frame of a function that was called.
 #[derive(Clone, Copy)]
@@ -21,8 +21,6 @@ pub(crate) struct CalledFrame {
     pub(crate) entry: u64,
     /// The newest of its places.
     pub(crate) first: Option<usize>,
-    /// Whether it has arrays of variable length.
-    pub(crate) has_arrays: bool,
     /// How many calls came before it.
     serial: u64,
     /// Whether its function may be one that ends an object of its caller, as a destructor.
@@ -111,7 +109,6 @@ impl FrameStack {
             sp,
             entry,
             first: None,
-            has_arrays: false,
             serial: self.calls,
             is_cleanup,
             marks,
@@ -129,14 +126,6 @@ impl FrameStack {
     pub(crate) fn set_first(&mut self, index: usize) {
         if let Some(frame) = self.frames.last_mut() {
             frame.first = Some(index);
-        }
-    }
-
-    /// Enters an array of variable length as the newest place of the last frame.
-    pub(crate) fn add_array(&mut self, index: usize) {
-        if let Some(frame) = self.frames.last_mut() {
-            frame.first = Some(index);
-            frame.has_arrays = true;
         }
     }
 

@@ -52,17 +52,6 @@ struct Strictness {
     is_past: bool,
 }
 
-impl Strictness {
-    /// That of an access to an array of variable length. Compilers do not know what is beside it,
-    /// so that no pointer to it is meant for something else.
-    const OF_ARRAY: Strictness = Strictness {
-        is_above: true,
-        is_below: true,
-        is_lenient: false,
-        is_past: false,
-    };
-}
-
 impl NamedPlaces {
     /// The misuse by an instruction that loads or stores through a pointer, of which nothing is
     /// noted yet.
@@ -83,9 +72,6 @@ impl NamedPlaces {
     /// pointer to its frame by a constant, which is one for several variables; of another function
     /// those by an index, by a pointer that was moved, and by one that was passed to it.
     fn strictness(&self, at: &NotedInstruction<'_>, form: &AccessForm, index: usize) -> Strictness {
-        if self.table.get(index).is_some_and(|place| place.is_array()) {
-            return Strictness::OF_ARRAY;
-        }
         let (base, mode) = (form.base, form.mode);
         let is_exact = self.is_exact_at(at.pc);
         let (is_moved, is_fresh) = (self.marks.is_moved(base), self.marks.is_fresh(base));
@@ -147,7 +133,7 @@ impl NamedPlaces {
         if strictness.is_past && place.has(addr) {
             return misuse_if(true, PlaceMisuseKind::AfterScope, addr, access, &text);
         }
-        if !place.has_bounds() {
+        if !matches!(text.kind, PlaceKind::Object | PlaceKind::Variable) {
             return None;
         }
         let end = addr.saturating_add(access.count);

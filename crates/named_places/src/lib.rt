@@ -4,7 +4,6 @@
 #![tactic(auto)]
 
 mod access_form;
-mod arrays;
 mod frames;
 mod judgement;
 mod marks;

@@ -65,17 +65,12 @@ impl NamedPlaces {
             Instr::AddSubImm { s: 1, rd: 31, .. } => {}
             Instr::AddSubImm {
                 sf: 1,
-                op,
                 sh,
-                imm12,
                 rn,
                 rd,
                 ..
             } => {
                 let is_high = sh == 1;
-                if op == 0 && imm12 == 15 && !is_high && rn < 31 && rd < 31 {
-                    self.arrays.note_rounding(at, rd);
-                }
                 self.note_constant(at, shadow, AddedConstant { rn, rd, is_high })?;
             }
             Instr::AddG { rn, rd, .. } => {
@@ -93,7 +88,6 @@ impl NamedPlaces {
     pub fn note_sp(&mut self, at: &NotedInstruction<'_>) {
         if plain(at.sp) < plain(at.after.sp) {
             self.frames.leave_below(plain(at.after.sp));
-            self.end_arrays(plain(at.after.sp));
         }
     }
 
@@ -140,7 +134,6 @@ impl NamedPlaces {
         let AddedConstant { rn, rd, is_high } = added;
         if rd == STACK_POINTER {
             self.note_stack(shadow, rn);
-            self.open_array(at, shadow, rn);
             return Ok(());
         }
         let origin = shadow.register(rd).pointer();
@@ -158,10 +151,7 @@ impl NamedPlaces {
                 self.marks.make(rd);
                 shadow.point(rd, self.object_origin(addr));
             }
-            Some(index) if rn == rd => {
-                self.arrays.note_moved(at, rd, index);
-                self.note_move(at, shadow, added, index)?
-            }
+            Some(index) if rn == rd => self.note_move(at, shadow, added, index)?,
             Some(index) => {
                 self.marks.copy(rd, rn);
                 if !self.marks.is_moved(rn) {
@@ -296,13 +286,6 @@ impl NamedPlaces {
                 rd,
                 ..
             } => self.marks.copy(rd, rm),
-            Instr::AddSubExt {
-                sf: 1,
-                op: 1,
-                rn: 31,
-                rd: 31,
-                ..
-            } => self.note_subtraction(at),
             Instr::AddSubShift { rn, rm, rd, .. } | Instr::AddSubExt { rn, rm, rd, .. } => {
                 self.marks.combine(rd, rn, rm);
                 self.note_sum(at, shadow, rd)?;
@@ -310,15 +293,9 @@ impl NamedPlaces {
             Instr::LogShift { rn, rm, rd, .. }
             | Instr::CondSel { rn, rm, rd, .. }
             | Instr::SubP { rn, rm, rd, .. } => self.marks.combine(rd, rn, rm),
-            Instr::Bitfield { rn, rd, .. } => {
-                self.marks.combine(rd, rn, rn);
-                if let Some(origin) = self.arrays.shifted(at, rd) {
-                    shadow.point(rd, origin);
-                }
-            }
-            Instr::LogImm { rn, rd, .. } | Instr::Irg { rn, rd, .. } => {
-                self.marks.combine(rd, rn, rn)
-            }
+            Instr::LogImm { rn, rd, .. }
+            | Instr::Bitfield { rn, rd, .. }
+            | Instr::Irg { rn, rd, .. } => self.marks.combine(rd, rn, rn),
             Instr::MulAdd { ra, rd, .. } | Instr::MulAddLong { ra, rd, .. } => {
                 self.marks.combine(rd, ra, ra)
             }
@@ -336,9 +313,6 @@ impl NamedPlaces {
         rd: u8,
     ) -> Result<(), AllocError> {
         let origin = shadow.register(rd).pointer();
-        if let Some(made) = self.made_array(at, plain(value_in(at.after, rd))) {
-            return self.note_array(shadow, &made, rd);
-        }
         if origin.place() == Some(PAGE) {
             shadow.point(rd, PointerOrigin::UNKNOWN);
         } else if origin == PointerOrigin::STACK && rd != FRAME_POINTER {
@@ -362,11 +336,8 @@ impl NamedPlaces {
             let is_pre_indexed = matches!(form.mode, AddressingMode::PreIndexed(_));
             self.note_write_back(at, shadow, form.base, is_pre_indexed)?;
         }
-        let addr = form.addr(step.before);
-        if form.is_write() && self.arrays.may_be_named(at.pc) {
-            self.note_array_name(at, shadow, form.first, addr);
-        }
         if !form.is_write() {
+            let addr = form.addr(step.before);
             self.note_loaded(form.first, form.base);
             self.note_source(at, shadow, form.first, addr);
             if let Some(second) = form.second {
@@ -408,6 +379,6 @@ impl NamedPlaces {
 }
 
 /// The value of a numbered register, 0 for 31.
-pub(crate) fn value_in(regs: &Regs, n: u8) -> u64 {
+fn value_in(regs: &Regs, n: u8) -> u64 {
     regs.x.get(usize::from(n)).copied().unwrap_or(0)
 }

@@ -13,8 +13,6 @@ pub enum PlaceKind {
     Object,
     /// A variable in the frame of a function.
     Variable,
-    /// An array of variable length in the frame of a function, or memory of `alloca`.
-    Array,
     /// A frame, of which it is not known which variable is meant.
     Frame,
 }
@@ -32,8 +30,7 @@ pub struct PlaceText {
     pub name: VariableName,
     /// Where it is declared, if that is known.
     pub declaration: Option<Declaration>,
-    /// An address of the function that it is of, if it is of one: of an array of variable length
-    /// that of the instruction that made it.
+    /// An address of the function that it is of, if it is of one.
     pub function: Option<u64>,
 }
 
@@ -52,10 +49,7 @@ impl fmt::Display for PlaceText {
             PlaceKind::Page => f.write_str("the image"),
             PlaceKind::Frame if size == 0 => write!(f, "the stack at {start:#018x}"),
             PlaceKind::Frame => write!(f, "a frame at {start:#018x}"),
-            PlaceKind::Array if *name == VariableName::NONE => {
-                write!(f, "the {size}-byte memory of `alloca` at {start:#018x}")
-            }
-            PlaceKind::Object | PlaceKind::Variable | PlaceKind::Array => {
+            PlaceKind::Object | PlaceKind::Variable => {
                 write!(f, "the {size}-byte variable `{name}` at {start:#018x}")
             }
         }
@@ -84,8 +78,6 @@ pub(crate) struct NamedPlace {
     pub(crate) limit: u64,
     /// Whether its function has not returned.
     pub(crate) is_live: bool,
-    /// Whether SP was moved over an array of variable length, and not back.
-    pub(crate) is_open: bool,
     /// Whether the function that made a pointer to it was not optimized.
     pub(crate) is_exact: bool,
     /// Whether a pointer to it may be meant for the variable after it.
@@ -103,22 +95,6 @@ pub(crate) struct NamedPlace {
 }
 
 impl NamedPlace {
-    /// Whether it is an array of variable length, or memory of `alloca`.
-    #[inline(always)]
-    pub(crate) fn is_array(&self) -> bool {
-        self.text.kind == PlaceKind::Array
-    }
-
-    /// Whether an access by a pointer to it has to be one of its bytes.
-    #[inline(always)]
-    pub(crate) fn has_bounds(&self) -> bool {
-        match self.text.kind {
-            PlaceKind::Object | PlaceKind::Variable => true,
-            PlaceKind::Array => self.is_open,
-            PlaceKind::Page | PlaceKind::Frame => false,
-        }
-    }
-
     /// Whether the byte at a plain address is its own.
     pub(crate) fn has(&self, addr: u64) -> bool {
         self.text.start <= addr && addr < self.text.end

@@ -1,6 +1,5 @@
 //! The variables of a tenant.
 
-use crate::arrays::ArrayNotes;
 use crate::frames::FrameStack;
 use crate::marks::RegisterMarks;
 use crate::table::PlaceTable;
@@ -17,7 +16,6 @@ pub struct NamedPlaces {
     pub(crate) table: PlaceTable,
     pub(crate) frames: FrameStack,
     pub(crate) marks: RegisterMarks,
-    pub(crate) arrays: ArrayNotes,
 }
 
 impl NamedPlaces {
@@ -33,7 +31,6 @@ impl NamedPlaces {
             table,
             frames: FrameStack::new(alloc),
             marks: RegisterMarks::NONE,
-            arrays: ArrayNotes::NONE,
         })
     }
 

@@ -2,6 +2,7 @@
 //! a live place, and most instructions on registers change marks alone.
 
 use crate::notes::{AddedConstant, NotedInstruction};
+use crate::place::PlaceKind;
 use crate::places::NamedPlaces;
 use a64_bits::plain;
 use a64_registers::Regs;
@@ -27,7 +28,7 @@ impl NamedPlaces {
             return true;
         };
         let text = &place.text;
-        let has_bounds = place.has_bounds();
+        let has_bounds = matches!(text.kind, PlaceKind::Object | PlaceKind::Variable);
         let is_within = text.start <= addr && addr.saturating_add(bytes) <= place.limit;
         place.is_live && (is_within || !has_bounds) && self.has_block(place, pc)
     }
@@ -53,10 +54,7 @@ impl NamedPlaces {
         shadow: &mut Shadow,
     ) -> Result<(), AllocError> {
         match used.source {
-            ValueSource::Constant | ValueSource::HighConstant | ValueSource::Rounding => {
-                if used.source == ValueSource::Rounding {
-                    self.arrays.note_rounding(at, used.first);
-                }
+            ValueSource::Constant | ValueSource::HighConstant => {
                 let added = AddedConstant {
                     rn: used.one,
                     rd: used.first,
@@ -93,9 +91,6 @@ impl NamedPlaces {
         if used.source != ValueSource::Other && used.base < 31 {
             let is_pre_indexed = used.source == ValueSource::PreIndexed;
             self.note_write_back(at, shadow, used.base, is_pre_indexed)?;
-        }
-        if used.class == InstructionClass::Store && self.arrays.may_be_named(at.pc) {
-            self.note_array_name(at, shadow, used.first, addr);
         }
         if used.class == InstructionClass::Load {
             self.note_loaded(used.first, used.base);

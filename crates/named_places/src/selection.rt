@@ -17,9 +17,9 @@ const ELEMENT: u64 = 8;
 
 /// A function that runs, and the values of its bases.
 #[derive(Clone, Copy)]
-pub(crate) struct RunningFunction {
-    pub(crate) function: FrameFunction,
-    pub(crate) bases: FrameBases,
+struct RunningFunction {
+    function: FrameFunction,
+    bases: FrameBases,
 }
 
 impl NamedPlaces {
@@ -38,9 +38,6 @@ impl NamedPlaces {
         let sp = plain(at.after.sp);
         if addr < sp || addr >= frame.sp {
             return Ok(PointerOrigin::STACK);
-        }
-        if let Some(made) = self.arrays.take_made(at.pc, addr) {
-            return self.enter_array(shadow, &frame, &made);
         }
         let place = self.variable_place(at, &frame, addr);
         let place = match place {
@@ -124,7 +121,6 @@ impl NamedPlaces {
             },
             limit: frame.sp,
             is_live: true,
-            is_open: false,
             is_exact: false,
             is_unsure: false,
             is_marked: false,
@@ -153,7 +149,6 @@ impl NamedPlaces {
             text: text_of(&placed, function.low),
             limit: placed.limit.min(frame.sp),
             is_live: true,
-            is_open: false,
             is_exact: !function.is_optimized,
             is_unsure: self.is_before_other(&running, &placed, addr),
             is_marked: false,
@@ -207,11 +202,7 @@ impl NamedPlaces {
     }
 
     /// The function that runs, where it is the one that the frame is of.
-    pub(crate) fn running(
-        &self,
-        at: &NotedInstruction<'_>,
-        frame: &CalledFrame,
-    ) -> Option<RunningFunction> {
+    fn running(&self, at: &NotedInstruction<'_>, frame: &CalledFrame) -> Option<RunningFunction> {
         let function = self.function_at(at.pc)?;
         if frame.entry < function.low || frame.entry >= function.high {
             return None;

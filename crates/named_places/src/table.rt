@@ -147,7 +147,6 @@ fn fixed_place(text: PlaceText) -> NamedPlace {
         text,
         limit: text.end,
         is_live: true,
-        is_open: false,
         is_exact: false,
         is_unsure: false,
         is_marked: false,
