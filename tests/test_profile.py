@@ -228,6 +228,24 @@ def test_other_forms(counted: pathlib.Path, tmp_path: pathlib.Path) -> None:
     assert table.startswith(f"{counts.steps} steps of ")
 
 
+def test_a_suite_of_tests(alone: pathlib.Path, counted: pathlib.Path,
+                          tmp_path: pathlib.Path) -> None:
+    """tenant-run leaves the counts of each run in a folder, under the program's name."""
+    program = counted.parent / "program.elf"
+    words: list[Word] = ["env", f"TENANT_ALONE={alone}", f"TENANT_OPTIONS=--profile={tmp_path}/all",
+                         sys.executable, EXAMPLES / "libc" / "tenant-run", program]
+    for argument in ("a", "b"):
+        run([*words, argument], stdin=b"x")
+    files = sorted((tmp_path / "all").iterdir())
+    assert len(files) == 2 and all(file.name.startswith("program.elf.") for file in files)
+    whole = run_counts.read_files(files)
+    assert whole.image == str(program)
+    assert whole.steps == sum(run_counts.read_files([file]).steps for file in files)
+    refused = run([*words[:-2], EXAMPLES / "libc" / "tenant-run", "--profile", "/dev/null/x",
+                   program], stdin=b"x")
+    assert refused.status == 126 and "tenant-run: /dev/null/x: " in refused.errors
+
+
 def test_runs_add_up(alone: pathlib.Path, tmp_path: pathlib.Path) -> None:
     """Of several runs each count is the sum; counts of another image are refused."""
     files = []
