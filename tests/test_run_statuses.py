@@ -13,7 +13,7 @@ from tests.support.acts import (
     ABORT, ASYNC, BREAKPOINT, EXACT, FAULT, ILLEGAL, LIMIT, NOT_ENDED, REFUSED, Act, image,
 )
 from tests.support.expected import compare
-from tests.support.instructions import call, program
+from tests.support.instructions import call, load, program
 from tests.support.places import IMAGES
 from tests.support.running import Ran, run
 from tests.support.told import explain, input_file
@@ -166,6 +166,24 @@ def test_requests_over_a_chunk(alone: pathlib.Path, tmp_path: pathlib.Path) -> N
         said = f"mte_run: a request of {max(sizes)} bytes was refused: " in ran.errors
         assert ran.status == 0 and said == (max(sizes) > most), (sizes, ran.errors)
         assert ("was refused" in ran.errors) == said, ran.errors
+
+
+def test_why_a_call_made_no_chunk(alone: pathlib.Path, tmp_path: pathlib.Path) -> None:
+    """At a null pointer it is told whether the newest call without a chunk asked for more than a
+    chunk has, or for what cannot be: an alignment that is no power of two."""
+    draw, most = random.Random(6), 1_048_576
+    for _ in range(20):
+        size = draw.choice((24, most, most + 1, draw.randrange(most, 1 << 40)))
+        made = [call(MALLOC, size), call(CALLOC, 1, size), call(REALLOC, 0, size)]
+        path = tmp_path / "tenant.elf"
+        path.write_bytes(program(draw.choice(made[:3 * (size > most)] + [call(MEMALIGN, 3, size)]),
+                                 load(1, 0)))
+        ran = run([alone, "--last", "0", path])
+        why = "a chunk has at most 1,048,576 bytes" if size > most else (
+            "too few pages were left, or the request was none that can be met")
+        found = re.findall(r"^  the newest call without a chunk is call 1, .*: (.*)$", ran.errors,
+                           re.M)
+        assert ran.status == FAULT and found == [why], (size, ran.errors)
 
 
 def test_an_argument_that_is_no_text(alone: pathlib.Path) -> None:

@@ -57,6 +57,7 @@ def written(alone: pathlib.Path, folder: pathlib.Path) -> Iterator[Callable[[], 
     """Those that compare what is written with a model or with another tool."""
     for end in test_run_statuses.ENDS:
         yield lambda: test_run_statuses.test_each_end_has_its_status_and_lines(alone, folder, *end)
+    yield lambda: test_run_statuses.test_why_a_call_made_no_chunk(alone, folder)
     acts = run_acts(alone, "chunks", "gcc-O2", folder)
     for case in ACTS:
         yield lambda: case(acts)
