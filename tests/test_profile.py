@@ -164,13 +164,9 @@ def counted(alone: pathlib.Path, tmp_path_factory: pytest.TempPathFactory) -> pa
     """The counts of a program over the C library, in a folder of their own."""
     need("clang", "ld.lld")
     folder = tmp_path_factory.mktemp("counted")
-    source = EXAMPLES / "libc" / "tests" / "programs" / "json.c"
-    if not source.exists():
-        source = sorted(source.parent.glob("*.c"))[0]
+    source = EXAMPLES / "libc" / "tests" / "programs" / "json_pretty.c"
     path = compiled(tenant_library(), source, "clang", "-O1", folder / "program.elf", ["-w"])
-    data = source.with_suffix(".txt")
-    given: list[Word] = ["--input", data] if data.exists() else []
-    run([alone, *given, "--steps", "3000000", "--profile", folder / "counts", path])
+    run([alone, "--input", source.with_suffix(".txt"), "--profile", folder / "counts", path])
     return folder / "counts"
 
 
