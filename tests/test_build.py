@@ -42,6 +42,7 @@ here=$(dirname "$0")
 echo build.py >>"$TRIED"
 mkdir -p "$here"/out/{include,lib,objects,sources}
 touch "$here/out/lib/libc.a"
+[[ ! " $* " == *" --c++ "* ]] || touch "$here/out/lib/libc++.a"
 """
 INSTALL = """#!/usr/bin/env bash
 echo "install.sh $*" >>"$TRIED"

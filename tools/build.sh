@@ -156,14 +156,20 @@ build() {
     say "$1: $how"
 }
 
-# The C library of tenants; without it all else is of use.
+# The C library of tenants, and the C++ library where GNU's assembler is there for it; without them
+# all else is of use.
 build_libc() {
-    local sources
-    sources=$(cd "$libc" && find src include arch build.py -type f -print0 | LC_ALL=C sort -z |
+    local sources kinds=() last=libc.a
+    if command -v aarch64-linux-gnu-as >/dev/null; then
+        kinds=(--c++) last=libc++.a
+    else
+        say "without the C++ library of tenants: it needs binutils-aarch64-linux-gnu (Debian)"
+    fi
+    sources=$(cd "$libc" && find src src_cxx include arch build.py cxx_library.py -type f -print0 | LC_ALL=C sort -z |
         xargs -0 sha256sum | sha256sum)
-    if [[ -e $libc/out/lib/libc.a && $sources == "$(cat "$libc/out/sum" 2>/dev/null)" ]]; then
+    if [[ -e $libc/out/lib/$last && $sources == "$(cat "$libc/out/sum" 2>/dev/null)" ]]; then
         say "the C library of tenants: was there"
-    elif (watched "the C library of tenants" "$libc/build.py" --jobs "$1"); then
+    elif (watched "the C library of tenants" "$libc/build.py" "${kinds[@]}" --jobs "$1"); then
         echo "$sources" >"$libc/out/sum"
         say "the C library of tenants: built"
     elif [[ $only == tenants ]]; then
