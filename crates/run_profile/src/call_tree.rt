@@ -96,7 +96,7 @@ impl CallTree {
 
     /// The last call becomes another one.
     pub fn replace(&mut self, edge: usize, entry: u64, steps: u64) {
-        let back = self.open.last().map_or(0, |call| call.back);
+        let back = self.back();
         self.close(self.open.len().saturating_sub(1), steps);
         self.call(edge, entry, back, steps);
     }
@@ -124,6 +124,11 @@ impl CallTree {
     /// The node of the last call.
     fn node(&self) -> usize {
         self.open.last().map_or(0, |call| call.node)
+    }
+
+    /// Where the last call returns to.
+    fn back(&self) -> u64 {
+        self.open.last().map_or(0, |call| call.back)
     }
 
     /// Counts a call of the node with a pair.

@@ -107,13 +107,16 @@ fn write_some<W: Write>(
 
 /// Whether both are one line of one file.
 fn is_same(one: &Option<SourceLine<'_>>, other: &Option<SourceLine<'_>>) -> bool {
-    match (one, other) {
-        (Some(one), Some(other)) => {
-            one.line == other.line && one.path == other.path && one.directory == other.directory
-        }
-        (None, None) => true,
-        _ => false,
+    let (Some(one), Some(other)) = (one, other) else {
+        return one.is_none() && other.is_none();
+    };
+    if one.line != other.line {
+        return false;
     }
+    if one.path != other.path {
+        return false;
+    }
+    one.directory == other.directory
 }
 
 /// Writes the line of an address, and the inlined calls that it is in, the innermost first.
