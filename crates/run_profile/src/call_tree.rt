@@ -97,7 +97,8 @@ impl CallTree {
     /// The last call becomes another one.
     pub fn replace(&mut self, edge: usize, entry: u64, steps: u64) {
         let back = self.back();
-        self.close(self.open.len().saturating_sub(1), steps);
+        let left = self.open.len().saturating_sub(1);
+        self.close(left, steps);
         self.call(edge, entry, back, steps);
     }
 
