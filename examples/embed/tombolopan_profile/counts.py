@@ -177,15 +177,19 @@ def read(text: str) -> Counts:
     pairs = [(int(source, 16), int(target, 16)) for source, target, _ in rows["branch"]]
     first = int(rows["first"][0][0], 16)
     start, count = rows["rest"][0]
+    calls = [read_call(words, pairs, first) for words in rows["calls"]]
+    # Where nothing has a name, a function is what was called.
+    functions = [(int(address, 16), name) for address, name in rows["function"]] or [
+        (entry, f"{entry:#x}") for entry in sorted({call.entry for call in calls})]
     return Counts(
         image=rows["image"][0][0], steps=int(rows["steps"][0][0]),
         runs=[(first, int(start, 16), int(count))],
         branches=Counter({pair: int(words[2])
                           for pair, words in zip(pairs, rows["branch"], strict=True)}),
-        calls=[read_call(words, pairs, first) for words in rows["calls"]],
+        calls=calls,
         long_calls=[LongCall(*map(int, words)) for words in rows["call"]],
         least=int(rows["least"][0][0]), is_complete="incomplete" not in rows,
-        functions=[(int(address, 16), name) for address, name in rows["function"]],
+        functions=functions,
         places=[(int(words[0], 16), Place(line_of(words[1], words[2:]), tuple(inlined[number])))
                 for number, words in enumerate(rows["line"], start=1)])
 
