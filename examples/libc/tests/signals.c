@@ -22,18 +22,19 @@ static void tell_blocked(const char *when)
            sigismember(&mask, SIGUSR2));
 }
 
+/* Of signals that no shell ignores for what it starts. */
 static void set_handlers(void)
 {
     struct sigaction set = {.sa_handler = handle, .sa_flags = SA_RESTART}, old;
-    printf("%s ", name(signal(SIGINT, SIG_IGN)));
-    printf("%s ", name(signal(SIGINT, handle)));
-    printf("%s ", name(signal(SIGINT, SIG_DFL)));
-    printf("%s\n", name(signal(SIGTERM, handle)));
+    printf("%s ", name(signal(SIGUSR1, SIG_IGN)));
+    printf("%s ", name(signal(SIGUSR1, handle)));
+    printf("%s ", name(signal(SIGUSR1, SIG_DFL)));
+    printf("%s\n", name(signal(SIGUSR2, handle)));
     sigemptyset(&set.sa_mask);
     sigaddset(&set.sa_mask, SIGALRM);
-    printf("%d ", sigaction(SIGHUP, &set, &old));
+    printf("%d ", sigaction(SIGVTALRM, &set, &old));
     printf("%s %d\n", name(old.sa_handler), old.sa_flags & SA_RESTART);
-    printf("%d ", sigaction(SIGHUP, NULL, &old));
+    printf("%d ", sigaction(SIGVTALRM, NULL, &old));
     printf("%s %d", name(old.sa_handler), (old.sa_flags & SA_RESTART) != 0);
     printf(" %d %d\n", sigismember(&old.sa_mask, SIGALRM), sigismember(&old.sa_mask, SIGINT));
     printf("%d\n", signal(100, handle) == SIG_ERR);
