@@ -165,7 +165,8 @@ build_libc() {
     else
         say "without the C++ library of tenants: it needs binutils-aarch64-linux-gnu (Debian)"
     fi
-    sources=$(cd "$libc" && find src src_cxx include arch build.py cxx_library.py -type f -print0 | LC_ALL=C sort -z |
+    sources=$(cd "$libc" && find src src_cxx include arch build.py cxx_library.py -type f -print0 |
+        LC_ALL=C sort -z |
         xargs -0 sha256sum | sha256sum)
     if [[ -e $libc/out/lib/$last && $sources == "$(cat "$libc/out/sum" 2>/dev/null)" ]]; then
         say "the C library of tenants: was there"
