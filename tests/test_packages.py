@@ -139,7 +139,7 @@ def test_the_page_has_what_is_told_of_programs_that_test_compilers() -> None:
     part = part_of(CHECKED, checked.SCRIPT)
     row = rf"^\| {checked.TITLES['torture']} \| (\S+) \| (\d+) \| \d+ \| \d+ \| (\d+) \|$"
     rows = re.findall(row, part, re.M)
-    assert [build for build, _, _ in rows] == list(checked.BUILDS)
+    assert [build for build, _, _ in rows] == checked.USUAL
     assert all(int(count) >= 400 and false == "0" for _, count, false in rows)
     assert re.findall(r"^\| (\S+) \| \S+-O.* \| it .* \|$", part, re.M) == list(
         checked.faults()["torture"])
