@@ -35,7 +35,6 @@ PROGRAMS = {
     "mte_split": Texts("--help", "docs/MANY_SESSIONS.md", "One long session", USUAL),
     "mte_run": Texts("--help-all", "docs/MTE_RUN.md", "", USUAL | {"--help-all"}),
     "tenant-run": Texts("--help", "docs/TENANTS.md", "tenant-run"),
-    "tenant-profile": Texts("--help", "docs/TENANTS.md", "Profiles and coverage"),
     "tenant-cc": Texts("--help", "docs/TENANTS.md", "", frozenset({"--c++"})),
     "tenant-args": Texts("--help", "docs/TENANTS.md", "", frozenset()),
 }

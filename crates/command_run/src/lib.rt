@@ -11,7 +11,6 @@ mod first_finding;
 mod limits;
 mod lost;
 mod map;
-mod profile;
 mod refused;
 mod replay;
 mod request;

@@ -10,7 +10,6 @@ use mte_report::PictureForm;
 use mte_svc::TenantParts;
 use report_documents::Document;
 use run_cause::CheckTerms;
-use run_profile::ProfileFile;
 use run_terms::{Failure, Options, Suppressions};
 use std::alloc::Global;
 use std::io;
@@ -133,7 +132,7 @@ fn tell_parts<'a>(
         lost: lost.as_slice(),
     };
     let mut text = Vec::new(alloc);
-    write_answer(alloc, &mut text, asked, &account, memory, observer)?;
+    write_answer(alloc, &mut text, asked, &account, memory)?;
     Ok(Answer {
         text,
         steps: parts.history.steps,
@@ -149,7 +148,6 @@ fn write_answer(
     asked: &Asked<'_>,
     account: &RunAccount<'_>,
     memory: &mut Flat,
-    observer: &Observer<'_>,
 ) -> io::Result<()> {
     let report = account.report;
     let document = Document {
@@ -167,17 +165,6 @@ fn write_answer(
             let title = MapTitle(asked.question.options);
             let title = format!(in alloc; "{title}")?;
             report.draw(alloc, out, title.as_str(), PictureForm::Svg, memory)
-        }
-        AnswerForm::Profile => {
-            let Some(profile) = observer.profile() else {
-                return Ok(());
-            };
-            let file = ProfileFile {
-                profile,
-                name: asked.question.options.file_name(1),
-                steps: report.parts.history.steps,
-            };
-            file.write(alloc, out)
         }
     }
 }

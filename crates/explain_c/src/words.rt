@@ -40,8 +40,7 @@ pub(crate) fn wants_system(options: &Options) -> bool {
         || is_file(&output.json)
         || is_file(&output.sarif)
         || is_file(&output.page)
-        || is_file(&output.map)
-        || is_file(&output.profile);
+        || is_file(&output.map);
     let has_lines = output
         .traced
         .is_some_and(|traced| traced.services || traced.from <= traced.to);

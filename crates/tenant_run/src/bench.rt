@@ -4,7 +4,7 @@ ghost use Rattle.std.specs.Prelude.{◌≡◌, ◌<◌, Some, false, IfOk, IfErr
 ghost use Rattle.common.specs.Obstacles.{IfRefused};
 ghost use Rattle.mte_svc.specs.Ready.{IsReady};
 
-use a64_run::{Edges, NoEdges, OpCache};
+use a64_run::{NoEdges, OpCache};
 use common::Obstacle;
 use mte_flat::Flat;
 use mte_tenant::{
@@ -18,8 +18,6 @@ use std::alloc::Global;
 pub enum WatchLevel {
     /// Nothing: the slice runs by a table of instructions, as a host runs it.
     Nothing,
-    /// The branches that are taken, by that table.
-    Branches,
     /// The accesses of instructions by that table, or these instructions, and attempts that lead to
     /// no next instruction; of the last steps each attempt.
     Accesses,
@@ -29,14 +27,8 @@ pub enum WatchLevel {
 
 /// A watch of a tenant.
 pub trait Watcher: Notes {
-    /// What counts the branches that are taken.
-    type Branches: Edges;
-
     /// How much it is shown.
     fn shown(&self) -> WatchLevel;
-
-    /// A slice begins, of which it is shown the branches: what counts them.
-    fn branches(&mut self, parts: &TenantParts) -> Option<&mut Self::Branches>;
 
     /// A slice of some steps begins, of which it is shown accesses: of how many of the last steps
     /// it is shown each attempt.
@@ -101,10 +93,6 @@ impl TenantBench {
             WatchLevel::Nothing => {
                 slice_with_edges(&mut self.words, parts, memory, &mut NoEdges, steps)
             }
-            WatchLevel::Branches => match watch.branches(parts) {
-                Some(edges) => slice_with_edges(&mut self.words, parts, memory, edges, steps),
-                None => slice_with_edges(&mut self.words, parts, memory, &mut NoEdges, steps),
-            },
             WatchLevel::Accesses => {
                 let last = watch.begin(parts, steps);
                 slice_noted(&mut self.words, watch, parts, memory, steps, last);

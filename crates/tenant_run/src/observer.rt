@@ -13,7 +13,6 @@ use mte_tenant::{
     AccessUse, MOST_UNSEEN, NotedAccess, Notes, NotesAccesses, Status, TenantParts, Watch,
 };
 use run_cause::{CheckTerms, Checker, Exact, Finding, Findings, LastStore, TargetLoad};
-use run_profile::RunProfile;
 use run_records::{Book, Moment, SVC, Statistics, StatisticsTable, Turn};
 use run_terms::Exactness;
 use shadow_memory::Full;
@@ -53,8 +52,6 @@ pub struct Observer<'a> {
     pub findings: Findings,
     /// The numbers of the run, where they are requested.
     statistics: Option<Statistics>,
-    /// The branches of the run and the calls, where they are requested.
-    profile: Option<RunProfile<'a>>,
     /// Whether a service wrote fewer bytes than it was handed.
     pub is_cut: bool,
     /// The store that wrote the target last of the jump to no code that ended the tenant, once
@@ -89,36 +86,7 @@ impl<'a> Observer<'a> {
             statistics: None,
             is_cut: false,
             store: None,
-            profile: None,
         })
-    }
-
-    /// Counts the branches that the tenant takes, too.
-    pub fn count_branches(&mut self, profile: RunProfile<'a>) {
-        self.profile = Some(profile);
-    }
-
-    /// Whether the branches have to be counted by one more run, of which it is shown them alone.
-    pub fn wants_branches(&mut self) -> bool {
-        match &self.profile {
-            Some(profile) if !profile.has_begun() => {
-                self.shown = WatchLevel::Branches;
-                true
-            }
-            _ => false,
-        }
-    }
-
-    /// The profile of the run, if it is requested.
-    pub fn profile(&self) -> Option<&RunProfile<'a>> {
-        self.profile.as_ref()
-    }
-
-    /// Ends the profile after all steps of the run.
-    pub fn end_profile(&mut self, steps: u64) {
-        if let Some(profile) = &mut self.profile {
-            profile.finish(steps);
-        }
     }
 
     /// Counts what the tenant does, too.
@@ -134,10 +102,7 @@ impl<'a> Observer<'a> {
         if self.sees_all || self.tracer.is_some() || counts_and_checks {
             WatchLevel::Attempts
         } else if !judges_accesses && self.checker.is_none() {
-            match self.profile {
-                Some(_) => WatchLevel::Branches,
-                None => WatchLevel::Nothing,
-            }
+            WatchLevel::Nothing
         } else if self.turns.is_some() {
             WatchLevel::Attempts
         } else {
@@ -272,16 +237,8 @@ impl<'a> Observer<'a> {
 }
 
 impl<'a> Watcher for Observer<'a> {
-    type Branches = RunProfile<'a>;
-
     fn shown(&self) -> WatchLevel {
         self.shown
-    }
-
-    fn branches(&mut self, parts: &TenantParts) -> Option<&mut RunProfile<'a>> {
-        let profile = self.profile.as_mut()?;
-        profile.begin(parts.regs.pc);
-        Some(profile)
     }
 
     fn begin(&mut self, parts: &TenantParts, steps: u32) -> u32 {
@@ -295,10 +252,7 @@ impl<'a> Watcher for Observer<'a> {
     }
 
     fn has_ended(&self) -> bool {
-        match self.shown {
-            WatchLevel::Nothing | WatchLevel::Branches => false,
-            _ => self.is_suspicious() || self.full().is_some(),
-        }
+        self.shown != WatchLevel::Nothing && (self.is_suspicious() || self.full().is_some())
     }
 }
 

@@ -33,14 +33,8 @@ impl StoreWatcher {
 }
 
 impl Watcher for StoreWatcher {
-    type Branches = NoEdges;
-
     fn shown(&self) -> WatchLevel {
         WatchLevel::Attempts
-    }
-
-    fn branches(&mut self, _parts: &TenantParts) -> Option<&mut NoEdges> {
-        None
     }
 
     fn begin(&mut self, _parts: &TenantParts, steps: u32) -> u32 {
