@@ -255,5 +255,6 @@ def test_services_of_any_size(alone: pathlib.Path, shared: pathlib.Path,
     for bits in (*source.sample(range(17, 64), 6), 64):
         size = source.randrange(1 << (bits - 1), 1 << bits)
         (tmp_path / "size").write_bytes(struct.pack("<Q", size))
-        ran = run([alone, "--check=provenance", "--input", tmp_path / "size", program], seconds=60)
-        assert ran.status == FAULT, ran.errors
+        for kind in ("provenance", "undefined"):
+            ran = run([alone, f"--check={kind}", "--input", tmp_path / "size", program], seconds=60)
+            assert ran.status == FAULT, ran.errors

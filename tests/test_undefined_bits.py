@@ -1,6 +1,7 @@
 """`mte_run --check=undefined` bit by bit: which bits of a result were never given, and which bytes
 of a chunk."""
 
+import json
 import pathlib
 import random
 import re
@@ -9,10 +10,10 @@ from collections.abc import Sequence
 import pytest
 
 from tests.support.instructions import SERVICE, Words, call, copy, load, load_byte
-from tests.support.instructions import move, program
+from tests.support.instructions import move, program, store_byte
 from tests.support.running import Ran, run
 
-EXIT, WRITE, MALLOC, REALLOC = 0, 1, 3, 6
+EXIT, WRITE, MALLOC, CALLOC, REALLOC = 0, 1, 3, 5, 6
 ALL = (1 << 64) - 1
 ADD, SUB, AND, ORR, MUL = 0x8B000000, 0xCB000000, 0x8A000000, 0xAA000000, 0x9B007C00
 CLZ = 0xDAC01000
@@ -138,3 +139,30 @@ def test_the_first_byte_that_is_written_out(alone: pathlib.Path, tmp_path: pathl
         place = re.search(r"^0x([0-9a-f]+) is in ", ran.errors, re.M)
         assert "  what it writes out depends on them\n" in ran.errors and chunk and place
         assert int(place[1], 16) == (int(chunk[1], 16) & (1 << 56) - 1) + written
+
+
+def test_the_first_byte_of_long_output(alone: pathlib.Path, tmp_path: pathlib.Path) -> None:
+    """The same over up to ten pages, in which two bytes were never given, from any byte on."""
+    source, path, told = random.Random(9), tmp_path / "tenant.elf", tmp_path / "told.json"
+    ends = set()
+    for _ in range(60):
+        size = source.randrange(5_000, 40_000)
+        pages = range(4_096, size, 4_096)
+        holes = sorted({source.choice(pages) - source.choice((1, 17)), source.randrange(size)})
+        start = source.choice((0, holes[0], source.randrange(size)))
+        count = source.randrange(size - start + 1)
+        made: list[Words] = [call(MALLOC, 16), copy(20, 0), call(CALLOC, 1, size), copy(9, 0),
+                             load_byte(1, 20)]
+        for hole in holes:
+            made += [move(10, hole), by(ADD, 11, 9, 10), store_byte(1, 11)]
+        path.write_bytes(program(*made, move(10, start), by(ADD, 0, 9, 10), move(1, count),
+                                 move(8, WRITE), SERVICE, call(EXIT, 0)))
+        ran = run([alone, "--check=undefined", "--services", "--json", told, path])
+        chunk = re.search(r"calloc\(.*\) = 0x([0-9a-f]+)", ran.errors)
+        status = json.loads(told.read_text(encoding="utf-8"))["status"]
+        first = next((hole for hole in holes if start <= hole < start + count), None)
+        ends.add((status["kind"], first in holes[:1]))
+        assert chunk and (status["kind"] == "check") == (first is not None), (holes, start, count)
+        if first is not None:
+            assert int(status["address"], 16) == (int(chunk[1], 16) & (1 << 56) - 1) + first
+    assert ends == {("check", True), ("check", False), ("exit", False)}
