@@ -172,7 +172,10 @@ impl NamedPlaces {
         if !is_set || !is_exact || !has_size || !has_room(frame, &self.table, MOST) {
             return None;
         }
-        let end = start.saturating_add(size);
+        let (end, whole) = (
+            start.saturating_add(size),
+            self.frame_place(at, frame, start),
+        );
         Some(NamedPlace {
             text: PlaceText {
                 kind: PlaceKind::Block,
@@ -184,7 +187,7 @@ impl NamedPlaces {
             },
             limit: end,
             is_exact,
-            ..self.frame_place(at, frame, start)
+            ..whole
         })
     }
 }
