@@ -129,8 +129,9 @@ def test_a_class_of_students(made: Batch, tmp_path: pathlib.Path) -> None:
     assert (tmp_path / "reports" / "ann" / "1.out").read_text() == HI_REPORT
     assert (tmp_path / "reports" / "cy" / "1.status").read_text() == "0\n"
     told = json.loads((tmp_path / "told").read_text())
-    ends = [it.get("ends") for it in told["sessions"]]
-    assert ends == [["exit 0"], ["exit 0"], ["running"], None]
+    statuses = [[tenant["status"] for tenant in it.get("tenants", ())] for it in told["sessions"]]
+    exited = {"kind": "exit", "code": 0}
+    assert statuses == [[exited], [exited], [{"kind": "running"}], []]
     table.write_text(rows[0].replace("ann", ".."))
     ran = batch.run("--reports", tmp_path / "reports")
     assert (ran.status, ran.output) == (2, "") and "leads out" in ran.errors

@@ -1,5 +1,6 @@
 """Runs tools/batch: over the library, or over one that goes wrong."""
 
+import importlib.util
 import json
 import pathlib
 import sys
@@ -37,6 +38,18 @@ def session(frames, script, files):
 """
 
 
+def validate(document: object, part: str = "") -> None:
+    """Compares what was written with the schema, or with a part of it, where Debian's
+    python3-jsonschema is there."""
+    if importlib.util.find_spec("jsonschema") is None:
+        return
+    import jsonschema
+    schema = json.loads((BATCH / "results.schema.json").read_text(encoding="utf-8"))
+    if part:
+        schema = {"$ref": f"#/$defs/{part}", "$defs": schema["$defs"]}
+    jsonschema.Draft202012Validator(schema).validate(document)
+
+
 @dataclass(frozen=True)
 class Batch:
     """A folder or a table of sessions, the variables of the command, and options of each run."""
@@ -65,6 +78,7 @@ class Batch:
         assert ran.status in (0, 1) and ran.errors == "", ran.errors
         found: dict[str, Any] = json.loads(path.read_text(encoding="utf-8"))
         assert found["right"] == (ran.status == 0)
+        validate(found)
         return found
 
     def going_wrong(self, act: str) -> "Batch":

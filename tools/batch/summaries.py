@@ -10,6 +10,7 @@ from dataclasses import asdict
 from batch.verdicts import DIFFERENT, VERDICTS, Verdict, Work, is_right
 
 SHOWN = {10, *range(32, 127)}
+FORMAT = "tombolopan results 1"
 
 
 def plain(text: str) -> str:
@@ -18,8 +19,9 @@ def plain(text: str) -> str:
 
 
 def json_of(verdicts: list[Verdict], work: Work) -> str:
-    """All that is said, as one object."""
+    """All that is said, as one object (results.schema.json)."""
     told = {
+        "format": FORMAT,
         "right": is_right(verdicts, work),
         "verdicts": {it: count for it, count in Counter(it.verdict for it in verdicts).items()},
         "work": asdict(work),

@@ -3,8 +3,10 @@
 from collections import Counter
 from collections.abc import Iterable
 from dataclasses import dataclass
+from typing import Any
 
 from batch.answers import Answer, ends_of, output_of
+from batch.reports import refused_of, tenants_of
 
 WANTED = "as wanted"
 DIFFERENT = "different"
@@ -22,7 +24,7 @@ KEPT, RAN, MENDED = "kept", "run", "mended"
 @dataclass(frozen=True)
 class Verdict:
     """What became of a session: one of VERDICTS, why, how the answer came, the exit status, the
-    key, and how its tenants ended."""
+    key, its tenants and its refused events."""
 
     name: str
     verdict: str
@@ -30,7 +32,8 @@ class Verdict:
     source: str = ""
     status: int | None = None
     key: str = ""
-    ends: tuple[str, ...] = ()
+    tenants: tuple[dict[str, Any], ...] = ()
+    refused: tuple[dict[str, Any], ...] = ()
 
 
 @dataclass
@@ -67,7 +70,8 @@ def judge(name: str, answer: Answer, wanted: dict[str, bytes], source: str, key:
     """The verdict of a session that is answered."""
     different = ", ".join(different_parts(answer, wanted))
     verdict = DIFFERENT if different else WANTED if wanted else ANSWERED
-    return Verdict(name, verdict, different, source, answer.status, key, tuple(ends_of(answer)))
+    return Verdict(name, verdict, different, source, answer.status, key,
+                   tuple(tenants_of(answer.out)), tuple(refused_of(answer.out)))
 
 
 def is_right(verdicts: Iterable[Verdict], work: Work) -> bool:
