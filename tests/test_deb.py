@@ -90,6 +90,21 @@ def test_files(packages: dict[str, pathlib.Path], built: pathlib.Path) -> None:
     assert sorted(there) == sorted([*(it for it in wanted if it != "installed"), "out", "hi.elf"])
 
 
+@pytest.mark.parametrize("made, tool", [
+    ("lib/libc.a", "clang"), ("lib/libc++.a", "aarch64-linux-gnu-as"),
+    ("rust/lib/rustlib/aarch64-unknown-none-softfloat/lib/liballoc.rlib", "/usr/bin/rustc")])
+def test_libraries_of_tenants(packages: dict[str, pathlib.Path], built: pathlib.Path, made: str,
+                              tool: str) -> None:
+    """Each file that is built for tenants is installed, and in the package of the programs."""
+    need(tool)
+    files = installed.files_below(built / "libc")
+    assert made in files
+    place = built.parent / "prefix" / "share/tombolopan/examples/libc/out"
+    top = "usr/lib/tombolopan/libc/"
+    assert installed.files_below(place) == files == {
+        it.removeprefix(top) for it in files_of(packages["tombolopan"]) if it.startswith(top)}
+
+
 def test_headers() -> None:
     """All headers of the library are in the one package that a program is built by."""
     headers = sorted((ROOT / "include").iterdir())

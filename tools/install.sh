@@ -11,8 +11,8 @@
 #     PREFIX/share/man            pages of the programs (1) and of the library and its calls (3)
 #     PREFIX/share/bash-completion, share/zsh, share/fish: completions
 #     PREFIX/share/tombolopan     tombolopan (the package of Python), tombolopan.rs, start.c,
-#                                 examples, the C library of tenants where it is built, installed
-#                                 (the list of all this)
+#                                 examples, the libraries of tenants (of C, C++ and Rust) where they
+#                                 are built, installed (the list of all this)
 #     PREFIX/share/doc/tombolopan the pages
 #
 # A copy of PREFIX elsewhere works too. What is not built yet is proved and built first
@@ -153,8 +153,8 @@ put_examples() {
     done
 }
 
-# The C library of tenants, where tenant-cc looks for it; without it there is no tenant-cc, and
-# none of the programs beside it.
+# The libraries of tenants, where tenant-cc and examples/rust look for them; without that of C there
+# is no tenant-cc, and none of the programs beside it.
 put_libc() {
     local libc=$top/examples/libc/out made=$stage/share/tombolopan/examples/libc/out part file
     local name
@@ -166,7 +166,7 @@ put_libc() {
     mkdir -p "$made"
     for part in "$libc"/*; do
         case ${part##*/} in
-            sources | objects) ;;
+            sources | objects | sum) ;;
             *) cp -RL "$part" "$made" ;;
         esac
     done
