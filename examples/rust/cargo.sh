@@ -26,6 +26,8 @@ leave() {
 [[ -x $cargo ]] || leave "$cargo is not there (Debian: cargo)"
 command -v ld.lld >/dev/null || leave "ld.lld is not there (Debian: lld)"
 [[ -f $library ]] || leave "$library is not there: build it by ../libc/build.py"
+registry=/usr/share/cargo/registry
+[[ -d $registry ]] || echo "cargo.sh: $registry is not there: librust-*-dev have crates" >&2
 sysroot=$("$here/build.sh")
 flags=("--sysroot=$sysroot" -Cpasses=loweratomic -Crelocation-model=static -Cpanic=abort
     -Cforce-frame-pointers=yes -Clinker=ld.lld -Clinker-flavor=ld.lld
@@ -38,4 +40,4 @@ export CARGO_BUILD_TARGET=aarch64-unknown-none-softfloat CARGO_NET_OFFLINE=true
 export CARGO_TARGET_DIR=${CARGO_TARGET_DIR:-$out/cargo}
 export CARGO_TARGET_AARCH64_UNKNOWN_NONE_SOFTFLOAT_RUNNER="$alone --input /dev/stdin"
 exec "$cargo" --config 'source.crates-io.replace-with="debian"' \
-    --config 'source.debian.directory="/usr/share/cargo/registry"' "$@"
+    --config "source.debian.directory=\"$registry\"" "$@"
