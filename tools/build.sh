@@ -1,6 +1,6 @@
 #!/usr/bin/env bash
-# Builds mte_host, mte_split, mte_run, the library for C, and the libraries of tenants: of C, of C++,
-# and core and alloc of Rust.
+# Builds mte_host, mte_split, mte_run, the library for C, and the libraries of tenants: those of C
+# and C++, and core and alloc of Rust.
 #     tools/build.sh [--unproved] [--only NAME] [--jobs N] [PREFIX]
 #
 # What is built from the sources that are there stays: their sum is kept (sources.sh). Programs and

@@ -17,8 +17,8 @@
 #
 # A copy of PREFIX elsewhere works too. What is not built yet is proved and built first
 # (tools/build.sh; with its --unproved it takes minutes). FOLDER has mte_host, mte_split, mte_run
-# and libtombolopan_c.a that were built elsewhere, and may have libc, what
-# examples/libc/build.py made. DESTDIR, a variable, is put in front of PREFIX.
+# and libtombolopan_c.a that were built elsewhere, and may have libc, which is examples/libc/out of
+# where tools/build.sh was run. DESTDIR, a variable, is put in front of PREFIX.
 set -euo pipefail
 here=$(cd "$(dirname "$0")" && pwd)
 top=$(cd "$here/.." && pwd)

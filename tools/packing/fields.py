@@ -30,7 +30,7 @@ def all_packages(shared: str) -> tuple[Package, ...]:
     return (
         Package(PROGRAMS, ANY, "devel", "host of A64 programs with memory tagging",
                 "Runs the A64 programs of several tenants on one modelled Arm core with memory\n"
-                "tagging, and says why a tenant ended. tenant-cc and tenant-c++ build tenants from\n"
+                "tagging, and says why a tenant ended. tenant-cc and tenant-c++ build tenants of\n"
                 "programs in C and C++. With the libraries of tenants in C, C++ and Rust.",
                 depends="{libraries}, python3:any",
                 recommends="clang, lld, llvm, binutils-aarch64-linux-gnu",
@@ -105,6 +105,8 @@ binary-from-other-architecture [usr/{IMAGE}]
 binary-from-other-architecture [usr/{TENANTS}/lib/start.o]
 binary-from-other-architecture [usr/{TENANTS}/lib/large_blocks.o]
 statically-linked-binary [usr/{IMAGE}]
+# Crates of Rust, which are metadata beside objects.
+no-code-sections [usr/{TENANTS}/rust/*.rlib]
 """
 
 
