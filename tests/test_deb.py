@@ -10,12 +10,13 @@ import shutil
 import pytest
 
 from packing.parts import Place, place_of
-from tests.support import debian, debugger, installed
+from tests.support import debian, debugger, installed, rust_tenants
 from tests.support.cache import cache_folder
 from tests.support.checkout import copy_files
 from tests.support.debian import Root, files_of
 from tests.support.host_sessions import HI_REPORT
 from tests.support.notes import noted
+from tests.support.pages import named_code
 from tests.support.places import EXAMPLES, ROOT
 from tests.support.running import Ran, run, succeed
 from tests.support.tools import need
@@ -192,6 +193,26 @@ def test_installed(root: Root, tmp_path: pathlib.Path) -> None:
     assert list(root.usr.rglob("__pycache__"))
     root.manage("--purge", *NAMES)
     assert root.names() == []
+
+
+def test_tenants(root: Root, tmp_path: pathlib.Path) -> None:
+    """Tenants in C++ and Rust are built over the libraries of the package, which get no file."""
+    need("clang", "ld.lld", "aarch64-linux-gnu-as")
+    assert rust_tenants.compiler()
+    names, work = root.names(), tmp_path / "work"
+    work.mkdir()
+    (work / "words.cpp").write_text(named_code("docs/TENANTS.md", "words.cpp"), encoding="utf-8")
+    (work / "words.txt").write_text("pear\napple\npear\n", encoding="utf-8")
+    words = ["tenant-c++", "-std=c++17", "-O2", "-o", "words.elf", "words.cpp"]
+    assert root.run(words, work) == Ran(0, b"", b"")
+    ran = root.run(["mte_run", "--input", "words.txt", "words.elf"], work)
+    assert (ran.status, ran.output) == (0, "apple 1\npear 2\n")
+    script = root.usr / "share" / "tombolopan" / "examples" / "rust" / "build.sh"
+    words = ["env", f"TENANT_OUT={work}", str(script), "atomics.rs"]
+    assert root.run(words, work) == Ran(0, b"", b"")
+    ran, tenant = root.run(["mte_run", "atomics.elf"], work), rust_tenants.RustTenant("atomics")
+    assert (ran.status, ran.output) == (int(tenant.values("ends")[0]), tenant.text("output"))
+    assert [it for it in root.names() if "__pycache__" not in it] == names
 
 
 def test_library(root: Root, tmp_path: pathlib.Path) -> None:
