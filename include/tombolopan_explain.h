@@ -21,6 +21,7 @@ enum tb_answer_form {
     TB_ANSWER_SARIF = 3,   /* the log of --sarif */
     TB_ANSWER_PAGE = 4,    /* the page of --html */
     TB_ANSWER_PICTURE = 5, /* the picture of --map */
+    TB_ANSWER_PROFILE = 6, /* the counts of --profile */
 };
 
 /*

@@ -98,7 +98,7 @@ SCOPES = {
     1: "4-byte variable `captured`", 2: "4-byte variable `lambda`", 3: "8-byte variable `counter`",
     4: "4-byte variable `element`",
 }
-PLACE_IDIOMS = range(1, 29)
+PLACE_IDIOMS = range(1, 34)
 ARITHMETIC = {
     1: "0x64 of 32 bits, divided by 0", 2: "0x1 of 64 bits, divided by 0",
     3: "0x1 of 32 bits, shifted by 40", 4: "0x1 of 64 bits, shifted by 64",

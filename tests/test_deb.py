@@ -37,7 +37,8 @@ FILES = {
     "libtombolopan-dev": (r"usr/lib/[\w-]+/libtombolopan\.(a|so)", "usr/include/tombolopan.h",
                           r"usr/lib/[\w-]+/pkgconfig/tombolopan\.pc",
                           "usr/share/man/man3/(tombolopan|tb_run).3.gz"),
-    "python3-tombolopan": (r"usr/lib/python3/dist-packages/tombolopan/(\w+\.py|py\.typed)",),
+    "python3-tombolopan": (
+        r"usr/lib/python3/dist-packages/tombolopan(?:_profile)?/(\w+\.py|py\.typed)",),
     "tombolopan-doc": ("usr/share/doc/tombolopan/README.md",
                        "usr/share/doc/tombolopan/docs/HOST.md",
                        "usr/share/doc/tombolopan/THEOREMS.md",

@@ -19,7 +19,7 @@ from tests.support.running import Ran, Word, run
 from tests.test_checks import BUGS, UNDEFINED, image
 
 DRAWN = int(os.environ.get("TOMBOLOPAN_DRAWN", "160")) // 4
-FORMS = ("report", "output", "json", "sarif", "html", "map")
+FORMS = ("report", "output", "json", "sarif", "html", "map", "profile")
 REPORT, OUTPUT = 0, 1
 OPTIONS: list[list[str]] = [
     [], ["--check"], ["--exact"], ["--leaks", "--statistics"], ["--async", "--seed", "abc"],

@@ -1,11 +1,13 @@
 """Fuzzing tenants: runs from a snapshot, beside tenants that start anew; crashes that replay; and a
 short campaign of each fuzzer."""
 
+import itertools
 import json
 import os
 import pathlib
 import random
 import re
+from collections import Counter
 from collections.abc import Iterator
 from typing import Any
 
@@ -21,6 +23,7 @@ from tests.support.growth import MEASURED
 from tests.support.instructions import call, move, program
 from tests.support.running import Word, run
 from tests.support.tools import give_up, need
+from tests.support.traces import read_trace
 from tests.test_python_package import PACKAGE, told
 from tests.test_watched_runs import CASES, heap
 
@@ -31,6 +34,9 @@ EXIT = 2
 # How many programs of each kind are drawn.
 DRAWN = int(os.environ.get("TOMBOLOPAN_DRAWN", "200")) // 8
 DONE = "print('done')\n"
+GOLDEN, WORD = 0x9E3779B97F4A7C15, 2 ** 64
+CONDITIONAL = re.compile(r"(b\.|cbn?z|tbn?z)")
+IMAGES = sorted((pathlib.Path(__file__).parent / "images").glob("*.elf"))
 BEGIN = f"""
 import ctypes
 from tombolopan.abi import _library, _Fuzz, _FuzzInput, _FuzzFinding, _AloneEnd
@@ -177,14 +183,66 @@ print(max(fuzz.counts) == 255)
 
 
 def test_the_edges_of_a_loop(shared: pathlib.Path) -> None:
-    """A loop of three turns takes its branch twice, and each time by the same count."""
+    """A loop of three turns takes its branch twice, by the same count, and goes on once."""
     # mov x0, #3; sub x0, x0, #1; cbnz x0, .-4; mov x8, #0; svc #0
     image = program(0xD2800060, 0xD1000400, 0xB5FFFFE0, 0xD2800008, 0xD4000001)
     assert told(shared, f"""
 with Fuzz(bytes.fromhex({image.hex()!r}), setup=[1], pages=60, room=16) as fuzz:
     assert fuzz.run(b"").number == 0
-    print(list(filter(None, fuzz.counts)))
-""") == "[2]\n"
+    print(sorted(filter(None, fuzz.counts)))
+""") == "[1, 2]\n"
+
+
+def hash_of(source: int, target: int) -> int:
+    """The hash of an edge: both addresses are spread by the golden ratio."""
+    spread = source * GOLDEN % WORD
+    mixed = (spread << 29 | spread >> 35) % WORD ^ target
+    return mixed * GOLDEN % WORD >> 48
+
+
+def edges_of(trace: str) -> Counter[int]:
+    """The edges of a trace by their hashes: branches that are taken, and conditional ones that are
+    not. Services end a run of instructions."""
+    found: Counter[int] = Counter()
+    for step, after in itertools.pairwise(read_trace(trace)):
+        is_conditional = CONDITIONAL.match(step.text) is not None
+        if not step.is_service and (after.pc != step.pc + 4 or is_conditional):
+            found[hash_of(step.pc, after.pc)] += 1
+    return found
+
+
+def test_edges_are_those_of_the_trace(shared: pathlib.Path, alone: pathlib.Path,
+                                      tmp_path: pathlib.Path) -> None:
+    """The map of drawn programs and of compiled ones: an edge counts by its hash, 255 at most, in
+    any slices, and in a map of any length."""
+    runner, source = Runner(alone, tmp_path), random.Random(5)
+    images = [pathlib.Path(str(runner.prepare(programs.draw(seed).words)[-1])).read_bytes()
+              for seed in range(DRAWN)] + [path.read_bytes() for path in IMAGES]
+    cases, reached = [], 0
+    for image in images:
+        (tmp_path / "tenant.elf").write_bytes(image)
+        run([alone, "--input", tmp_path / "input", "--trace", "--trace-file", tmp_path / "trace",
+             tmp_path / "tenant.elf"])
+        edges = edges_of((tmp_path / "trace").read_text())
+        reached += len(edges)
+        cases.append({"image": image.hex(), "edges": edges,
+                      "cuts": [source.choice((1, 7, 1000)) for _ in range(40)] + [1 << 20],
+                      "length": 1 << source.randrange(8, 17)})
+    (tmp_path / "cases").write_text(json.dumps(cases))
+    assert told(shared, f"""
+import json, pathlib
+
+for it in json.loads(pathlib.Path({str(tmp_path / "cases")!r}).read_text()):
+    wanted = [0] * it["length"]
+    for hashed, count in it["edges"].items():
+        wanted[int(hashed) % it["length"]] += count
+    with Fuzz(bytes.fromhex(it["image"]), setup=[0], edges=it["length"]) as fuzz:
+        for cuts in ([1 << 20], it["cuts"]):
+            for exact in (False, True):
+                fuzz.run({INPUT!r}, cuts, exact=exact)
+                assert list(fuzz.counts) == [min(255, count) for count in wanted]
+""" + DONE) == "done\n"
+    assert reached > 500
 
 
 def test_runs_are_those_of_fresh_tenants(shared: pathlib.Path) -> None:

@@ -22,7 +22,8 @@ from tests.support.samples import tenant
 from tests.support.tools import git, need
 
 EXECUTABLE, READABLE = 0o755, 0o644
-MODULES = ("py.typed", *(it.name for it in (EXAMPLES / "embed" / "tombolopan").glob("*.py")))
+MODULES = [f"{package}/{name}" for package in ("tombolopan", "tombolopan_profile") for name in (
+    "py.typed", *(it.name for it in (EXAMPLES / "embed" / package).glob("*.py")))]
 SHARE, LIBC = "share/tombolopan", "share/tombolopan/examples/libc/out"
 # Those of examples/libc, by their comments, and those with options.
 TENANTS = {path.name: ast.get_docstring(ast.parse(path.read_text(encoding="utf-8"))) or ""
@@ -42,7 +43,7 @@ FILES = {
     **{f"share/zsh/site-functions/_{name}": READABLE for name in COMPLETED},
     **{f"share/fish/vendor_completions.d/{name}.fish": READABLE for name in COMPLETED},
     f"{SHARE}/tombolopan.rs": READABLE,
-    **{f"{SHARE}/tombolopan/{name}": READABLE for name in MODULES},
+    **{f"{SHARE}/{name}": READABLE for name in MODULES},
     f"{SHARE}/start.c": READABLE, f"{SHARE}/installed": READABLE,
     **{f"{SHARE}/tools/a64/{name}.py": READABLE for name in ("__init__", "table")},
     **{f"{SHARE}/isa/a64.{name}": READABLE for name in ("rows", "forms")},
@@ -168,8 +169,7 @@ def test_sources_are_those_of_the_checkout(prefix: pathlib.Path) -> None:
     files = {"include/tombolopan.h": "include/tombolopan.h", "include/tenant.h":
              "examples/c/tenant.h", f"{SHARE}/tombolopan.rs":
              "examples/embed/tombolopan.rs", **copied(),
-             **{f"{SHARE}/tombolopan/{name}": f"examples/embed/tombolopan/{name}"
-                for name in MODULES}}
+             **{f"{SHARE}/{name}": f"examples/embed/{name}" for name in MODULES}}
     for name, source in files.items():
         assert (prefix / name).read_bytes() == (ROOT / source).read_bytes(), name
 

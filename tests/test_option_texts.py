@@ -35,6 +35,7 @@ PROGRAMS = {
     "mte_split": Texts("--help", "docs/MANY_SESSIONS.md", "One long session", USUAL),
     "mte_run": Texts("--help-all", "docs/MTE_RUN.md", "", USUAL | {"--help-all"}),
     "tenant-run": Texts("--help", "docs/TENANTS.md", "tenant-run"),
+    "tenant-profile": Texts("--help", "docs/PROFILING.md", ""),
     "tenant-cc": Texts("--help", "docs/TENANTS.md", "", frozenset({"--c++"})),
     "tenant-args": Texts("--help", "docs/TENANTS.md", "", frozenset()),
 }

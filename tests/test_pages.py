@@ -131,8 +131,6 @@ SAMPLES = [
     Sample("docs/MTE_RUN.md", "mte_run: script line 3: Syntax", told_of_faulty_line),
     Sample("docs/REPORT.md", "mte_run: fault TagCheck: a write",
            lambda it: it.told(str(it.tenant(OVERFLOW))), INSTRUCTION),
-    Sample("docs/REPORT.md", "mte_run: fault TagCheck: a read",
-           lambda it: it.told(str(it.tenant(FREED))), INSTRUCTION),
     Sample("docs/REPORT.md", "0x12000000  class",
            lambda it: it.told("--map", "text", str(it.tenant(OVERFLOW))), LAST),
     Sample("docs/TENANTS.md", "mte_run: fault TagCheck: a read", told_of_freed_lines, IN_BLOCK),

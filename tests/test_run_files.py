@@ -20,9 +20,10 @@ from tests.support.tools import need
 HELLO = EXAMPLES / "hi.elf"
 USAGE, MEMORY, READ, WRITE = 2, 4, 5, 6
 FAULT, CUT = 129, 138
-OUTPUTS = ("--json", "--sarif", "--html", "--map", "--core", "--trace-file", "--progress")
-SHARED = ("--json, --sarif, --html, --map, --core, --trace-file and --progress want different "
-          "files, and none that is read")
+OUTPUTS = ("--json", "--sarif", "--html", "--map", "--core", "--profile", "--trace-file",
+           "--progress")
+SHARED = ("--json, --sarif, --html, --map, --core, --profile, --trace-file and --progress want "
+          "different files, and none that is read")
 
 
 def failing(alone: pathlib.Path, *words: Word) -> Ran:

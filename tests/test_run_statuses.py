@@ -410,7 +410,7 @@ def test_a_file_has_at_most_16_mebibytes(alone: pathlib.Path, tmp_path: pathlib.
     ("/dev/full", ": no space is left"),
 ])
 @pytest.mark.parametrize(
-    "option", ["--map", "--json", "--sarif", "--html", "--core", "--trace-file"])
+    "option", ["--map", "--json", "--sarif", "--html", "--core", "--profile", "--trace-file"])
 def test_a_file_that_cannot_be_written(
     alone: pathlib.Path, tmp_path: pathlib.Path, option: str, place: str, reason: str
 ) -> None:

@@ -131,6 +131,8 @@ PC
     put share/tombolopan "$top/examples/embed/tombolopan.rs" "$top/examples/c/start.c"
     put share/tombolopan/tombolopan "$top"/examples/embed/tombolopan/*.py \
         "$top/examples/embed/tombolopan/py.typed"
+    put share/tombolopan/tombolopan_profile "$top"/examples/embed/tombolopan_profile/*.py \
+        "$top/examples/embed/tombolopan_profile/py.typed"
     chmod 644 "$stage"/share/tombolopan/tombolopan.rs "$stage"/share/tombolopan/tombolopan/*
 }
 

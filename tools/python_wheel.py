@@ -28,7 +28,7 @@ from typing import Optional
 from packing.release import ROOT, read_version
 
 ARCHIVE = "libtombolopan_c.a"
-PACKAGE = ROOT / "examples" / "embed" / "tombolopan"
+PACKAGES = [ROOT / "examples" / "embed" / name for name in ("tombolopan", "tombolopan_profile")]
 # The oldest of the systems' C libraries that wheels name.
 OLDEST = 17
 METADATA = """Metadata-Version: 2.1
@@ -88,8 +88,9 @@ def row(name: str, data: bytes) -> str:
 def files_of(library: bytes, version: str) -> Iterator[tuple[str, bytes]]:
     """The files of the wheel, but for the list of them."""
     about = tomllib.loads((ROOT / "pyproject.toml").read_text(encoding="utf-8"))["project"]
-    for path in sorted([*PACKAGE.glob("*.py"), PACKAGE / "py.typed"]):
-        yield f"tombolopan/{path.name}", path.read_bytes()
+    for package in PACKAGES:
+        for path in sorted([*package.glob("*.py"), package / "py.typed"]):
+            yield f"{package.name}/{path.name}", path.read_bytes()
     yield "tombolopan/libtombolopan.so", library
     text = METADATA.format(**about, version=version, python=about["requires-python"])
     yield f"tombolopan-{version}.dist-info/METADATA", text.encode()

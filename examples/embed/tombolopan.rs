@@ -1214,6 +1214,8 @@ pub enum AnswerForm {
     Page = 4,
     /// The picture of `--map`.
     Picture = 5,
+    /// The counts of `--profile`.
+    Profile = 6,
 }
 
 /// An image, what it may read, the name that is told as that of its file, and options of a command

@@ -38,7 +38,7 @@ __attribute__((noinline)) static int sum_back(const int *from, const int *to)
     return sum;
 }
 
-#if IDIOM == 13 || IDIOM == 27 /* What a jump over frames keeps and restores. */
+#if IDIOM == 13 || IDIOM == 27 || IDIOM == 32 /* What a jump over frames keeps and restores. */
 static void *place[14];
 int save_place(void **to) __attribute__((returns_twice));
 _Noreturn void jump_back(void **to);
@@ -581,6 +581,149 @@ out:
     });
     kept = (int[]){one, 2, 3};
     return sum + sum_kept(3) + *(last = &sum);
+}
+#elif IDIOM == 29 /* Arrays of variable length in blocks, however these are left. */
+__attribute__((noinline)) static int rows_of(int rows, int columns, int all[rows][columns])
+{
+    int sum = 0;
+    for (int i = 0; i < rows; i++)
+        for (int j = 0; j < columns; j++)
+            sum += all[i][j] = i * j;
+    return sum;
+}
+static int idiom(void)
+{
+    int sum = 0, turn = 0;
+    char outer[3 * one];
+    fill(outer, 3);
+again:
+    for (int count = one; count < 9; count++) {
+        int part[count], *last = part + count;
+        set_all(part, count);
+        if (count == 3 && turn++ < 2)
+            goto again;
+        if (count == 4)
+            continue;
+        short words[count + turn];
+        for (int i = 0; i < count + turn; i++)
+            words[i] = (short)i;
+        int rows[count][turn + 1];
+        struct {
+            long all[2];
+        } wide[count];
+        wide[count - 1].all[1] = sum;
+        sum += rows_of(count, turn + 1, rows) + last[-one] + words[count - one];
+        sum += (int)wide[count - one].all[one] + sum_back(part, last);
+        if (count == 7)
+            break;
+    }
+    return sum + outer[2 * one];
+}
+#elif IDIOM == 30 /* Memory of alloca that lasts as long as its function, in a list. */
+struct node {
+    struct node *next;
+    char text[3];
+};
+__attribute__((noinline)) static char *text_of(char *to, const char *from, int count)
+{
+    for (int i = 0; i < count; i++)
+        to[i] = from[i];
+    return to;
+}
+static int idiom(void)
+{
+    struct node *first = 0;
+    int sum = 0;
+    for (int i = 0; i < 60; i++) {
+        struct node *made = __builtin_alloca(sizeof(struct node) + (size_t)(i % 5) * one);
+        made->next = first;
+        text_of(made->text, "six letters", 3 + i % 5);
+        first = made;
+        if (i % 10 == 5) {
+            int *fixed = __builtin_alloca(40);
+            set_all(fixed, 10);
+            sum += fixed[9 * one];
+        }
+    }
+    for (struct node *at = first; at; at = at->next)
+        sum += at->text[2];
+    int *counted = (int *)__builtin_alloca(8 * sizeof(int) * (size_t)one) - 1;
+    for (int i = 1; i <= 8; i++)
+        counted[i * one] = i;
+    return sum + counted[8 * one];
+}
+#elif IDIOM == 31 /* Arrays of variable length in large frames, with arguments of a number. */
+__attribute__((noinline)) static long pick(int at, ...)
+{
+    va_list list;
+    long value = 0;
+    va_start(list, at);
+    while (at-- >= 0)
+        value = va_arg(list, long);
+    va_end(list);
+    return value;
+}
+static int idiom(void)
+{
+    char large[4600], some[10 + one] __attribute__((aligned(16)));
+    char wide[20 + one] __attribute__((aligned(64)));
+    fill(large, 4600);
+    fill(some, 11);
+    fill(wide, 21);
+    long value = pick(11, 1l, 2l, 3l, 4l, 5l, 6l, 7l, 8l, 9l, 10l, 11l, 12l);
+    long all[value], *last = all + value;
+    for (long *at = all; at < last; at++)
+        *at = pick(9, 1l, 2l, 3l, 4l, 5l, 6l, 7l, 8l, value, 10l);
+    char more[value + 13];
+    fill(more, (int)value + 13);
+    wide[20 * one] = some[10 * one] = (char)pick(10, 1l, 2l, 3l, 4l, 5l, 6l, 7l, 8l, 9l, 10l, 11l);
+    return (int)(last[-one] + more[24 * one] + large[4599 * one] + wide[20 * one] + some[one]);
+}
+#elif IDIOM == 32 /* Jumps over frames out of arrays of variable length. */
+__attribute__((noinline)) static void leave(int count)
+{
+    char some[count];
+    fill(some, count);
+    cell = some;
+    if (count > 3)
+        leave(count - 1);
+    jump_back(place);
+}
+static int idiom(void)
+{
+    char before[9 + one];
+    int sum = 0;
+    fill(before, 10);
+    for (volatile int turn = 1; turn < 8; turn++) {
+        if (save_place(place) == 0) {
+            char inner[turn];
+            fill(inner, turn);
+            leave(turn + 2);
+        }
+        char behind[turn * 7], *last = behind + turn * 7;
+        fill(behind, turn * 7);
+        sum += behind[turn] + last[-one] + before[9 * one];
+        fill(before, 10);
+    }
+    char all[sum % 7 + 1];
+    fill(all, sum % 7 + 1);
+    return sum + all[sum % 7];
+}
+#elif IDIOM == 33 /* Sizes that a program has rounded. */
+static int idiom(void)
+{
+    int sum = 0;
+    for (size_t bytes = (size_t)one; bytes < 40; bytes += 7) {
+        size_t whole = (bytes + 15) & ~(size_t)15;
+        char *rounded = __builtin_alloca((bytes + 15) & ~(size_t)15);
+        char all[bytes + 15], words[(bytes + 15) / 16 * 16], kept[whole];
+        fill(rounded, (int)whole);
+        fill(all, (int)bytes + 15);
+        fill(words, (int)whole);
+        fill(kept, (int)whole);
+        sum += rounded[whole - 1] + all[bytes + 14] + words[whole - 1] + kept[whole - 1];
+    }
+    return sum;
 }
 #endif
 

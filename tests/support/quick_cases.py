@@ -7,11 +7,12 @@ Names the first that is red, with status 1. Images that the folder has are not c
 
 import pathlib
 import sys
+import tempfile
 from collections.abc import Callable, Iterator
 
 from tests import test_checks, test_cxx_names, test_explanations, test_gdb, test_heap_page
 from tests import test_explanations_beside_tools as beside_tools
-from tests import test_reference, test_report_lines, test_run_statuses, test_sarif
+from tests import test_profile, test_reference, test_report_lines, test_run_statuses, test_sarif
 from tests.reference import compare
 from tests.reference.runs import Runner
 from tests.support.explained import run_acts
@@ -57,6 +58,11 @@ def written(alone: pathlib.Path, folder: pathlib.Path) -> Iterator[Callable[[], 
     """Those that compare what is written with a model or with another tool."""
     for end in test_run_statuses.ENDS:
         yield lambda: test_run_statuses.test_each_end_has_its_status_and_lines(alone, folder, *end)
+    # What they write is a body's own: several are tried at a time.
+    with tempfile.TemporaryDirectory() as own:
+        for path in test_profile.IMAGES[:4]:
+            yield lambda: test_profile.test_images(alone, pathlib.Path(own), path)
+            yield lambda: test_profile.test_functions_and_lines(alone, pathlib.Path(own), path)
     yield lambda: test_run_statuses.test_why_a_call_made_no_chunk(alone, folder)
     acts = run_acts(alone, "chunks", "gcc-O2", folder)
     for case in ACTS:

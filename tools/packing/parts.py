@@ -18,7 +18,7 @@ RULES = (
     (r"lib/(libtombolopan\.\w+|pkgconfig/.*)", DEVELOPMENT, r"lib/{arch}/\1"),
     (r"(include/tombolopan(?:_explain)?\.h|share/man/man3/.*)", DEVELOPMENT, r"\1"),
     (r"(share/tombolopan/tombolopan\.rs)", DEVELOPMENT, r"\1"),
-    (r"share/tombolopan/(tombolopan/.*)", PYTHON, r"lib/python3/dist-packages/\1"),
+    (r"share/tombolopan/(tombolopan(?:_profile)?/.*)", PYTHON, r"lib/python3/dist-packages/\1"),
     (r"share/doc/tombolopan/(.*)", PAGES, r"share/doc/tombolopan/\1"),
     (r"share/zsh/site-functions/(.*)", PROGRAMS, r"share/zsh/vendor-completions/\1"),
     (r"share/tombolopan/examples/libc/out/(.*)", PROGRAMS, TENANTS + r"/\1"),

@@ -1,9 +1,9 @@
 """Watched runs, for `--watched`: each HOST is a built mte_run. The real programs run as tenants of
-each, plain and with --statistics, --exact, each kind of --check, all kinds, given up shortly before
-their end (two runs then), and under --gdb with a watchpoint that is never met; and as programs of
-this machine, alone, under AddressSanitizer, memcheck and callgrind. A figure is the best user time
-of a whole run less the best of a start, in seconds and as a ratio to a plain run. With `--ir` it
-has the host's instructions a step of a short run less a start, but for --gdb.
+each, plain and with --statistics, --profile, --exact, each kind of --check, all kinds, given up
+shortly before their end (two runs then), and under --gdb with a watchpoint that is never met; and
+as programs of this machine, alone, under AddressSanitizer, memcheck and callgrind. A figure is the
+best user time of a whole run less the best of a start, in seconds and as a ratio to a plain run.
+With `--ir` it has the host's instructions a step of a short run less a start, but for --gdb.
 """
 import json
 import resource
@@ -15,8 +15,8 @@ from commands import Command, number_in
 from real_programs import PAGES, PROGRAMS, START, Builder, Run, make_input
 
 KINDS = ("provenance", "frees", "leaks", "undefined", "arithmetic", "places")
-ASKED = ["", "--statistics", "--exact", *(f"--check={kind}" for kind in KINDS), "--check",
-         "--check=all,places"]
+ASKED = ["", "--statistics", "--profile=/dev/null", "--exact",
+         *(f"--check={kind}" for kind in KINDS), "--check", "--check=all,places"]
 GIVEN_UP, GDB = "given up", "--gdb"
 # A watchpoint where nothing is, and on to the exit.
 PACKETS = ("Z2,100,8", "vCont;c", "k")

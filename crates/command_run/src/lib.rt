@@ -11,6 +11,7 @@ mod first_finding;
 mod limits;
 mod lost;
 mod map;
+mod profile;
 mod refused;
 mod replay;
 mod request;

@@ -34,6 +34,10 @@ impl<'a, 'x> SessionReplay<'a, 'x> {
         let found = self.watched(rt.alloc(), options, found, observer)?;
         if let Some(found) = &found {
             self.find_store(rt.alloc(), found, observer)?;
+            if observer.wants_branches() {
+                let _again = self.replayed(rt.alloc(), observer, &mut StreamSink(sink()))?;
+            }
+            observer.end_profile(found.bench.parts.history.steps);
         }
         Ok(found)
     }

@@ -6,6 +6,7 @@ use crate::ended_run::EndedRun;
 use crate::limits::{failure_of, reserved_pages};
 use crate::lost::lost_chunks;
 use crate::map::draw_map;
+use crate::profile::write_profile;
 use crate::request::{Run, RunRequest};
 use debuggee::CoreSubject;
 use mte_backtrace::Names;
@@ -109,6 +110,7 @@ fn tell<'a>(
     let status = account.status();
     write_files(rt, account.report, options, status, memory)?;
     dump_core(request, subject, memory)?;
+    write_profile(request, subject, observer)?;
     end_lines(options, observer)?;
     let _ = account.write_end(&mut out);
     let _ = out.flush();

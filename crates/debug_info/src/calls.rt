@@ -120,6 +120,13 @@ pub struct CallsAt<'c, 'a> {
     left: u32,
 }
 
+impl<'c, 'a> CallsAt<'c, 'a> {
+    /// The number of the innermost call, which addresses in the same calls share.
+    pub fn innermost(&self) -> Option<usize> {
+        self.next
+    }
+}
+
 impl<'c, 'a> Iterator for CallsAt<'c, 'a> {
     type Item = InlinedCall<'a>;
 

@@ -18,7 +18,8 @@ pub struct CoveredAddress {
 /// The addresses that no row covers so far.
 #[derive(Drop)]
 pub struct OpenAddresses {
-    /// The lowest first, each once.
+    /// The highest first, each once: rows mostly come by rising addresses, so that what they cover
+    /// is at the end.
     addresses: Vec<u64>,
 }
 
@@ -26,7 +27,9 @@ impl OpenAddresses {
     /// Addresses in any order.
     pub fn of(alloc: Global, addresses: &[u64]) -> Result<OpenAddresses, AllocError> {
         let mut addresses = Vec::from_slice(alloc, addresses)?;
-        addresses.as_mut_slice().sort_unstable();
+        addresses
+            .as_mut_slice()
+            .sort_unstable_by_key(|address| !*address);
         addresses.dedup();
         Ok(OpenAddresses { addresses })
     }
@@ -56,42 +59,35 @@ impl OpenAddresses {
         Ok(covered)
     }
 
-    /// Takes those away that a row covers. Most rows cover none: they cost one binary search.
+    /// Takes those away that a row covers. Most rows cover none: they cost two binary searches.
     fn take_between(
         &mut self,
         row: &LineRow,
         next: &LineRow,
         covered: &mut Vec<CoveredAddress>,
     ) -> Result<(), AllocError> {
-        if !self.has_between(row, next) {
-            return Ok(());
+        let (first, behind) = self.places_between(row, next);
+        for address in self.addresses.get(first..behind).unwrap_or(&[]) {
+            covered.push(CoveredAddress {
+                address: *address,
+                file: row.file,
+                line: row.line,
+            })?;
         }
-        for address in &self.addresses {
-            if row.covers(next, *address) {
-                covered.push(CoveredAddress {
-                    address: *address,
-                    file: row.file,
-                    line: row.line,
-                })?;
-            }
+        if first < behind && behind <= self.addresses.len() {
+            self.addresses.drain(first..behind);
         }
-        self.addresses.retain(|address| !row.covers(next, *address));
         Ok(())
     }
 
-    /// Whether a row covers one of them.
-    fn has_between(&self, row: &LineRow, next: &LineRow) -> bool {
+    /// The first place of those that a row covers, and the one behind the last.
+    fn places_between(&self, row: &LineRow, next: &LineRow) -> (usize, usize) {
         if !row.is_placed || next.address <= row.address {
-            return false;
+            return (0, 0);
         }
-        let start = row.address;
-        let first = self
-            .addresses
-            .as_slice()
-            .partition_point(|address| *address < start);
-        match self.addresses.get(first) {
-            Some(address) => row.covers(next, *address),
-            None => false,
-        }
+        let addresses = self.addresses.as_slice();
+        let first = addresses.partition_point(|address| *address >= next.address);
+        let behind = addresses.partition_point(|address| *address >= row.address);
+        (first, behind)
     }
 }

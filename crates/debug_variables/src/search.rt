@@ -346,7 +346,8 @@ impl VariableSearch {
         Ok(block.map(|block| BlockOfFunction { function, block }))
     }
 
-    /// Enters a variable at a depth, where it has one place.
+    /// Enters a variable at a depth, where it has one place. Of several places compilers write a
+    /// list: where they optimize, and of an array of variable length, whose size is not known.
     fn enter_variable<'a>(
         &mut self,
         scope: &UnitScope<'_, 'a>,
@@ -356,7 +357,10 @@ impl VariableSearch {
         let expression = match entry.location {
             AttributeValue::Block(expression) => expression,
             AttributeValue::Offset(_) | AttributeValue::ListAt(_) => {
-                self.note_optimized(depth);
+                let entry = scope.whole(entry, &mut self.budget);
+                if scope.size(&entry, &mut self.budget).is_some() {
+                    self.note_optimized(depth);
+                }
                 return Ok(());
             }
             _ => return Ok(()),

@@ -8,6 +8,9 @@ const HEADER: usize = 64;
 /// SHF_COMPRESSED.
 const COMPRESSED: u64 = 0x800;
 
+/// SHF_EXECINSTR.
+const CODE: u64 = 0x4;
+
 /// The section headers of an ELF64 file with the lowest byte first. A file whose table of them does
 /// not begin in it, or with headers of another size, has none; of a table that ends past the file
 /// it has those that are in the file.
@@ -96,6 +99,15 @@ impl<'a> Section<'a> {
         }
         let (offset, size) = (double_word(self.header, 24)?, double_word(self.header, 32)?);
         self.file.get(offset as usize..)?.get(..size as usize)
+    }
+
+    /// Where its instructions begin, and how many bytes they have, where it has any
+    /// (`SHF_EXECINSTR`).
+    pub fn code(&self) -> Option<(u64, u64)> {
+        if double_word(self.header, 8)? & CODE == 0 {
+            return None;
+        }
+        Some((double_word(self.header, 16)?, self.contents()?.len() as u64))
     }
 
     /// The section that it is linked to (`sh_link`), as the names of a symbol table.

@@ -10,6 +10,7 @@ use mte_report::PictureForm;
 use mte_svc::TenantParts;
 use report_documents::Document;
 use run_cause::CheckTerms;
+use run_profile::ProfileFile;
 use run_terms::{Failure, Options, Suppressions};
 use std::alloc::Global;
 use std::io;
@@ -132,7 +133,7 @@ fn tell_parts<'a>(
         lost: lost.as_slice(),
     };
     let mut text = Vec::new(alloc);
-    write_answer(alloc, &mut text, asked, &account, memory)?;
+    write_answer(alloc, &mut text, asked, &account, memory, observer)?;
     Ok(Answer {
         text,
         steps: parts.history.steps,
@@ -148,6 +149,7 @@ fn write_answer(
     asked: &Asked<'_>,
     account: &RunAccount<'_>,
     memory: &mut Flat,
+    observer: &Observer<'_>,
 ) -> io::Result<()> {
     let report = account.report;
     let document = Document {
@@ -165,6 +167,17 @@ fn write_answer(
             let title = MapTitle(asked.question.options);
             let title = format!(in alloc; "{title}")?;
             report.draw(alloc, out, title.as_str(), PictureForm::Svg, memory)
+        }
+        AnswerForm::Profile => {
+            let Some(profile) = observer.profile() else {
+                return Ok(());
+            };
+            let file = ProfileFile {
+                profile,
+                name: asked.question.options.file_name(1),
+                steps: report.parts.history.steps,
+            };
+            file.write(alloc, out)
         }
     }
 }

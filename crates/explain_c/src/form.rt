@@ -15,6 +15,8 @@ pub enum AnswerForm {
     Page = 4,
     /// A picture of the heap.
     Picture = 5,
+    /// The counts of a profile.
+    Profile = 6,
 }
 
 impl AnswerForm {
@@ -27,6 +29,7 @@ impl AnswerForm {
             3 => Some(AnswerForm::Sarif),
             4 => Some(AnswerForm::Page),
             5 => Some(AnswerForm::Picture),
+            6 => Some(AnswerForm::Profile),
             _ => None,
         }
     }
@@ -39,6 +42,7 @@ impl AnswerForm {
             AnswerForm::Sarif => Some("--sarif"),
             AnswerForm::Page => Some("--html"),
             AnswerForm::Picture => Some("--map"),
+            AnswerForm::Profile => Some("--profile"),
         }
     }
 }

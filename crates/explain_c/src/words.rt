@@ -40,7 +40,8 @@ pub(crate) fn wants_system(options: &Options) -> bool {
         || is_file(&output.json)
         || is_file(&output.sarif)
         || is_file(&output.page)
-        || is_file(&output.map);
+        || is_file(&output.map)
+        || is_file(&output.profile);
     let has_lines = output
         .traced
         .is_some_and(|traced| traced.services || traced.from <= traced.to);

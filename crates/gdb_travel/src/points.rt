@@ -106,7 +106,7 @@ impl BreakpointScreen<'_> {
 
 impl Edges for BreakpointScreen<'_> {
     #[inline(always)]
-    fn taken(&mut self, _from: u64, _to: u64) {}
+    fn taken(&mut self, _from: u64, _word: u32, _to: u64) {}
 
     #[inline(always)]
     fn attempting(&mut self, pc: u64, _word: u32, _regs: &Regs) {

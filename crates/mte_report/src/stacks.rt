@@ -145,6 +145,10 @@ impl<'a> Context<'a> {
             return Ok(());
         };
         let names = self.report.names;
+        if let (PlaceKind::Block, Some(pc)) = (place.kind, place.function) {
+            let maker = self.names.instruction(pc);
+            return writeln!(out, "  made by {maker}");
+        }
         let line = match place.declaration {
             Some(Declaration { unit, file, line }) => names
                 .lines

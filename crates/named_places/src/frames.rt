@@ -8,7 +8,7 @@ use std::alloc::{AllocError, Global};
 const MOST: usize = 65_536;
 
 /// How many places of a frame are looked at.
-const PLACES: u32 = 32;
+pub(crate) const PLACES: u32 = 32;
 
 /// The frame of a function that was called.
 #[derive(Clone, Copy)]
@@ -191,10 +191,10 @@ fn end_places(frame: &CalledFrame, table: &mut PlaceTable) {
     }
 }
 
-/// Whether a frame may have one more place.
-pub(crate) fn has_room(frame: &CalledFrame, table: &PlaceTable) -> bool {
+/// Whether a frame has fewer places than a number.
+pub(crate) fn has_room(frame: &CalledFrame, table: &PlaceTable, most: u32) -> bool {
     let mut next = frame.first;
-    for _ in 0..PLACES {
+    for _ in 0..most {
         match next.and_then(|index| table.get(index)) {
             Some(place) => next = place.next,
             None => return true,

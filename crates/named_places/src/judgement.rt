@@ -1,6 +1,7 @@
 //! Whether an access by a pointer to a variable is one of the variable's bytes.
 
 use crate::access_form::form_by_base;
+use crate::marks::{FRESH, MOVED, OWN, PASSED};
 use crate::notes::NotedInstruction;
 use crate::place::{NamedPlace, PlaceKind, PlaceText};
 use crate::places::NamedPlaces;
@@ -69,39 +70,36 @@ impl NamedPlaces {
     }
 
     /// How an access is judged: each one of a function that was not optimized, but for those from a
-    /// pointer to its frame by a constant, which is one for several variables; of another function
-    /// those by an index, by a pointer that was moved, and by one that was passed to it.
+    /// pointer to a variable of its frame by a constant, which is one for several; of another those
+    /// by an index, by a pointer that was moved, and by one that was passed to it.
     fn strictness(&self, at: &NotedInstruction<'_>, form: &AccessForm, index: usize) -> Strictness {
         let (base, mode) = (form.base, form.mode);
         let is_exact = self.is_exact_at(at.pc);
-        let (is_moved, is_fresh) = (self.marks.is_moved(base), self.marks.is_fresh(base));
-        let is_own = self.is_own(at, index, base);
+        let (is_moved, is_fresh) = (self.marks.has(base, MOVED), self.marks.has(base, FRESH));
+        let place = self.table.get(index);
+        // Of a pointer that a function made itself compilers may make one to another place.
+        let is_own = match place {
+            Some(place) if place.text.kind == PlaceKind::Object => self.marks.has(base, OWN),
+            _ => self.may_be_of_top(at, index),
+        };
         let is_above = match mode {
             AddressingMode::RegisterOffset(_) | AddressingMode::PostIndexed => true,
             AddressingMode::Offset(0) => is_moved,
             AddressingMode::PreIndexed(_) => is_moved || !is_own,
-            _ => !is_own && self.marks.is_passed(base),
+            _ => !is_own && self.marks.has(base, PASSED),
         };
         let is_at_constant = match mode {
             AddressingMode::Offset(bytes) => bytes != 0,
             _ => false,
         };
         let is_indexed = matches!(mode, AddressingMode::RegisterOffset(_));
-        let is_shared = is_at_constant && self.may_be_of_top(at, index);
+        let is_block = place.is_some_and(|place| place.text.kind == PlaceKind::Block);
+        let is_shared = is_at_constant && !is_block && self.may_be_of_top(at, index);
         Strictness {
             is_above: (is_exact && !is_shared) || is_above,
             is_below: is_exact && !is_shared && self.is_below(index, is_indexed && is_fresh),
             is_lenient: !is_exact && is_own,
             is_past: self.is_past_block(index, at.pc, base),
-        }
-    }
-
-    /// Whether a pointer to a place was made by the function that runs, so that compilers may have
-    /// made one to another place of it.
-    fn is_own(&self, at: &NotedInstruction<'_>, index: usize, base: u8) -> bool {
-        match self.table.get(index) {
-            Some(place) if place.text.kind == PlaceKind::Object => self.marks.is_own(base),
-            _ => self.may_be_of_top(at, index),
         }
     }
 
@@ -133,7 +131,7 @@ impl NamedPlaces {
         if strictness.is_past && place.has(addr) {
             return misuse_if(true, PlaceMisuseKind::AfterScope, addr, access, &text);
         }
-        if !matches!(text.kind, PlaceKind::Object | PlaceKind::Variable) {
+        if !place.has_bounds() {
             return None;
         }
         let end = addr.saturating_add(access.count);

@@ -4,6 +4,7 @@
 #![tactic(auto)]
 
 mod access_form;
+mod blocks;
 mod frames;
 mod judgement;
 mod marks;

@@ -1,5 +1,7 @@
 //! How the pointers in registers were made.
 
+use crate::notes::{FRAME_POINTER, STACK_POINTER};
+
 /// How many registers have marks: those with numbers, and 31.
 const REGISTERS: usize = 32;
 
@@ -9,20 +11,24 @@ const REGISTERS: usize = 32;
 const CHANGED: [u8; 5] = [0, 1, 29, 30, 31];
 
 /// It was moved by more than constants.
-const MOVED: u8 = 1;
+pub(crate) const MOVED: u8 = 1;
 
 /// The function that runs has made it, of registers alone.
-const FRESH: u8 = 2;
+pub(crate) const FRESH: u8 = 2;
 
 /// It was loaded from the frame of the function that runs, which may have put it there once made.
-const RELOADED: u8 = 4;
+pub(crate) const RELOADED: u8 = 4;
 
 /// It is as it was when the function was called that runs.
-const PASSED: u8 = 8;
+pub(crate) const PASSED: u8 = 8;
 
 /// It was loaded from a variable, or from what is not of the frame of the function that runs, and
-/// its variable is one of a block.
-const VARIABLE: u8 = 16;
+/// its variable is one of a block. What is done by it is written in the source: compilers keep a
+/// pointer that they made themselves in places without a name.
+pub(crate) const VARIABLE: u8 = 16;
+
+/// It may have been made by the function that runs.
+pub(crate) const OWN: u8 = FRESH | RELOADED;
 
 /// Of each register, how the pointer in it was made, which is of a place that has a name. None is
 /// both fresh and reloaded.
@@ -51,31 +57,10 @@ impl RegisterMarks {
         }
     }
 
-    /// Whether a register was moved by more than constants.
-    pub(crate) fn is_moved(&self, n: u8) -> bool {
-        self.of(n) & MOVED != 0
-    }
-
-    /// Whether a register was made by the function that runs, and of registers alone.
-    pub(crate) fn is_fresh(&self, n: u8) -> bool {
-        self.of(n) & FRESH != 0
-    }
-
-    /// Whether a register may have been made by the function that runs.
-    pub(crate) fn is_own(&self, n: u8) -> bool {
-        self.of(n) & (FRESH | RELOADED) != 0
-    }
-
-    /// Whether a register is as it was when the function was called that runs, or a copy of one.
-    pub(crate) fn is_passed(&self, n: u8) -> bool {
-        self.of(n) & PASSED != 0
-    }
-
-    /// Whether a register was loaded from a variable, so that what is done by it is written in the
-    /// source: compilers keep a pointer that they made themselves in places without a name.
+    /// Whether a register has one of some marks.
     #[inline(always)]
-    pub(crate) fn is_of_variable(&self, n: u8) -> bool {
-        self.of(n) & VARIABLE != 0
+    pub(crate) fn has(&self, n: u8, marks: u8) -> bool {
+        self.of(n) & marks != 0
     }
 
     /// Enters that a register was loaded from a variable.
@@ -89,16 +74,11 @@ impl RegisterMarks {
         self.set(n, FRESH);
     }
 
-    /// Enters that a register was loaded.
+    /// Enters that a register was loaded by a base: from the running function's frame or not.
     #[inline(always)]
-    pub(crate) fn load(&mut self, n: u8) {
-        self.set(n, 0);
-    }
-
-    /// Enters that a register was loaded from the frame of the function that runs.
-    #[inline(always)]
-    pub(crate) fn reload(&mut self, n: u8) {
-        self.set(n, RELOADED);
+    pub(crate) fn load(&mut self, n: u8, base: u8) {
+        let is_of_frame = base == STACK_POINTER || base == FRAME_POINTER;
+        self.set(n, if is_of_frame { RELOADED } else { 0 });
     }
 
     /// Enters that a register was moved by more than constants.

@@ -1,6 +1,7 @@
 //! The rules of instructions for pointers to variables.
 
 use crate::access_form::form_by_base;
+use crate::marks::{FRESH, MOVED, OWN};
 use crate::place::PlaceKind;
 use crate::places::NamedPlaces;
 use crate::table::PAGE;
@@ -13,10 +14,10 @@ use shadow_memory::{Full, PointerOrigin, Step};
 use std::alloc::AllocError;
 
 /// The frame pointer.
-const FRAME_POINTER: u8 = 29;
+pub(crate) const FRAME_POINTER: u8 = 29;
 
 /// SP, where it is the register of an address.
-const STACK_POINTER: u8 = 31;
+pub(crate) const STACK_POINTER: u8 = 31;
 
 /// An instruction that completed, by what places depend on.
 #[derive(Clone, Copy)]
@@ -50,6 +51,8 @@ pub(crate) struct AddedConstant {
     pub(crate) rd: u8,
     /// Whether it is the first of two, with the higher bits.
     pub(crate) is_high: bool,
+    /// Whether it is 15, as in front of rounding down.
+    pub(crate) is_rounding: bool,
 }
 
 impl NamedPlaces {
@@ -70,12 +73,22 @@ impl NamedPlaces {
                 rd,
                 ..
             } => {
-                let is_high = sh == 1;
-                self.note_constant(at, shadow, AddedConstant { rn, rd, is_high })?;
+                let added = AddedConstant {
+                    rn,
+                    rd,
+                    is_high: sh == 1,
+                    is_rounding: is_rounding(step.instr),
+                };
+                self.note_constant(at, shadow, added)?;
             }
             Instr::AddG { rn, rd, .. } => {
-                let is_high = false;
-                self.note_constant(at, shadow, AddedConstant { rn, rd, is_high })?;
+                let added = AddedConstant {
+                    rn,
+                    rd,
+                    is_high: false,
+                    is_rounding: false,
+                };
+                self.note_constant(at, shadow, added)?;
             }
             Instr::Adr { op, rd, .. } => self.note_address(shadow, op == 1, rd, step.after),
             _ => self.note_other(step, at, shadow)?,
@@ -131,17 +144,30 @@ impl NamedPlaces {
         shadow: &mut Shadow,
         added: AddedConstant,
     ) -> Result<(), AllocError> {
-        let AddedConstant { rn, rd, is_high } = added;
+        let AddedConstant { rn, rd, .. } = added;
         if rd == STACK_POINTER {
-            self.note_stack(shadow, rn);
+            self.note_stack(at, shadow, rn);
             return Ok(());
         }
         let origin = shadow.register(rd).pointer();
         let addr = plain(value_in(at.after, rd));
+        if added.is_rounding {
+            self.blocks.rounding = at.pc;
+            self.blocks.sum = value_in(at.after, rd);
+        }
         if origin == PointerOrigin::STACK {
-            if rd != FRAME_POINTER && !is_high {
+            if rd != FRAME_POINTER && !added.is_high {
                 self.marks.make(rd);
-                shadow.point(rd, self.stack_origin(at, shadow, addr)?);
+                let block = if rn == STACK_POINTER {
+                    self.lowered_origin(at, shadow, addr)?
+                } else {
+                    None
+                };
+                let origin = match block {
+                    Some(origin) => origin,
+                    None => self.stack_origin(at, shadow, addr)?,
+                };
+                shadow.point(rd, origin);
             }
             return Ok(());
         }
@@ -151,10 +177,11 @@ impl NamedPlaces {
                 self.marks.make(rd);
                 shadow.point(rd, self.object_origin(addr));
             }
+            Some(_) if self.leads_below(at, origin, addr) => self.note_below(at, shadow, rd, addr)?,
             Some(index) if rn == rd => self.note_move(at, shadow, added, index)?,
             Some(index) => {
                 self.marks.copy(rd, rn);
-                if !self.marks.is_moved(rn) {
+                if !self.marks.has(rn, MOVED) {
                     self.note_other_variable(at, shadow, rd, index)?;
                 }
             }
@@ -173,7 +200,7 @@ impl NamedPlaces {
         index: usize,
     ) -> Result<(), AllocError> {
         let rd = added.rd;
-        let is_made = self.marks.is_own(rd) && !self.marks.is_moved(rd);
+        let is_made = self.marks.has(rd, OWN) && !self.marks.has(rd, MOVED);
         if is_made {
             self.note_other_variable(at, shadow, rd, index)?;
         }
@@ -187,11 +214,18 @@ impl NamedPlaces {
     /// Notes that SP was made of a register by a constant, or of itself, where it may have been
     /// left for another stack: not where the register was made of SP by the function that runs. Of
     /// the frames there nothing is known.
-    fn note_stack(&mut self, shadow: &Shadow, rn: u8) {
-        if rn == STACK_POINTER || rn == FRAME_POINTER || self.marks.is_fresh(rn) {
+    fn note_stack(&mut self, at: &NotedInstruction<'_>, shadow: &Shadow, rn: u8) {
+        if rn == STACK_POINTER || rn == FRAME_POINTER {
             return;
         }
-        let is_own = match shadow.register(rn).pointer().place() {
+        let index = shadow.register(rn).pointer().place();
+        if let Some(index) = index {
+            self.table.open_block(index, plain(at.after.sp));
+        }
+        if self.marks.has(rn, FRESH) {
+            return;
+        }
+        let is_own = match index {
             Some(index) => self.is_of_top(index),
             None => false,
         };
@@ -201,7 +235,7 @@ impl NamedPlaces {
     }
 
     /// Notes that a constant led from a pointer to a place into a register. Compilers that optimize
-    /// go from one variable to another so.
+    /// go from one variable to another so; what is at a variable's end may be meant for that too.
     fn note_other_variable(
         &mut self,
         at: &NotedInstruction<'_>,
@@ -225,29 +259,18 @@ impl NamedPlaces {
             },
             PlaceKind::Object if !is_whole => self.object_origin(addr),
             PlaceKind::Variable if is_own && !is_whole => {
-                self.other_of_frame(at, shadow, addr, text.end)?
+                let origin = self.stack_origin(at, shadow, addr)?;
+                if addr == text.end {
+                    PointerOrigin::STACK
+                } else {
+                    origin
+                }
             }
             PlaceKind::Frame if is_own => self.stack_origin(at, shadow, addr)?,
             _ => return Ok(()),
         };
         shadow.point(rd, origin);
         Ok(())
-    }
-
-    /// Where a pointer points that a constant led to from a variable of the frame that ends at an
-    /// address: where it is there, it may be meant for that variable's end too.
-    fn other_of_frame(
-        &mut self,
-        at: &NotedInstruction<'_>,
-        shadow: &Shadow,
-        addr: u64,
-        end: u64,
-    ) -> Result<PointerOrigin, AllocError> {
-        let origin = self.stack_origin(at, shadow, addr)?;
-        if addr == end {
-            return Ok(PointerOrigin::STACK);
-        }
-        Ok(origin)
     }
 
     /// Whether a place is one of the frame of the function that runs.
@@ -286,16 +309,27 @@ impl NamedPlaces {
                 rd,
                 ..
             } => self.marks.copy(rd, rm),
+            Instr::AddSubExt {
+                sf: 1,
+                op: 1,
+                rn: 31,
+                rd: 31,
+                ..
+            } => self.note_lowering(at),
             Instr::AddSubShift { rn, rm, rd, .. } | Instr::AddSubExt { rn, rm, rd, .. } => {
                 self.marks.combine(rd, rn, rm);
                 self.note_sum(at, shadow, rd)?;
             }
+            Instr::Bitfield { immr, rn, rd, .. } => {
+                self.marks.combine(rd, rn, rn);
+                self.note_shift(at, shadow, rd, immr);
+            }
             Instr::LogShift { rn, rm, rd, .. }
             | Instr::CondSel { rn, rm, rd, .. }
             | Instr::SubP { rn, rm, rd, .. } => self.marks.combine(rd, rn, rm),
-            Instr::LogImm { rn, rd, .. }
-            | Instr::Bitfield { rn, rd, .. }
-            | Instr::Irg { rn, rd, .. } => self.marks.combine(rd, rn, rn),
+            Instr::LogImm { rn, rd, .. } | Instr::Irg { rn, rd, .. } => self
+                .marks
+                .combine(rd, rn, rn),
             Instr::MulAdd { ra, rd, .. } | Instr::MulAddLong { ra, rd, .. } => {
                 self.marks.combine(rd, ra, ra)
             }
@@ -304,8 +338,8 @@ impl NamedPlaces {
         Ok(())
     }
 
-    /// Notes a sum of registers: what is made of SP is a pointer into the frame, and what is made
-    /// of a page is not known.
+    /// Notes a sum of two registers: what is made of SP is a pointer into the frame, or to a block
+    /// below it, and what is made of a page is not known.
     pub(crate) fn note_sum(
         &mut self,
         at: &NotedInstruction<'_>,
@@ -313,10 +347,12 @@ impl NamedPlaces {
         rd: u8,
     ) -> Result<(), AllocError> {
         let origin = shadow.register(rd).pointer();
+        let addr = plain(value_in(at.after, rd));
         if origin.place() == Some(PAGE) {
             shadow.point(rd, PointerOrigin::UNKNOWN);
+        } else if self.leads_below(at, origin, addr) {
+            self.note_below(at, shadow, rd, addr)?;
         } else if origin == PointerOrigin::STACK && rd != FRAME_POINTER {
-            let addr = plain(value_in(at.after, rd));
             shadow.point(rd, self.frame_origin(at, shadow, addr)?);
         }
         Ok(())
@@ -338,24 +374,14 @@ impl NamedPlaces {
         }
         if !form.is_write() {
             let addr = form.addr(step.before);
-            self.note_loaded(form.first, form.base);
+            self.marks.load(form.first, form.base);
             self.note_source(at, shadow, form.first, addr);
             if let Some(second) = form.second {
-                self.note_loaded(second, form.base);
+                self.marks.load(second, form.base);
                 self.note_source(at, shadow, second, addr.wrapping_add(u64::from(form.bytes)));
             }
         }
         Ok(())
-    }
-
-    /// Notes that a register was loaded by a base, from the frame of the function that runs or not.
-    #[inline(always)]
-    pub(crate) fn note_loaded(&mut self, n: u8, base: u8) {
-        if base == STACK_POINTER || base == FRAME_POINTER {
-            self.marks.reload(n);
-        } else {
-            self.marks.load(n);
-        }
     }
 
     /// Notes that a base register was moved. The first move in front of an access leads to the
@@ -367,7 +393,7 @@ impl NamedPlaces {
         base: u8,
         is_pre_indexed: bool,
     ) -> Result<(), AllocError> {
-        let is_first = is_pre_indexed && !self.marks.is_moved(base);
+        let is_first = is_pre_indexed && !self.marks.has(base, MOVED);
         if let Some(index) = shadow.register(base).pointer().place() {
             if is_first && index != PAGE {
                 self.note_other_variable(at, shadow, base, index)?;
@@ -378,7 +404,23 @@ impl NamedPlaces {
     }
 }
 
+/// Whether an instruction adds 15 to a register, as in front of rounding a size.
+pub(crate) fn is_rounding(instr: &Instr) -> bool {
+    match *instr {
+        Instr::AddSubImm {
+            sf: 1,
+            op: 0,
+            s: 0,
+            sh: 0,
+            imm12: 15,
+            rd,
+            ..
+        } => rd != STACK_POINTER,
+        _ => false,
+    }
+}
+
 /// The value of a numbered register, 0 for 31.
-fn value_in(regs: &Regs, n: u8) -> u64 {
+pub(crate) fn value_in(regs: &Regs, n: u8) -> u64 {
     regs.x.get(usize::from(n)).copied().unwrap_or(0)
 }

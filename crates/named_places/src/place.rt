@@ -13,6 +13,8 @@ pub enum PlaceKind {
     Object,
     /// A variable in the frame of a function.
     Variable,
+    /// An array of variable length in the frame of a function, or memory of `alloca`.
+    Block,
     /// A frame, of which it is not known which variable is meant.
     Frame,
 }
@@ -49,6 +51,7 @@ impl fmt::Display for PlaceText {
             PlaceKind::Page => f.write_str("the image"),
             PlaceKind::Frame if size == 0 => write!(f, "the stack at {start:#018x}"),
             PlaceKind::Frame => write!(f, "a frame at {start:#018x}"),
+            PlaceKind::Block => write!(f, "the {size}-byte block of the stack at {start:#018x}"),
             PlaceKind::Object | PlaceKind::Variable => {
                 write!(f, "the {size}-byte variable `{name}` at {start:#018x}")
             }
@@ -95,6 +98,12 @@ pub(crate) struct NamedPlace {
 }
 
 impl NamedPlace {
+    /// Whether an access by a pointer to it has to be one of its bytes.
+    #[inline(always)]
+    pub(crate) fn has_bounds(&self) -> bool {
+        !matches!(self.text.kind, PlaceKind::Page | PlaceKind::Frame)
+    }
+
     /// Whether the byte at a plain address is its own.
     pub(crate) fn has(&self, addr: u64) -> bool {
         self.text.start <= addr && addr < self.text.end

@@ -1,5 +1,6 @@
 //! The variables of a tenant.
 
+use crate::blocks::BlockNotes;
 use crate::frames::FrameStack;
 use crate::marks::RegisterMarks;
 use crate::table::PlaceTable;
@@ -16,6 +17,7 @@ pub struct NamedPlaces {
     pub(crate) table: PlaceTable,
     pub(crate) frames: FrameStack,
     pub(crate) marks: RegisterMarks,
+    pub(crate) blocks: BlockNotes,
 }
 
 impl NamedPlaces {
@@ -31,6 +33,7 @@ impl NamedPlaces {
             table,
             frames: FrameStack::new(alloc),
             marks: RegisterMarks::NONE,
+            blocks: BlockNotes::NONE,
         })
     }
 

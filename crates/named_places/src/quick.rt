@@ -1,16 +1,32 @@
 //! Rules for instructions whose use of registers was worked out once. Most accesses are of bytes of
 //! a live place, and most instructions on registers change marks alone.
 
-use crate::notes::{AddedConstant, NotedInstruction};
-use crate::place::PlaceKind;
+use crate::notes::{AddedConstant, NotedInstruction, is_rounding};
 use crate::places::NamedPlaces;
 use a64_bits::plain;
+use a64_instr::Instr;
 use a64_registers::Regs;
 use pointer_provenance::Shadow;
 use shadow_memory::{InstructionClass, PointerOrigin, RegisterUse, ValueSource};
 use std::alloc::AllocError;
 
+/// What is added to a register in front of rounding a size.
+const ROUNDING: i32 = 15;
+
 impl NamedPlaces {
+    /// The use of registers by an instruction, which is looked at also where it may be the first of
+    /// those that round a size.
+    pub fn looked(instr: &Instr, used: RegisterUse) -> RegisterUse {
+        if !is_rounding(instr) {
+            return used;
+        }
+        RegisterUse {
+            traced: used.traced | RegisterUse::LOOK,
+            offset: ROUNDING,
+            ..used
+        }
+    }
+
     /// Whether a load or a store by a pointer, at an address with its tag, is no misuse. It may be
     /// none where this says no.
     #[inline(always)]
@@ -28,9 +44,8 @@ impl NamedPlaces {
             return true;
         };
         let text = &place.text;
-        let has_bounds = matches!(text.kind, PlaceKind::Object | PlaceKind::Variable);
         let is_within = text.start <= addr && addr.saturating_add(bytes) <= place.limit;
-        place.is_live && (is_within || !has_bounds) && self.has_block(place, pc)
+        place.is_live && (is_within || !place.has_bounds()) && self.has_block(place, pc)
     }
 
     /// Notes an instruction on registers that leaves no pointer where it writes.
@@ -59,6 +74,7 @@ impl NamedPlaces {
                     rn: used.one,
                     rd: used.first,
                     is_high: used.source == ValueSource::HighConstant,
+                    is_rounding: used.offset == ROUNDING,
                 };
                 self.note_constant(at, shadow, added)
             }
@@ -93,11 +109,11 @@ impl NamedPlaces {
             self.note_write_back(at, shadow, used.base, is_pre_indexed)?;
         }
         if used.class == InstructionClass::Load {
-            self.note_loaded(used.first, used.base);
+            self.marks.load(used.first, used.base);
             self.note_source(at, shadow, used.first, addr);
             if used.is_pair() {
                 let next = addr.wrapping_add(u64::from(used.bytes));
-                self.note_loaded(used.second, used.base);
+                self.marks.load(used.second, used.base);
                 self.note_source(at, shadow, used.second, next);
             }
         }

@@ -1,5 +1,6 @@
 //! Whether the block of a variable runs.
 
+use crate::marks::VARIABLE;
 use crate::notes::NotedInstruction;
 use crate::place::{NamedPlace, PlaceScope};
 use crate::places::NamedPlaces;
@@ -48,7 +49,7 @@ impl NamedPlaces {
         let next = self.frames.counter_of(called, pc);
         let is_of_source = match self.frames.is_cleanup(called) {
             Some(is_cleanup) => !is_cleanup && !self.is_of_function(next, index),
-            None => self.marks.is_of_variable(base),
+            None => self.marks.has(base, VARIABLE),
         };
         is_of_source
             && !self.has_block(place, pc)
@@ -69,7 +70,7 @@ impl NamedPlaces {
         };
         let (addr, pc) = (plain(after.x[0]), plain(after.x[30]).wrapping_sub(4));
         let is_own = bases.stack_pointer <= addr && addr < bases.caller;
-        is_own && !self.marks.is_of_variable(0) && !self.is_running(&bases, addr, pc)
+        is_own && !self.marks.has(0, VARIABLE) && !self.is_running(&bases, addr, pc)
     }
 
     /// Whether an address is one of a variable whose block runs, of the function at the counter.

@@ -1,6 +1,6 @@
 //! Which variable an address is of that constants were added to.
 
-use crate::frames::{CalledFrame, has_room};
+use crate::frames::{CalledFrame, PLACES, has_room};
 use crate::notes::NotedInstruction;
 use crate::place::{NO_BASES, NamedPlace, PlaceKind, PlaceText};
 use crate::places::NamedPlaces;
@@ -17,9 +17,9 @@ const ELEMENT: u64 = 8;
 
 /// A function that runs, and the values of its bases.
 #[derive(Clone, Copy)]
-struct RunningFunction {
-    function: FrameFunction,
-    bases: FrameBases,
+pub(crate) struct RunningFunction {
+    pub(crate) function: FrameFunction,
+    pub(crate) bases: FrameBases,
 }
 
 impl NamedPlaces {
@@ -41,14 +41,14 @@ impl NamedPlaces {
         }
         let place = self.variable_place(at, &frame, addr);
         let place = match place {
-            Some(place) if has_room(&frame, &self.table) => place,
-            _ => self.frame_place(at, &frame),
+            Some(place) if has_room(&frame, &self.table, PLACES) => place,
+            _ => self.frame_place(at, &frame, sp),
         };
         self.origin_of(shadow, &frame, place)
     }
 
     /// The origin of a place of the last frame, which is entered where it is new.
-    fn origin_of(
+    pub(crate) fn origin_of(
         &mut self,
         shadow: &Shadow,
         frame: &CalledFrame,
@@ -61,7 +61,7 @@ impl NamedPlaces {
             }
             return Ok(PointerOrigin::of_place(index));
         }
-        if !has_room(frame, &self.table) {
+        if !has_room(frame, &self.table, PLACES) {
             return Ok(PointerOrigin::STACK);
         }
         let entered = self.table.enter(self.alloc, shadow, place)?;
@@ -85,10 +85,11 @@ impl NamedPlaces {
         let Some(frame) = self.frames.top().copied() else {
             return Ok(PointerOrigin::STACK);
         };
-        if addr < plain(at.after.sp) || addr >= frame.sp {
+        let sp = plain(at.after.sp);
+        if addr < sp || addr >= frame.sp {
             return Ok(PointerOrigin::STACK);
         }
-        let place = self.frame_place(at, &frame);
+        let place = self.frame_place(at, &frame, sp);
         self.origin_of(shadow, &frame, place)
     }
 
@@ -108,12 +109,17 @@ impl NamedPlaces {
         None
     }
 
-    /// The place of a frame as a whole.
-    fn frame_place(&self, at: &NotedInstruction<'_>, frame: &CalledFrame) -> NamedPlace {
+    /// The place of a frame as a whole, from an address on.
+    pub(crate) fn frame_place(
+        &self,
+        at: &NotedInstruction<'_>,
+        frame: &CalledFrame,
+        start: u64,
+    ) -> NamedPlace {
         NamedPlace {
             text: PlaceText {
                 kind: PlaceKind::Frame,
-                start: plain(at.after.sp),
+                start,
                 end: frame.sp,
                 name: VariableName::NONE,
                 declaration: None,
@@ -146,7 +152,14 @@ impl NamedPlaces {
             return None;
         }
         Some(NamedPlace {
-            text: text_of(&placed, function.low),
+            text: PlaceText {
+                kind: PlaceKind::Variable,
+                start: placed.start,
+                end: placed.end,
+                name: placed.variable.name,
+                declaration: placed.variable.declaration,
+                function: Some(function.low),
+            },
             limit: placed.limit.min(frame.sp),
             is_live: true,
             is_exact: !function.is_optimized,
@@ -202,7 +215,11 @@ impl NamedPlaces {
     }
 
     /// The function that runs, where it is the one that the frame is of.
-    fn running(&self, at: &NotedInstruction<'_>, frame: &CalledFrame) -> Option<RunningFunction> {
+    pub(crate) fn running(
+        &self,
+        at: &NotedInstruction<'_>,
+        frame: &CalledFrame,
+    ) -> Option<RunningFunction> {
         let function = self.function_at(at.pc)?;
         if frame.entry < function.low || frame.entry >= function.high {
             return None;
@@ -230,17 +247,5 @@ impl NamedPlaces {
             place.is_unsure = true;
         }
         PointerOrigin::of_place(index)
-    }
-}
-
-/// The name of a variable of the function that begins at an address.
-fn text_of(placed: &PlacedVariable, function: u64) -> PlaceText {
-    PlaceText {
-        kind: PlaceKind::Variable,
-        start: placed.start,
-        end: placed.end,
-        name: placed.variable.name,
-        declaration: placed.variable.declaration,
-        function: Some(function),
     }
 }

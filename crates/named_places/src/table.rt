@@ -89,6 +89,19 @@ impl PlaceTable {
         self.places.get_mut(index)
     }
 
+    /// Enters that SP was moved to an address by a pointer to the place at an index: if that is a
+    /// block which begins there, it has bounds from now on.
+    pub(crate) fn open_block(&mut self, index: usize, sp: u64) {
+        let Some(place) = self.places.get_mut(index) else {
+            return;
+        };
+        if place.text.kind == PlaceKind::Block && place.text.start == sp {
+            place.is_marked = false;
+            place.is_exact = true;
+            place.before = Neighbor::Nothing;
+        }
+    }
+
     /// Enters a place of a frame, and returns its index; `None` where there are too many.
     pub(crate) fn enter(
         &mut self,

@@ -41,8 +41,8 @@ impl Fault {
             Fault::Frames => "--frames is for a session: it wants --script",
             Fault::RawOutput => "--raw-output is for a session: it wants --script",
             Fault::Names => {
-                "--json, --sarif, --html, --map, --core, --trace-file and --progress want \
-                 different files, and none that is read"
+                "--json, --sarif, --html, --map, --core, --profile, --trace-file and --progress \
+                 want different files, and none that is read"
             }
             Fault::Script => {
                 "--script has two values, a file and a tenant's number, and wants --frames"

@@ -13,7 +13,7 @@ pub(crate) fn has_shared_name(options: &Options) -> bool {
 }
 
 /// The names of the files that are written.
-fn written_names(options: &Options) -> [Option<&str>; 7] {
+fn written_names(options: &Options) -> [Option<&str>; 8] {
     let output = &options.output;
     [
         name_of(&output.json),
@@ -21,6 +21,7 @@ fn written_names(options: &Options) -> [Option<&str>; 7] {
         name_of(&output.page),
         name_of(&output.map).filter(|name| *name != "-" && *name != "text"),
         name_of(&output.core),
+        name_of(&output.profile),
         name_of(&output.trace_file),
         name_of(&options.length.progress),
     ]

@@ -5,7 +5,7 @@ use crate::table::{OptionForm, OptionRow};
 use run_terms::CHECK_HELP;
 
 /// All options: a static, since a proof writes out a constant wherever it is named.
-pub(crate) static OPTIONS: [OptionRow; 32] = [
+pub(crate) static OPTIONS: [OptionRow; 33] = [
     OptionRow {
         name: "input",
         form: OptionForm::Text("FILE"),
@@ -194,6 +194,13 @@ pub(crate) static OPTIONS: [OptionRow; 32] = [
         group: "Files that it writes",
         is_first: false,
         help: "Writes an ELF core of its end, which GDB opens",
+    },
+    OptionRow {
+        name: "profile",
+        form: OptionForm::Text("FILE"),
+        group: "Files that it writes",
+        is_first: false,
+        help: "Writes counts of branches and calls, for tenant-profile",
     },
     OptionRow {
         name: "progress",

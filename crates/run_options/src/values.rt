@@ -164,6 +164,7 @@ fn output_of(alloc: Global, matches: &ArgMatches<'_>) -> Result<OutputOptions, O
         sarif: name_of(alloc, matches, "sarif")?,
         page: name_of(alloc, matches, "html")?,
         core: name_of(alloc, matches, "core")?,
+        profile: name_of(alloc, matches, "profile")?,
         is_whole: matches.get_flag("whole-output"),
         is_raw: matches.get_flag("raw-output"),
         check,

@@ -90,6 +90,8 @@ pub struct OutputOptions {
     pub lost_status: Option<u8>,
     /// The name of the file that the tenant's core is written into.
     pub core: Option<String>,
+    /// The name of the file that the profile of the run is written into.
+    pub profile: Option<String>,
     /// Whether output for which there is no space is a failure.
     pub is_whole: bool,
     /// Whether the output of a session's tenant is written as it is, instead of its lines of the

@@ -18,6 +18,8 @@ use std::alloc::Global;
 pub enum WatchLevel {
     /// Nothing: the slice runs by a table of instructions, as a host runs it.
     Nothing,
+    /// The branches that are taken, by that table, and attempts that lead to no next instruction.
+    Branches,
     /// The accesses of instructions by that table, or these instructions, and attempts that lead to
     /// no next instruction; of the last steps each attempt.
     Accesses,
@@ -30,8 +32,8 @@ pub trait Watcher: Notes {
     /// How much it is shown.
     fn shown(&self) -> WatchLevel;
 
-    /// A slice of some steps begins, of which it is shown accesses: of how many of the last steps
-    /// it is shown each attempt.
+    /// A slice of some steps begins, of which it is shown branches or accesses: of how many of the
+    /// last steps it is shown each attempt.
     fn begin(&mut self, parts: &TenantParts, steps: u32) -> u32;
 
     /// Whether what it has met ends the tenant, so that no slice follows.
@@ -93,7 +95,7 @@ impl TenantBench {
             WatchLevel::Nothing => {
                 slice_with_edges(&mut self.words, parts, memory, &mut NoEdges, steps)
             }
-            WatchLevel::Accesses => {
+            WatchLevel::Branches | WatchLevel::Accesses => {
                 let last = watch.begin(parts, steps);
                 slice_noted(&mut self.words, watch, parts, memory, steps, last);
             }

@@ -7,6 +7,7 @@ use crate::whole_file::replace_file;
 use either::Either;
 use elf_symbols::Symbols;
 use run_cause::CheckTerms;
+use run_profile::RunProfile;
 use run_terms::{Failure, Options, OutputOptions, Suppressions, Traced};
 use std::alloc::{AllocError, Global};
 use std::fs::File;
@@ -78,6 +79,9 @@ fn observer_with<'i>(
     let mut observer = Observer::new(alloc, output.last, exact, tracer, turns, checker)?;
     if output.statistics {
         observer.count();
+    }
+    if output.profile.is_some() {
+        observer.count_branches(RunProfile::new(alloc, terms.image)?);
     }
     Ok(observer)
 }

@@ -166,7 +166,31 @@ impl<'x> LoneTenant<'x> {
             self.run_again(alloc, options, bench, observer, out)?;
         }
         self.run_to_finding(alloc, options, bench, observer, out)?;
-        self.find_store(alloc, options, bench, observer)
+        self.find_store(alloc, options, bench, observer)?;
+        self.count_branches(alloc, options, bench, observer)
+    }
+
+    /// Counts the branches of the run by one more, if that is requested and the first one did not.
+    fn count_branches<'a>(
+        &self,
+        alloc: Global,
+        options: &Options,
+        bench: &TenantBench,
+        observer: &mut Observer<'_>,
+    ) -> Result<(), Failure<'a>> {
+        let steps = bench.parts.history.steps;
+        if observer.wants_branches() {
+            let mut again = self.bench_again(alloc, options)?;
+            run_slices(
+                &mut again,
+                observer,
+                &mut OutputStream::silent(),
+                options,
+                steps,
+            );
+        }
+        observer.end_profile(steps);
+        Ok(())
     }
 
     /// The second run, which shows what the first one did not.
@@ -235,7 +259,7 @@ pub fn wants_second_run(bench: &TenantBench, options: &Options, observer: &Obser
         || output.map.is_some()
         || log.output.left() == 0;
     match observer.shown {
-        WatchLevel::Nothing => is_told,
+        WatchLevel::Nothing | WatchLevel::Branches => is_told,
         WatchLevel::Accesses => is_told || output.json.is_some() || observer.is_suspicious(),
         WatchLevel::Attempts => false,
     }

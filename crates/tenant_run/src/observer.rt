@@ -5,7 +5,7 @@ ghost use Rattle.std.specs.Prelude.{None};
 use crate::bench::{WatchLevel, Watcher};
 use crate::tracer::Tracer;
 use a64_registers::Regs;
-use a64_run::{Edges, NoEdges};
+use a64_run::Edges;
 use circular_buffer::HeapCircularBuffer;
 use mte_svc::WRITE;
 use mte_tags::Paged;
@@ -13,6 +13,7 @@ use mte_tenant::{
     AccessUse, MOST_UNSEEN, NotedAccess, Notes, NotesAccesses, Status, TenantParts, Watch,
 };
 use run_cause::{CheckTerms, Checker, Exact, Finding, Findings, LastStore, TargetLoad};
+use run_profile::{BranchCounts, RunProfile};
 use run_records::{Book, Moment, SVC, Statistics, StatisticsTable, Turn};
 use run_terms::Exactness;
 use shadow_memory::Full;
@@ -52,6 +53,8 @@ pub struct Observer<'a> {
     pub findings: Findings,
     /// The numbers of the run, where they are requested.
     statistics: Option<Statistics>,
+    /// The branches of the run and the calls, where they are requested.
+    profile: Option<RunProfile<'a>>,
     /// Whether a service wrote fewer bytes than it was handed.
     pub is_cut: bool,
     /// The store that wrote the target last of the jump to no code that ended the tenant, once
@@ -86,7 +89,52 @@ impl<'a> Observer<'a> {
             statistics: None,
             is_cut: false,
             store: None,
+            profile: None,
         })
+    }
+
+    /// Counts the branches that the tenant takes, too.
+    pub fn count_branches(&mut self, profile: RunProfile<'a>) {
+        self.profile = Some(profile);
+    }
+
+    /// Whether the branches have to be counted by one more run, of which it is shown them alone.
+    pub fn wants_branches(&mut self) -> bool {
+        match &self.profile {
+            Some(profile) if !profile.has_begun() => {
+                self.shown = WatchLevel::Branches;
+                true
+            }
+            _ => false,
+        }
+    }
+
+    /// The profile of the run, if it is requested.
+    pub fn profile(&self) -> Option<&RunProfile<'a>> {
+        self.profile.as_ref()
+    }
+
+    /// Begins the profile at the first instruction, unless it has begun.
+    fn begin_profile(&mut self, first: u64) {
+        if let Some(profile) = &mut self.profile {
+            profile.begin(first);
+        }
+    }
+
+    /// Notes the last heap call where the branches are counted.
+    fn note_heap(&mut self, parts: &TenantParts) {
+        if self.shown == WatchLevel::Branches {
+            if let Some(profile) = &mut self.profile {
+                profile.note_heap(&parts.history.calls, parts.history.steps);
+            }
+        }
+    }
+
+    /// Ends the profile after all steps of the run.
+    pub fn end_profile(&mut self, steps: u64) {
+        if let Some(profile) = &mut self.profile {
+            profile.finish(steps);
+        }
     }
 
     /// Counts what the tenant does, too.
@@ -102,7 +150,10 @@ impl<'a> Observer<'a> {
         if self.sees_all || self.tracer.is_some() || counts_and_checks {
             WatchLevel::Attempts
         } else if !judges_accesses && self.checker.is_none() {
-            WatchLevel::Nothing
+            match self.profile {
+                Some(_) => WatchLevel::Branches,
+                None => WatchLevel::Nothing,
+            }
         } else if self.turns.is_some() {
             WatchLevel::Attempts
         } else {
@@ -153,6 +204,11 @@ impl<'a> Observer<'a> {
         if !self.is_suspicious() && self.full().is_none() {
             self.suspect = Some(self.passed);
         }
+    }
+
+    /// Whether what it is shown of attempts counts for nothing.
+    fn is_over(&self) -> bool {
+        self.shown == WatchLevel::Branches || self.finding().is_some()
     }
 
     /// The last instructions.
@@ -242,6 +298,10 @@ impl<'a> Watcher for Observer<'a> {
     }
 
     fn begin(&mut self, parts: &TenantParts, steps: u32) -> u32 {
+        if self.shown == WatchLevel::Branches {
+            self.begin_profile(parts.regs.pc);
+            return 0;
+        }
         let before = parts.history.steps;
         self.passed = before;
         if let Some(statistics) = &mut self.statistics {
@@ -252,7 +312,10 @@ impl<'a> Watcher for Observer<'a> {
     }
 
     fn has_ended(&self) -> bool {
-        self.shown != WatchLevel::Nothing && (self.is_suspicious() || self.full().is_some())
+        match self.shown {
+            WatchLevel::Nothing | WatchLevel::Branches => false,
+            _ => self.is_suspicious() || self.full().is_some(),
+        }
     }
 }
 
@@ -264,6 +327,9 @@ impl<'a> NotesAccesses for Observer<'a> {
 
     #[inline(always)]
     fn note(&mut self, access: NotedAccess) {
+        if self.shown == WatchLevel::Branches {
+            return;
+        }
         let is_write = access.usage != AccessUse::Read;
         if let Some(exact) = &mut self.exact {
             let is_wrong = exact.is_suspicious(access.address, access.bytes, is_write);
@@ -280,21 +346,30 @@ impl<'a> NotesAccesses for Observer<'a> {
 }
 
 impl<'a> Notes for Observer<'a> {
-    type Counts = NoEdges;
+    type Counts = BranchCounts<'a>;
 
     fn follows(&self) -> bool {
-        self.checker.is_some()
+        self.checker.is_some() && self.shown != WatchLevel::Branches
     }
 
-    #[inline(always)]
-    fn take_counts(&mut self) -> NoEdges {
-        NoEdges
+    fn take_counts(&mut self) -> BranchCounts<'a> {
+        if self.shown == WatchLevel::Branches {
+            BranchCounts::new(self.profile.take())
+        } else {
+            BranchCounts::new(None)
+        }
     }
 
-    #[inline(always)]
-    fn put_counts(&mut self, _counts: NoEdges) {}
+    fn put_counts(&mut self, counts: BranchCounts<'a>) {
+        if self.shown == WatchLevel::Branches {
+            self.profile = counts.profile();
+        }
+    }
 
     fn pass<M: Paged>(&mut self, parts: &TenantParts, memory: &mut M) {
+        if self.shown == WatchLevel::Branches {
+            return;
+        }
         self.passed = parts.history.steps;
         if let Some(statistics) = &mut self.statistics {
             statistics.pass(parts, MOST_UNSEEN, memory);
@@ -304,7 +379,7 @@ impl<'a> Notes for Observer<'a> {
 
 impl<'a> Edges for Observer<'a> {
     #[inline(always)]
-    fn taken(&mut self, _from: u64, _to: u64) {}
+    fn taken(&mut self, _from: u64, _word: u32, _to: u64) {}
 
     #[inline(always)]
     fn attempting(&mut self, pc: u64, word: u32, regs: &Regs) {
@@ -338,7 +413,7 @@ impl<'a> Watch for Observer<'a> {
     ghost log = { λ _. None };
 
     fn before<M: Paged>(&mut self, parts: &TenantParts, memory: &mut M) {
-        if self.finding().is_some() {
+        if self.is_over() {
             return;
         }
         self.last.push_back(Moment {
@@ -349,7 +424,8 @@ impl<'a> Watch for Observer<'a> {
     }
 
     fn after<M: Paged>(&mut self, parts: &TenantParts, memory: &mut M) {
-        if self.finding().is_some() {
+        if self.is_over() {
+            self.note_heap(parts);
             return;
         }
         let call = self.book.note(parts, memory);

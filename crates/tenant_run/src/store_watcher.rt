@@ -56,7 +56,7 @@ impl NotesAccesses for StoreWatcher {
 }
 
 impl Edges for StoreWatcher {
-    fn taken(&mut self, _from: u64, _to: u64) {}
+    fn taken(&mut self, _from: u64, _word: u32, _to: u64) {}
 }
 
 impl Notes for StoreWatcher {

@@ -1,6 +1,6 @@
 //! Counts of the branches that a run takes, in memory that a fuzzer lends.
 
-ghost use Rattle.std.specs.Prelude.{◌≡◌, length, is_some};
+ghost use Rattle.std.specs.Prelude.{◌≡◌, ◌+◌, ◌%◌, ◌^◌, length, is_some};
 ghost use Rattle.tenant_snapshot.specs.Maps.{is_map_length, edge_hash, count_after, counts_after};
 
 use a64_run::Edges;
@@ -70,10 +70,23 @@ fn count(counts: &mut [u8], saturating: bool, hash: usize)
     }
 }
 
+/// The address after that of an instruction.
+#[inline(always)]
+pub(crate) fn next_of(pc: u64) -> u64
+    ensures { result ≡ (pc + 4) % 2 ^ 56 }
+{
+    pc.wrapping_add(4) % (1 << 56)
+}
+
 impl<'a> Edges for EdgeMap<'a> {
     #[inline(always)]
-    fn taken(&mut self, from: u64, to: u64) {
+    fn taken(&mut self, from: u64, _word: u32, to: u64) {
         count(self.counts, self.saturating, hash(from, to));
+    }
+
+    #[inline(always)]
+    fn passed(&mut self, pc: u64) {
+        count(self.counts, self.saturating, hash(pc, next_of(pc)));
     }
 }
 
@@ -86,9 +99,21 @@ pub struct CountedEdges<'a> {
 
 impl<'a> Edges for CountedEdges<'a> {
     #[inline(always)]
-    fn taken(&mut self, from: u64, to: u64) {
+    fn counts_taken(&self) -> bool {
+        self.map.is_some()
+    }
+
+    #[inline(always)]
+    fn taken(&mut self, from: u64, word: u32, to: u64) {
         if let Some(map) = &mut self.map {
-            map.taken(from, to);
+            map.taken(from, word, to);
+        }
+    }
+
+    #[inline(always)]
+    fn passed(&mut self, pc: u64) {
+        if let Some(map) = &mut self.map {
+            map.passed(pc);
         }
     }
 }

@@ -2,9 +2,9 @@
 
 ghost use Rattle.std.specs.Prelude.{None};
 
-use crate::edge_map::{CountedEdges, EdgeMap};
+use crate::edge_map::{CountedEdges, EdgeMap, next_of};
 use a64_registers::Regs;
-use a64_run::{Edges, count_edge};
+use a64_run::{Edges, is_conditional};
 use heap_bounds::{Bounds, NearBounds, Span, Trespass, span_of};
 use mte_svc::{HeapCalls, TenantParts};
 use mte_tags::Paged;
@@ -29,7 +29,7 @@ pub struct ExactFinding {
 /// The state before an instruction that is attempted.
 #[derive(Clone, Copy)]
 struct Before {
-    /// Its word, if it could be fetched and the attempt is judged.
+    /// Its word, if it could be fetched.
     word: Option<u32>,
     /// The registers.
     regs: Regs,
@@ -133,13 +133,8 @@ impl<'a> Watch for ExactWatch<'a> {
     ghost log = { λ _. None };
 
     fn before<M: Paged>(&mut self, parts: &TenantParts, memory: &mut M) {
-        let word = if self.is_judging() {
-            memory.fetch(parts.regs.pc).ok()
-        } else {
-            None
-        };
         self.before = Some(Before {
-            word,
+            word: memory.fetch(parts.regs.pc).ok(),
             regs: parts.regs,
             calls: parts.history.calls.count(),
         });
@@ -155,11 +150,23 @@ impl<'a> Watch for ExactWatch<'a> {
         if calls.count() != before.calls {
             self.is_complete = enter_last(&mut self.chunks, calls) && self.is_complete;
         } else if parts.is_running() {
-            count_edge(&mut self.edges, before.regs.pc, parts.regs.pc);
+            if let Some(word) = before.word {
+                count_step(&mut self.edges, before.regs.pc, word, parts.regs.pc);
+            }
             if is_judging {
                 self.finding = judge(&self.chunks, before, parts);
             }
         }
+    }
+}
+
+/// Counts the edge from the instruction of a word to the one that is attempted next: a branch that
+/// was taken, or a conditional one that was not.
+fn count_step(edges: &mut CountedEdges<'_>, from: u64, word: u32, to: u64) {
+    if to != next_of(from) {
+        edges.taken(from, word, to);
+    } else if is_conditional(word) {
+        edges.passed(from);
     }
 }
 
@@ -179,8 +186,13 @@ impl<'a> NotesAccesses for ExactWatch<'a> {
 
 impl<'a> Edges for ExactWatch<'a> {
     #[inline(always)]
-    fn taken(&mut self, from: u64, to: u64) {
-        self.edges.taken(from, to);
+    fn taken(&mut self, from: u64, word: u32, to: u64) {
+        self.edges.taken(from, word, to);
+    }
+
+    #[inline(always)]
+    fn passed(&mut self, pc: u64) {
+        self.edges.passed(pc);
     }
 }
 

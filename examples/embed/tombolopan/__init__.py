@@ -133,7 +133,9 @@ from .enums import (
     text, trespass_name,
 )
 from .examples import example
-from .explaining import AnswerForm, Chunk, Explained, Explanation, Frame, explain, why
+from .explaining import (
+    AnswerForm, Chunk, Explained, Explanation, Frame, Profile, explain, profile, why,
+)
 from .faults import Fault, MappingError, Refused, ScriptError
 from .fuzzing import Fuzz, FuzzFinding, FuzzRun
 from .heaps import HeapAnswer, heap_calls
@@ -158,16 +160,16 @@ __all__ = [
     "MEMALIGN", "MISALIGNED", "Machine", "MappingError", "Memory", "NOT_AARCH64", "NOT_A_BLOCK",
     "NOT_ELF64", "NOT_EXEC", "NOT_MAPPED", "NO_CHUNK", "NO_ENTRY", "NO_MACHINE", "NO_ROOM",
     "NO_SUCH_FILE", "OK", "OUT_OF_MEMORY", "OVERLAP", "PAST_SIZE", "PC_ALIGNMENT", "PERMISSION",
-    "READ", "REALLOC", "REFUSALS", "REFUSED", "RESERVATION_TOO_SMALL", "Refusal", "Refused",
-    "Region", "Regs", "Replay", "SCRIPT", "SCRIPT_FAULTS", "SEGMENT_RANGE", "SHORT", "SP_ALIGNMENT",
-    "STATUSES", "STATUS_ABORT", "STATUS_ASYNC", "STATUS_BREAK", "STATUS_EXIT", "STATUS_FAULT",
-    "STATUS_ILLEGAL", "STATUS_RUNNING", "STOPPED", "STORE", "SVC", "SYNTAX", "ScriptError",
-    "ScriptFault", "Session", "Stop", "TAGGED", "TAG_CHECK", "TOO_MANY_EVENTS", "TRANSLATION",
-    "TRESPASSES", "Tenant", "TenantStatus", "TracedAccess", "Trespass", "UNMAPPED", "USABLE_SIZE",
-    "VERSION", "WRITE", "access_size", "alone", "build_info", "disassemble", "example", "explain",
-    "fault_kind_name", "heap_abort_name", "heap_calls", "hook_block", "hook_code", "hook_mem",
-    "refusal_name", "run", "script_fault_name", "session", "step", "tenant_status_name", "text",
-    "trace", "trace_step", "trespass_name", "why",
+    "Profile", "READ", "REALLOC", "REFUSALS", "REFUSED", "RESERVATION_TOO_SMALL", "Refusal",
+    "Refused", "Region", "Regs", "Replay", "SCRIPT", "SCRIPT_FAULTS", "SEGMENT_RANGE", "SHORT",
+    "SP_ALIGNMENT", "STATUSES", "STATUS_ABORT", "STATUS_ASYNC", "STATUS_BREAK", "STATUS_EXIT",
+    "STATUS_FAULT", "STATUS_ILLEGAL", "STATUS_RUNNING", "STOPPED", "STORE", "SVC", "SYNTAX",
+    "ScriptError", "ScriptFault", "Session", "Stop", "TAGGED", "TAG_CHECK", "TOO_MANY_EVENTS",
+    "TRANSLATION", "TRESPASSES", "Tenant", "TenantStatus", "TracedAccess", "Trespass", "UNMAPPED",
+    "USABLE_SIZE", "VERSION", "WRITE", "access_size", "alone", "build_info", "disassemble",
+    "example", "explain", "fault_kind_name", "heap_abort_name", "heap_calls", "hook_block",
+    "hook_code", "hook_mem", "profile", "refusal_name", "run", "script_fault_name", "session",
+    "step", "tenant_status_name", "text", "trace", "trace_step", "trespass_name", "why",
 ]
 # Their names in tracebacks and in what is pickled.
 for _it in (Fault, MappingError, Refused, ScriptError, Memory, Region, Regs, Session, Answer,

@@ -4,16 +4,21 @@ from __future__ import annotations
 import ctypes
 import enum
 import functools
+import html
 import json
 from collections.abc import Iterable
 from ctypes import POINTER, c_char_p, c_size_t, c_uint8, c_uint32, c_uint64, c_void_p
 from dataclasses import dataclass
 from typing import Any, Optional
 
+from tombolopan_profile import counts, forms, heap
+
 from .abi import BAD_ARGUMENT, NO_ROOM, OUT_OF_MEMORY, _library
 
 # Most answers are shorter; a longer one takes a second run.
 _USUAL = 1 << 16
+# The functions that a profile shows.
+_ROWS = 30
 
 
 class AnswerForm(enum.IntEnum):
@@ -25,6 +30,7 @@ class AnswerForm(enum.IntEnum):
     SARIF = 3
     PAGE = 4
     PICTURE = 5
+    PROFILE = 6
 
 
 @dataclass(frozen=True)
@@ -171,6 +177,47 @@ def _frames(stack: Any) -> tuple[Frame, ...]:
     """The frames of a stack of the document."""
     return tuple(Frame(int(it["address"], 16), it.get("function"), it.get("path"), it.get("line"))
                  for it in stack or ())
+
+
+@dataclass(frozen=True)
+class Profile:
+    """The profile of a run: its counts, which `tombolopan_profile.forms` turns into the forms of
+    other tools, and the status that `mte_run` exits with."""
+
+    counts: counts.Counts
+    status: int
+
+    @property
+    def functions(self) -> list[forms.FunctionSteps]:
+        """The functions that were reached, those with the most own steps first."""
+        return forms.functions(self.counts)
+
+    @property
+    def chunks(self) -> list[heap.FunctionChunks]:
+        """The functions that made chunks of the heap, those with the most bytes first."""
+        return heap.functions(self.counts)
+
+    def __str__(self) -> str:
+        return forms.table(self.counts, _ROWS)
+
+    def _repr_html_(self) -> str:
+        rows = "".join(f"<tr><td>{row.own}</td><td>{row.whole}</td><td>{row.calls}</td>"
+                       f"<td>{html.escape(row.name)}</td></tr>" for row in self.functions[:_ROWS])
+        return "<table><tr><th>own steps</th><th>with calls</th><th>calls</th><th>function</th>" \
+            f"</tr>{rows}</table>"
+
+
+def profile(image: bytes, input: bytes = b"", *, options: Iterable[str] = (),
+            name: str = "tenant") -> Profile:
+    """The profile of a tenant's run.
+
+    >>> from tombolopan import example
+    >>> found = profile(example("hi.elf"))
+    >>> found.counts.steps, [row.own for row in found.functions]
+    (8, [8])
+    """
+    told = explain(image, input, options, AnswerForm.PROFILE, name)
+    return Profile(counts.read(told.text.decode("utf-8")), told.status)
 
 
 def why(image: bytes, input: bytes = b"", *, check: str = "", exact: bool = False,
