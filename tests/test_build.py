@@ -1,7 +1,7 @@
 """tools/build.sh: what it builds, by which commands, and the marks of what is built without proof.
 
-The toolchain, unproved.py, mark.py, build.py and install.sh are stubs that say how they were
-called.
+The toolchain, unproved.py, mark.py, build.py, install.sh, and what builds core and alloc of Rust
+are stubs that say how they were called.
 """
 
 import os
@@ -41,8 +41,23 @@ LIBC = """#!/usr/bin/env bash
 here=$(dirname "$0")
 echo build.py >>"$TRIED"
 mkdir -p "$here"/out/{include,lib,objects,sources}
+echo '5 of 10, compiles C'
+sleep 0.5
 touch "$here/out/lib/libc.a"
 [[ ! " $* " == *" --c++ "* ]] || touch "$here/out/lib/libc++.a"
+"""
+# A compiler whose sysroot has the source of core, and what builds tenants by it.
+COMPILER = """#!/usr/bin/env bash
+echo "$(dirname "$0")/sysroot"
+"""
+RUST = """#!/usr/bin/env bash
+mkdir -p "$TENANT_OUT/rust"
+[[ ! -e $TENANT_OUT/rust/version ]] || exit 0
+echo "rust $*" >>"$TRIED"
+echo '2 of 3, builds compiler_builtins' >&2
+sleep 0.5
+[[ ${REFUSED:-} != rust ]] || { echo 'does not compile' >&2; exit 1; }
+echo built >"$TENANT_OUT/rust/version"
 """
 INSTALL = """#!/usr/bin/env bash
 echo "install.sh $*" >>"$TRIED"
@@ -55,18 +70,26 @@ class Clone:
     def __init__(self, folder: pathlib.Path) -> None:
         self.top = copy_files(folder / "clone", "crates/mte_host/", "crates/mte_split/",
                               "crates/mte_run/", "crates/tombolopan_c/", "crates.txt",
-                              "tools/build.sh", "tools/sources.sh", "examples/libc/")
-        self.tried = folder / "tried"
-        for name, text in (("tools/unproved.py", UNPROVED), ("tools/mark.py", MARK),
-                           ("tools/install.sh", INSTALL), ("examples/libc/build.py", LIBC)):
-            (self.top / name).write_text(text, encoding="utf-8")
-            (self.top / name).chmod(0o755)
+                              "tools/build.sh", "tools/sources.sh", "examples/libc/",
+                              "examples/rust/")
+        self.tried, self.compiler = folder / "tried", folder / "rustc"
+        for path, text in ((self.top / "tools/unproved.py", UNPROVED), (self.compiler, COMPILER),
+                           (self.top / "tools/mark.py", MARK),
+                           (self.top / "tools/install.sh", INSTALL),
+                           (self.top / "examples/libc/build.py", LIBC),
+                           (self.top / "examples/rust/build.sh", RUST)):
+            path.write_text(text, encoding="utf-8")
+            path.chmod(0o755)
+        source = folder / "sysroot/lib/rustlib/src/rust/library/core/src/lib.rs"
+        source.parent.mkdir(parents=True)
+        source.touch()
         self.path = make_stub(folder / "stub", "rt", TOOLCHAIN)["PATH"]
 
     def build(self, *words: str, refused: str = "") -> tuple[Ran, list[str]]:
         """What the script says, and the commands that it gave, in the order of their names."""
         self.tried.write_text("", encoding="utf-8")
-        extra = {"PATH": self.path, "TRIED": str(self.tried), "REFUSED": refused}
+        extra = {"PATH": self.path, "TRIED": str(self.tried), "REFUSED": refused,
+                 "RUSTC": str(self.compiler)}
         ran = run([self.top / "tools" / "build.sh", *words], extra=extra)
         return ran, sorted(self.tried.read_text(encoding="utf-8").splitlines())
 
@@ -90,6 +113,9 @@ PROOFS = [*(f"mark.py proved {it}" for it in (*PROGRAMS, LIBRARY)),
           *(f"{it}: run -- --help" for it in PROGRAMS), "tombolopan_c: lib --jobs 1"]
 
 
+FOR_TENANTS = ["build.py", "rust "]
+
+
 def crates_of(name: str) -> list[str]:
     """The crates that a program is made from, in the order of crates.txt."""
     text = (ROOT / "crates.txt").read_text(encoding="utf-8")
@@ -111,7 +137,7 @@ def test_without_proof(clone: Clone) -> None:
     """All of it is built without proof, marked, and installed; a second time nothing is built."""
     ran, tried = clone.build("--unproved", "/prefix")
     assert (ran.status, ran.output) == (0, "")
-    assert tried == sorted(["build.py", "install.sh /prefix", *without_proof(*PROGRAMS, LIBRARY)])
+    assert tried == sorted([*FOR_TENANTS, "install.sh /prefix", *without_proof(*PROGRAMS, LIBRARY)])
     assert clone.marks() == {*PROGRAMS, LIBRARY}
     lines = set(ran.errors.splitlines())
     assert {f"build.sh: {name}: built without proof" for name in (*PROGRAMS, LIBRARY)} <= lines
@@ -126,7 +152,7 @@ def test_by_proof(clone: Clone) -> None:
     clone.build("--unproved", "--only", "mte_run")
     assert clone.marks() == {"mte_run"}
     ran, tried = clone.build()
-    assert (ran.status, tried) == (0, sorted(["build.py", *PROOFS]))
+    assert (ran.status, tried) == (0, sorted([*FOR_TENANTS, *PROOFS]))
     crates = crates_of("mte_run")
     line = f"build.sh: mte_run: {crates.index('a64_bits') + 1} of {len(crates)}, a64_bits, 0 min "
     assert line in ran.errors, ran.errors
@@ -185,6 +211,30 @@ def test_a_mark_is_of_one_file(clone: Clone) -> None:
     ran, tried = clone.build("--only", "mte_host")
     assert (ran.status, tried) == (0, [])
     assert ran.errors.endswith("build.sh: mte_host: was there\n")
+
+
+def test_for_tenants(clone: Clone) -> None:
+    """The libraries of tenants are built into one folder, with lines that say how far they are, and
+    stay. One that does not build, and a compiler without the source of core, are told."""
+    before = set(clone.top.rglob("*"))
+    ran, tried = clone.build("--only", "tenants", refused="rust")
+    assert (ran.status, tried) == (1, FOR_TENANTS)
+    assert "build.sh: the C library of tenants: 5 of 10, compiles C, 0 min " in ran.errors
+    assert "does not compile\nbuild.sh: core and alloc of Rust failed\n" in ran.errors
+    ran, tried = clone.build("--only", "tenants")
+    assert (ran.status, tried) == (0, ["rust "])
+    line = "build.sh: core and alloc of Rust: 2 of 3, builds compiler_builtins, 0 min "
+    assert line in ran.errors and ran.errors.endswith("core and alloc of Rust: built\n")
+    out = clone.top / "examples" / "libc" / "out"
+    assert all(it == out or out in it.parents for it in set(clone.top.rglob("*")) - before)
+    ran, tried = clone.build("--only", "tenants")
+    assert (ran.status, tried) == (0, [])
+    assert ran.errors == ("build.sh: the C library of tenants: was there\n"
+                          "build.sh: core and alloc of Rust: were there\n")
+    (clone.compiler.parent / "sysroot").rename(clone.compiler.parent / "other")
+    ran, _ = clone.build("--only", "tenants")
+    assert ran.status == 0 and ran.errors.endswith(
+        "without core and alloc of tenants in Rust: they need rustc and rust-src (Debian)\n")
 
 
 def test_words(clone: Clone) -> None:

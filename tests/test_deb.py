@@ -10,12 +10,13 @@ import shutil
 import pytest
 
 from packing.parts import Place, place_of
-from tests.support import debian, debugger, installed
+from tests.support import debian, debugger, installed, rust_tenants
 from tests.support.cache import cache_folder
 from tests.support.checkout import copy_files
 from tests.support.debian import Root, files_of
 from tests.support.host_sessions import HI_REPORT
 from tests.support.notes import noted
+from tests.support.pages import named_code
 from tests.support.places import EXAMPLES, ROOT
 from tests.support.running import Ran, run, succeed
 from tests.support.tools import need
@@ -89,6 +90,21 @@ def test_files(packages: dict[str, pathlib.Path], built: pathlib.Path) -> None:
              if pathlib.PurePath(it).name not in more and "/lintian/" not in it]
     # The folder of the C library, and the first image, have a link where a checkout has them.
     assert sorted(there) == sorted([*(it for it in wanted if it != "installed"), "out", "hi.elf"])
+
+
+@pytest.mark.parametrize("made, tool", [
+    ("lib/libc.a", "clang"), ("lib/libc++.a", "aarch64-linux-gnu-as"),
+    ("rust/lib/rustlib/aarch64-unknown-none-softfloat/lib/liballoc.rlib", "/usr/bin/rustc")])
+def test_libraries_of_tenants(packages: dict[str, pathlib.Path], built: pathlib.Path, made: str,
+                              tool: str) -> None:
+    """Each file that is built for tenants is installed, and in the package of the programs."""
+    need(tool)
+    files = installed.files_below(built / "libc")
+    assert made in files
+    place = built.parent / "prefix" / "share/tombolopan/examples/libc/out"
+    top = "usr/lib/tombolopan/libc/"
+    assert installed.files_below(place) == files == {
+        it.removeprefix(top) for it in files_of(packages["tombolopan"]) if it.startswith(top)}
 
 
 def test_headers() -> None:
@@ -178,6 +194,26 @@ def test_installed(root: Root, tmp_path: pathlib.Path) -> None:
     assert list(root.usr.rglob("__pycache__"))
     root.manage("--purge", *NAMES)
     assert root.names() == []
+
+
+def test_tenants(root: Root, tmp_path: pathlib.Path) -> None:
+    """Tenants in C++ and Rust are built over the libraries of the package, which get no file."""
+    need("clang", "ld.lld", "aarch64-linux-gnu-as")
+    assert rust_tenants.compiler()
+    names, work = root.names(), tmp_path / "work"
+    work.mkdir()
+    (work / "words.cpp").write_text(named_code("docs/TENANTS.md", "words.cpp"), encoding="utf-8")
+    (work / "words.txt").write_text("pear\napple\npear\n", encoding="utf-8")
+    words = ["tenant-c++", "-std=c++17", "-O2", "-o", "words.elf", "words.cpp"]
+    assert root.run(words, work) == Ran(0, b"", b"")
+    ran = root.run(["mte_run", "--input", "words.txt", "words.elf"], work)
+    assert (ran.status, ran.output) == (0, "apple 1\npear 2\n")
+    script = root.usr / "share" / "tombolopan" / "examples" / "rust" / "build.sh"
+    words = ["env", f"TENANT_OUT={work}", str(script), "atomics.rs"]
+    assert root.run(words, work) == Ran(0, b"", b"")
+    ran, tenant = root.run(["mte_run", "atomics.elf"], work), rust_tenants.RustTenant("atomics")
+    assert (ran.status, ran.output) == (int(tenant.values("ends")[0]), tenant.text("output"))
+    assert [it for it in root.names() if "__pycache__" not in it] == names
 
 
 def test_library(root: Root, tmp_path: pathlib.Path) -> None:

@@ -2,6 +2,7 @@
 
 import csv
 import json
+import os
 import pathlib
 import re
 import sys
@@ -11,7 +12,7 @@ import pytest
 
 from tests.support.library import shared_object
 from tests.support.once import make_once
-from tests.support.pages import read_page
+from tests.support.pages import parts_of, read_page
 from tests.support.places import EXAMPLES
 from tests.support.running import Ran, Word, run, succeed
 from tests.support.samples import tenant
@@ -366,6 +367,37 @@ def test_three_heaps_on_one_trace(shared: pathlib.Path, tmp_path: pathlib.Path) 
     assert [last[at] for at in (0, 1, 2, 4)] == [
         ours[name] for name in ("calls", "live_bytes", "mapped_bytes", "native_mapped_bytes")]
     assert last[5].split()[0] == ours["reused"] and last[7].split()[0] == ours["native_reused"]
+
+
+def recorded_by_the_page(folder: pathlib.Path, environment: dict[str, str]) -> str:
+    """The heap calls that the page's commands record, without their pointers."""
+    part = next(it for it in parts_of("docs/ALLOCATORS.md") if "beside_allocators.py" in it.text)
+    commands = [it for it in part.commands() if it.startswith(("cc ", "env "))]
+    assert len(commands) == 2
+    if not (folder / "examples").exists():
+        (folder / "examples").symlink_to(EXAMPLES)
+    for command in commands:
+        succeed(["bash", "-c", command], cwd=folder, extra=environment)
+    return re.sub("0x[0-9a-f]+", "", (folder / "calls.txt").read_text(encoding="ascii"))
+
+
+def test_the_table_of_the_page(shared: pathlib.Path, tmp_path: pathlib.Path) -> None:
+    """The calls that the page's commands record are the same whatever the environment; of Debian
+    12 the table and the picture are the page's."""
+    need("perl", "cc")
+    calls = recorded_by_the_page(tmp_path, {"LC_ALL": "C.UTF-8", "MORE": "a variable"})
+    assert calls == recorded_by_the_page(tmp_path, {"LC_ALL": "C"})
+    perl, libc = succeed(["perl", "-e", "print $]"]).output, os.confstr("CS_GNU_LIBC_VERSION")
+    if (perl, libc) != ("5.036000", "glibc 2.36"):
+        give_up("missing: perl 5.36 and glibc 2.36, of Debian 12")
+    ran = beside(shared, tmp_path / "calls.txt")
+    assert ran.status == 0, ran.errors
+    assert f"beside_allocators.py: -->\n\n{ran.output}\n<!-- to" in read_page("docs/ALLOCATORS.md")
+    table, picture = tmp_path / "rows.csv", tmp_path / "replay.svg"
+    table.write_bytes(replay(shared, tmp_path / "calls.txt", "--every", "100").out)
+    assert draw("replay", table, picture) == Ran(0, b"", b"")
+    stored = ALLOC.parents[1] / "docs" / "pictures" / picture.name
+    assert picture.read_bytes() == stored.read_bytes()
 
 
 def test_three_heaps_of_wrong_words(shared: pathlib.Path, tmp_path: pathlib.Path) -> None:

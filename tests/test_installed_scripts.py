@@ -7,11 +7,11 @@ import re
 
 import pytest
 
-from tests.support import installed
+from tests.support import installed, rust_tenants
 from tests.support.checkout import tracked_files
 from tests.support.fuzzers import PLANTED
 from tests.support.host_sessions import HI_REPORT
-from tests.support.pages import all_parts, is_for_users, read_page
+from tests.support.pages import all_parts, is_for_users, named_code, parts_of, read_page
 from tests.support.places import ROOT
 from tests.support.running import Ran, Word, run
 from tests.support.tools import need
@@ -79,13 +79,61 @@ def test_wrong_option(moved: pathlib.Path, tmp_path: pathlib.Path, name: str) ->
     assert not any(tmp_path.iterdir())
 
 
-def test_commands_of_pages(moved: pathlib.Path, tmp_path: pathlib.Path) -> None:
-    """In the folder that README.md says how to make, each file of the repository that a command of
-    a page for users names is there, or is for a checkout; and scripts find what is installed."""
+def make_folder(moved: pathlib.Path, folder: pathlib.Path) -> None:
+    """Fills a folder as README.md says, so that commands of pages run in it."""
     made = re.search(r"`(cp -rs PREFIX[^`]*)`", read_page("README.md"))
     assert made
     command = made[1].replace("PREFIX", f"'{moved}'")
-    assert bare(moved, ["bash", "-c", command], tmp_path) == Ran(0, b"", b"")
+    assert bare(moved, ["bash", "-c", command], folder) == Ran(0, b"", b"")
+
+
+def run_section(moved: pathlib.Path, folder: pathlib.Path, section: str) -> list[str]:
+    """Runs the commands of a section of the page on tenants, but what changes the machine, and says
+    what each writes. None of them writes into the prefix."""
+    before = installed.files_below(moved)
+    commands = [command for part in parts_of("docs/TENANTS.md")
+                if part.section == section and part.is_for_shell
+                for command in part.commands() if not command.startswith("apt-get ")]
+    written = []
+    for command in commands:
+        ran = bare(moved, ["bash", "-c", command], folder)
+        assert ran.status == 0, f"{command}: {ran.output}{ran.errors}"
+        written.append(ran.output)
+    left = installed.files_below(moved) - before
+    assert not {it for it in left if "__pycache__" not in it}
+    return written
+
+
+def test_tenants_in_cxx(moved: pathlib.Path, tmp_path: pathlib.Path) -> None:
+    """Each command of the page is of use over what is installed; nothing is built or fetched."""
+    need("clang", "ld.lld", "aarch64-linux-gnu-as")
+    make_folder(moved, tmp_path)
+    (tmp_path / "words.cpp").write_text(named_code("docs/TENANTS.md", "words.cpp"))
+    (tmp_path / "words.txt").write_text("pear\napple\npear\n")
+    written = run_section(moved, tmp_path, "C++")
+    library = (moved / SHARE / "examples/libc/out/lib/libc++.a").resolve()
+    assert written == [f"build.py: {library} is installed\n", "", "apple 1\npear 2\n"]
+
+
+def test_tenants_in_rust(moved: pathlib.Path, tmp_path: pathlib.Path) -> None:
+    """The same of Rust: core and alloc are those that are installed."""
+    assert rust_tenants.compiler()
+    rust_tenants.need_cargo()
+    make_folder(moved, tmp_path)
+    words, records = (rust_tenants.RustTenant(it) for it in ("words", "records/src/main"))
+    rust = tmp_path / "examples" / "rust"
+    (rust / "records" / "in.json").write_text(records.text("input"), encoding="utf-8")
+    (tmp_path / "input").write_text(words.text("input"), encoding="utf-8")
+    assert run_section(moved, tmp_path, "Rust") == ["", records.text("output")]
+    assert not (rust / "out" / "rust").exists()
+    ran = bare(moved, ["mte_run", "--input", "input", rust / "out" / "words.elf"], tmp_path)
+    assert (ran.status, ran.output) == (0, words.text("output"))
+
+
+def test_commands_of_pages(moved: pathlib.Path, tmp_path: pathlib.Path) -> None:
+    """In the folder that README.md says how to make, each file of the repository that a command of
+    a page for users names is there, or is for a checkout; and scripts find what is installed."""
+    make_folder(moved, tmp_path)
     host = bare(moved, ["examples/hi.sh"], tmp_path)
     library = bare(moved, ["examples/embed/library.sh"], tmp_path)
     assert (host.status, host.output) == (0, HI_REPORT)

@@ -247,8 +247,8 @@ def test_scripts_of_commands(part: Part) -> None:
 PACKAGES = {"cc": "gcc g++ clang", "c++": "g++ clang", "pip": "python3-pip python3-venv",
             "aarch64-linux-gnu-gcc": "gcc-aarch64-linux-gnu", "afl-fuzz": "afl++",
             "afl-tmin": "afl++"}
-ALWAYS = {"apt-get", "cd", "dirname", "done", "for", "head", "ln", "mte_run", "perl", "python3",
-          "rt"}
+ALWAYS = {"apt-get", "cd", "dirname", "done", "env", "for", "head", "ln", "mte_run", "perl",
+          "python3", "rt"}
 
 
 def tools_of(command: str) -> Iterator[str]:

@@ -18,7 +18,7 @@ from tests.support.running import run, succeed
 TOOL = ROOT / "tools" / "spdx.py"
 VERSION = (ROOT / "VERSION").read_text(encoding="utf-8").strip()
 EPOCH = {"SOURCE_DATE_EPOCH": "1700000000"}
-LIBRARIES = ("libc.a", "libc++.a", "libc++abi.a", "libunwind.a")
+LIBRARIES = ("libc.a", "libc++.a", "libc++abi.a", "libunwind.a", "liballoc.rlib", "libcore.rlib")
 PORTED = [it for it in read_components() if it.linked == "crates"]
 # SPDX 2.3, annex D: expressions of the licences that are here.
 LICENCES = {"MIT", "MIT OR Apache-2.0", "BSD-3-Clause", "Apache-2.0 WITH LLVM-exception",
@@ -103,11 +103,12 @@ def test_own_parts_have_no_licence() -> None:
 
 
 def test_libraries_of_tenants() -> None:
-    """Each library has what build.py makes it of."""
+    """Each library has what it is made of."""
     contained = related(document(*LIBRARIES), "CONTAINS")
     assert {it for it in contained if it[0] != "tombolopan"} == {
         ("libc.a", "musl"), ("libc.a", "compiler-rt"), ("libc++.a", "libc++"),
-        ("libc++abi.a", "libc++abi"), ("libunwind.a", "libunwind")}
+        ("libc++abi.a", "libc++abi"), ("libunwind.a", "libunwind"),
+        ("liballoc.rlib", "rust-alloc"), ("libcore.rlib", "rust-core")}
     whole = {second for first, second in contained if first == "tombolopan"}
     assert whole == {*PROGRAMS, "tombolopan_c", *LIBRARIES}
     names = set(names_by_identifier(document()).values())

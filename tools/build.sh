@@ -1,15 +1,16 @@
 #!/usr/bin/env bash
-# Builds mte_host, mte_split, mte_run, the library for C, and the C library of tenants.
+# Builds mte_host, mte_split, mte_run, the library for C, and the libraries of tenants: those of C
+# and C++, and core and alloc of Rust.
 #     tools/build.sh [--unproved] [--only NAME] [--jobs N] [PREFIX]
 #
 # What is built from the sources that are there stays: their sum is kept (sources.sh). Programs and
-# the library are in crates/*/out, the C library of tenants in examples/libc/out. Programs and the
+# the library are in crates/*/out, the libraries of tenants in examples/libc/out. Programs and the
 # library say of which commit they are (tools/mark.py). With a PREFIX all of it is installed there
 # (tools/install.sh). It says of how many crates or steps how many are done.
 #     --unproved   builds without proof, in minutes. Beside each such file is NAME.unproved, with
 #                  its sum. What is proved of these sources stays as it is.
 #     --only NAME  this one alone: a program, libtombolopan_c.a, programs for these four, or tenants
-#                  for the C library of tenants
+#                  for the libraries of tenants
 #     --jobs N     how many are built at a time without proof (as processors and memory allow)
 set -euo pipefail
 here=$(cd "$(dirname "$0")" && pwd)
@@ -180,6 +181,25 @@ build_libc() {
     fi
 }
 
+# core and alloc of Rust, beside the C library, where the compiler and their source are there.
+build_rust() {
+    local made=$libc/out/rust/version before root
+    root=$("${RUSTC:-/usr/bin/rustc}" --print sysroot 2>/dev/null || true)
+    export TENANT_LIBRARY=$libc/out TENANT_OUT=$libc/out
+    if [[ ! -e $root/lib/rustlib/src/rust/library/core/src/lib.rs ]]; then
+        say "without core and alloc of tenants in Rust: they need rustc and rust-src (Debian)"
+        return
+    fi
+    before=$(cat "$made" 2>/dev/null || true)
+    if ! (watched "core and alloc of Rust" "$top/examples/rust/build.sh"); then
+        [[ $only != tenants ]] || exit 1
+    elif [[ $before == "$(cat "$made")" ]]; then
+        say "core and alloc of Rust: were there"
+    else
+        say "core and alloc of Rust: built"
+    fi
+}
+
 processors=${jobs:-$(nproc)}
 if [[ -z $jobs ]]; then
     # 3 GB of memory for each.
@@ -213,5 +233,6 @@ if [[ $only != tenants ]]; then
 fi
 if [[ -z $only || $only == tenants ]]; then
     build_libc "$processors"
+    build_rust
 fi
 [[ -z $prefix ]] || "$here/install.sh" "$prefix"

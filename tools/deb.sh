@@ -2,7 +2,8 @@
 # Packs what tools/install.sh installs as packages of Debian.
 #     tools/deb.sh OUT [FOLDER]
 #
-#     tombolopan          programs, tenant-cc with the C library of tenants, examples, completions
+#     tombolopan          programs, tenant-cc with the libraries of tenants (of C and C++, core and
+#                         alloc of Rust), examples, completions
 #     libtombolopan2      the shared library
 #     libtombolopan-dev   headers, static library, file for pkg-config, manual pages of the calls
 #     python3-tombolopan  the module for Python

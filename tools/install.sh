@@ -11,14 +11,14 @@
 #     PREFIX/share/man            pages of the programs (1) and of the library and its calls (3)
 #     PREFIX/share/bash-completion, share/zsh, share/fish: completions
 #     PREFIX/share/tombolopan     tombolopan (the package of Python), tombolopan.rs, start.c,
-#                                 examples, the C library of tenants where it is built, installed
-#                                 (the list of all this)
+#                                 examples, the libraries of tenants (of C, C++ and Rust) where they
+#                                 are built, installed (the list of all this)
 #     PREFIX/share/doc/tombolopan the pages
 #
 # A copy of PREFIX elsewhere works too. What is not built yet is proved and built first
 # (tools/build.sh; with its --unproved it takes minutes). FOLDER has mte_host, mte_split, mte_run
-# and libtombolopan_c.a that were built elsewhere, and may have libc, what
-# examples/libc/build.py made. DESTDIR, a variable, is put in front of PREFIX.
+# and libtombolopan_c.a that were built elsewhere, and may have libc, which is examples/libc/out of
+# where tools/build.sh was run. DESTDIR, a variable, is put in front of PREFIX.
 set -euo pipefail
 here=$(cd "$(dirname "$0")" && pwd)
 top=$(cd "$here/.." && pwd)
@@ -155,8 +155,8 @@ put_examples() {
     done
 }
 
-# The C library of tenants, where tenant-cc looks for it; without it there is no tenant-cc, and
-# none of the programs beside it.
+# The libraries of tenants, where tenant-cc and examples/rust look for them; without that of C there
+# is no tenant-cc, and none of the programs beside it.
 put_libc() {
     local libc=$top/examples/libc/out made=$stage/share/tombolopan/examples/libc/out part file
     local name
@@ -168,7 +168,7 @@ put_libc() {
     mkdir -p "$made"
     for part in "$libc"/*; do
         case ${part##*/} in
-            sources | objects) ;;
+            sources | objects | sum) ;;
             *) cp -RL "$part" "$made" ;;
         esac
     done

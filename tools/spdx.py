@@ -1,12 +1,13 @@
 #!/usr/bin/env python3
-"""Writes the list of what is inside the programs, the library and the C library of tenants.
+"""Writes the list of what is inside the programs, the library and the libraries of tenants.
 
     spdx.py [LIBRARY..]
 
 On standard output, as JSON of SPDX 2.3: the crates of crates.txt, those of the toolchain, what is
 linked into which program, and the licence of each. LIBRARY is the name of a library of tenants that
-is there (libc.a, libc++.a, ..; without one: libc.a). SOURCE_DATE_EPOCH is the date in place of the
-commit's. This repository has no licence yet, so its own parts have none either (NOASSERTION).
+is there (libc.a, libc++.a, libcore.rlib, ..; without one: libc.a). SOURCE_DATE_EPOCH is the date in
+place of the commit's. This repository has no licence yet, so its own parts have none either
+(NOASSERTION).
 """
 
 import json

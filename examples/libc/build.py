@@ -6,7 +6,8 @@
 musl is compiled without registers of floating point, with what stands here in place of its system
 calls, heap, start and atomics; the arithmetic of `double` and of 128-bit integers is that of
 compiler-rt. FOLDER (out, beside this script) gets `include` and `lib`, which tenant-cc reads, and
-keeps the sources (`sources`, 140 MB, fetched once). It takes two minutes on two processors.
+keeps the sources (`sources`, 140 MB, fetched once). It takes two minutes on two processors; an
+installed library stays as it is.
 Needed (Debian): clang, llvm, apt, tar, xz-utils, and the network the first time.
 
 With --c++ it gets the C++ library too, LLVM's libc++ with exceptions; with --only-c++ that alone,
@@ -160,8 +161,9 @@ def builtin_units(builtins, work):
             yield file, work / f"builtins.{file.name}.o", words
 
 
-def compile_all(units, jobs, script):
-    """The objects. One that is newer than its file and than what stands here stays."""
+def compile_all(units, jobs, script, language):
+    """The objects. One that is newer than its file and than what stands here stays. It says ten
+    times how many there are."""
     ours = [script, *(HERE / "arch").rglob("*.h"), *(HERE / "include").rglob("*.h")]
     newest = max(path.stat().st_mtime for path in ours)
 
@@ -171,8 +173,13 @@ def compile_all(units, jobs, script):
             run([*words, "-c", "-o", made, file])
         return made
 
+    made = []
     with concurrent.futures.ThreadPoolExecutor(jobs) as pool:
-        return list(pool.map(compile_one, units))
+        for it in pool.map(compile_one, units):
+            made.append(it)
+            if len(made) * 10 // len(units) > (len(made) - 1) * 10 // len(units):
+                print(f"{len(made)} of {len(units)}, compiles {language}", flush=True)
+    return made
 
 
 def archive(objects, path):
@@ -199,7 +206,7 @@ def build_c(out, sources, jobs):
     include = make_headers(musl, out)
     units = [*musl_units(musl, include, work), *builtin_units(builtins, work)]
     print(f"build.py: compiling {len(units)} files", flush=True)
-    objects = compile_all(units, jobs, HERE / "build.py")
+    objects = compile_all(units, jobs, HERE / "build.py", "C")
     apart = [work / f"tenant.{name}.c.o" for name in APART]
     archive([made for made in objects if made not in apart], out / "lib/libc.a")
     for name, made in zip(APART, apart):
@@ -214,7 +221,7 @@ def build_cxx(out, sources, jobs):
     cxx_library.make_headers(llvm, out)
     units = list(cxx_library.units(llvm, out, [*CLANG, *COMMON]))
     print(f"build.py: compiling {len(units)} files of C++", flush=True)
-    objects = compile_all(units, jobs, HERE / "cxx_library.py")
+    objects = compile_all(units, jobs, HERE / "cxx_library.py", "C++")
     for name in cxx_library.LIBRARIES:
         own = [made for made in objects if made.name.startswith(f"{name}.")]
         archive(own, out / f"lib/{name}.a")
@@ -231,13 +238,21 @@ def arguments():
     return parser.parse_args()
 
 
+def is_installed(out):
+    """Whether the folder is that of an installation, which a checkout's crates.txt is not in."""
+    return out == HERE / "out" and not (HERE.parents[1] / "crates.txt").exists()
+
+
 def main():
     options = arguments()
     has_cxx = options.cxx or options.only_cxx
+    out, last = options.out.resolve(), "libc++.a" if has_cxx else "libc.a"
+    if is_installed(options.out) and (out / "lib" / last).exists():
+        print(f"build.py: {out}/lib/{last} is installed")
+        return
     for tool, package in {**TOOLS, **(CXX_TOOLS if has_cxx else {})}.items():
         if not shutil.which(tool):
             leave(f"{tool} is not there (Debian: {package})")
-    out = options.out.resolve()
     if out.exists() and not os.access(out, os.W_OK):
         leave(f"{out} may not be written to (--out FOLDER is another one)")
     sources = options.sources or out / "sources"

@@ -5,7 +5,8 @@ import pathlib
 import shutil
 from collections.abc import Sequence
 
-from tests.support.cache import tenant_library
+from tests.support import rust_tenants
+from tests.support.cache import tenant_cxx_library, tenant_library
 from tests.support.library import static_library
 from tests.support.once import make_once
 from tests.support.places import ROOT, program
@@ -28,14 +29,30 @@ int main(void)
 """
 
 
+def tenant_libraries() -> dict[str, pathlib.Path]:
+    """The folders of the libraries of tenants: C's, and those of C++ and Rust where their tools are
+    there."""
+    has_cxx = shutil.which("aarch64-linux-gnu-as")
+    made = tenant_cxx_library() if has_cxx else tenant_library()
+    rust = {} if rust_tenants.missing() else {"rust": rust_tenants.crates() / "rust"}
+    return {**{part.name: part for part in made.iterdir()}, **rust}
+
+
 def built_folder(shared: pathlib.Path, folder: pathlib.Path) -> pathlib.Path:
-    """A folder with the programs, the archive and the C library of tenants."""
-    folder.mkdir(parents=True, exist_ok=True)
+    """A folder with the programs, the archive and the libraries of tenants."""
+    (folder / "libc").mkdir(parents=True, exist_ok=True)
     files = {path.name: path for path in (*map(program, PROGRAMS), static_library(shared))}
-    for name, file in {**files, "libc": tenant_library()}.items():
+    parts = {f"libc/{name}": part for name, part in tenant_libraries().items()}
+    for name, file in {**files, **parts}.items():
         (folder / name).unlink(missing_ok=True)
         (folder / name).symlink_to(file)
     return folder
+
+
+def files_below(folder: pathlib.Path) -> set[str]:
+    """The files of a folder, also those behind links."""
+    return {str((pathlib.Path(at) / name).relative_to(folder))
+            for at, _, names in os.walk(folder, followlinks=True) for name in names}
 
 
 def install(words: Sequence[str], path: str = "", root: str = "") -> Ran:

@@ -12,8 +12,6 @@ from tests.support.tools import give_up, need
 
 BUILD, CARGO = RUST / "build.sh", RUST / "cargo.sh"
 REGISTRY = pathlib.Path("/usr/share/cargo/registry")
-# The crates that take a minute, and change with the compiler and the script alone.
-CRATES = ("libcore.rlib", "libcompiler_builtins.rlib", "liballoc.rlib")
 
 
 @dataclass(frozen=True)
@@ -41,14 +39,23 @@ def names() -> list[str]:
     return sorted(path.stem for path in RUST.glob("*.rs") if path.stem != "tenant")
 
 
-def compiler() -> str:
-    """Debian's compiler, or the one that RUSTC names, with the source of core beside it."""
+def missing() -> str:
+    """What core and alloc need and is not there."""
     rustc = os.environ.get("RUSTC") or "/usr/bin/rustc"
-    need(rustc, "ld.lld")
+    if not shutil.which(rustc):
+        return f"missing: {rustc} (Debian: rustc)"
     sysroot = pathlib.Path(version_of(rustc, "--print", "sysroot").strip())
     if not (sysroot / "lib/rustlib/src/rust/library/core/src/lib.rs").exists():
-        give_up("missing: the source of Rust's library (Debian: rust-src)")
-    return rustc
+        return "missing: the source of Rust's library (Debian: rust-src)"
+    return ""
+
+
+def compiler() -> str:
+    """Debian's compiler, or the one that RUSTC names, with the source of core beside it."""
+    if missing():
+        give_up(missing())
+    need("ld.lld")
+    return os.environ.get("RUSTC") or "/usr/bin/rustc"
 
 
 def settings(folder: pathlib.Path) -> dict[str, str]:
@@ -58,32 +65,42 @@ def settings(folder: pathlib.Path) -> dict[str, str]:
 
 
 def build(folder: pathlib.Path, *programs: str) -> None:
-    """Runs the script that builds tenants, into a folder."""
+    """Runs the script that builds tenants, into a folder that has core and alloc."""
     ran = run([BUILD, *programs], seconds=900, extra=settings(folder))
     # It also names words that the host lacks; there are none.
     assert ran.status == 0 and not ran.err, ran.output[-2000:] + ran.errors[-2000:]
 
 
+def build_crates(folder: pathlib.Path) -> None:
+    """Builds core and alloc, which change with the compiler and the script alone."""
+    extra = {"RUSTC": compiler(), "TENANT_LIBRARY": str(folder), "TENANT_OUT": str(folder)}
+    ran = run([BUILD], seconds=900, extra=extra)
+    assert (ran.status, ran.output) == (0, f"{folder}/rust\n"), ran.errors[-2000:]
+
+
 def crates() -> pathlib.Path:
-    """A folder with core and alloc."""
+    """A folder whose folder `rust` has core and alloc; the first time this takes a minute."""
     rustc = compiler()
     place = version_of(rustc, "--print", "sysroot")
-    return kept(f"rust-{key_of([BUILD], version_of(rustc, '-vV'), place)}", build)
+    return kept(f"rust-{key_of([BUILD], version_of(rustc, '-vV'), place)}", build_crates)
 
 
 def link_crates(folder: pathlib.Path) -> None:
     """Puts core and alloc where the scripts build."""
-    made = crates()
-    for name in CRATES:
-        (folder / name).symlink_to(made / name)
+    (folder / "rust").symlink_to(crates() / "rust")
 
 
-def run_package(alone: pathlib.Path, folder: pathlib.Path, package: str, data: bytes) -> Ran:
-    """Builds a package by cargo, in a folder, and runs it with an input."""
+def need_cargo() -> None:
+    """Skips the test where cargo or a crate that a package names is missing."""
     need("/usr/bin/cargo")
     for name in ("hashbrown", "serde_json"):
         if not any(REGISTRY.glob(f"{name}-*")):
             give_up(f"missing: the crate {name} (Debian: librust-{name.replace('_', '-')}-dev)")
+
+
+def run_package(alone: pathlib.Path, folder: pathlib.Path, package: str, data: bytes) -> Ran:
+    """Builds a package by cargo, in a folder, and runs it with an input."""
+    need_cargo()
     link_crates(folder)
     # cargo splits the command of a runner at blanks.
     link = folder / "alone"

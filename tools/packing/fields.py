@@ -30,10 +30,11 @@ def all_packages(shared: str) -> tuple[Package, ...]:
     return (
         Package(PROGRAMS, ANY, "devel", "host of A64 programs with memory tagging",
                 "Runs the A64 programs of several tenants on one modelled Arm core with memory\n"
-                "tagging, and says why a tenant ended. tenant-cc builds tenants from C programs.",
+                "tagging, and says why a tenant ended. tenant-cc and tenant-c++ build tenants of\n"
+                "programs in C and C++. With the libraries of tenants in C, C++ and Rust.",
                 depends="{libraries}, python3:any",
                 recommends="clang, lld, llvm, binutils-aarch64-linux-gnu",
-                suggests=f"gdb-multiarch, {PAGES}, {DEVELOPMENT}"),
+                suggests=f"rustc, rust-src, cargo, gdb-multiarch, {PAGES}, {DEVELOPMENT}"),
         Package(shared, ANY, "libs", "sessions of A64 tenants with memory tagging",
                 "A library that runs sessions of A64 programs, or one of them step by step, over\n"
                 "a modelled memory with tags. This package has the shared library.",
@@ -104,6 +105,8 @@ binary-from-other-architecture [usr/{IMAGE}]
 binary-from-other-architecture [usr/{TENANTS}/lib/start.o]
 binary-from-other-architecture [usr/{TENANTS}/lib/large_blocks.o]
 statically-linked-binary [usr/{IMAGE}]
+# Crates of Rust, which are metadata beside objects.
+no-code-sections [usr/{TENANTS}/rust/*.rlib]
 """
 
 

@@ -48,8 +48,9 @@ class Packer:
         library = next(prefix.glob("lib/libtombolopan.so.[0-9]*"))
         self.number = library.name.rpartition(".")[2]
         self.shared = f"libtombolopan{self.number}"
-        libraries = prefix / "share/tombolopan/examples/libc/out/lib"
-        self.libraries = sorted(it.name for it in libraries.glob("*.a"))
+        libraries = prefix / "share/tombolopan/examples/libc/out"
+        self.libraries = sorted(it.name for pattern in ("lib/*.a", "rust/**/*.rlib")
+                                for it in libraries.glob(pattern))
 
     def top(self, package: str) -> pathlib.Path:
         """The folder of a package, where Debian's tools look for it."""
@@ -199,5 +200,6 @@ class Packer:
             self.date_files(top)
             architecture = re.findall(r"^Architecture: (.*)$", made["control"], re.M)[0]
             path = out / f"{package.name}_{self.release.version}_{architecture}.deb"
-            output("dpkg-deb", "--root-owner-group", "--threads-max=1", "--build", top, path)
+            # -z3: the library of Rust takes a third of the time, and a tenth more bytes.
+            output("dpkg-deb", "--root-owner-group", "--threads-max=1", "-z3", "--build", top, path)
             yield path
