@@ -7,7 +7,7 @@ use mte_svc::{AnsweredCall, HeapCalls};
 use std::alloc::{AllocError, Global};
 use std::collections::BTreeMap;
 
-/// A chunk that is live: the node of the calls that it was made in, its size, and the steps before it.
+/// A live chunk: the node of the calls that it was made in, its size, and the steps before it.
 #[derive(Clone, Copy)]
 struct MadeChunk {
     node: usize,
