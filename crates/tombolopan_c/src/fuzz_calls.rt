@@ -93,7 +93,7 @@ fn run_slices(machine: &mut SnapshotTenant, watch: &mut RunWatch<'_>, slices: &[
 }
 
 /// Makes the machine what it was after its setup, with an input, and runs it for slices; counts
-/// each branch that is taken in `map`. OK; NO_MACHINE where the handle holds none, BAD_ARGUMENT
+/// its edges in `map`. OK; NO_MACHINE where the handle holds none, BAD_ARGUMENT
 /// where the length of the map is no power of two from 256 to 65536 and OUT_OF_MEMORY change
 /// nothing but `end`.
 #[unsafe(no_mangle)]

@@ -57,7 +57,7 @@ class Fuzz:
     input of its own, and is the same as that of a tenant which starts anew.
 
     `setup` has the slices of the setup: the first one ends where the tenant yields. `edges` is how
-    many counts of taken branches there are, a power of two from 256 to 65536; the counts of a run
+    many counts of edges there are, a power of two from 256 to 65536; the counts of a run
     stay until the next one. Refused tells why the tenant is not admitted. A machine is of use to
     one thread at a time, the one that made it. `close` frees it, as the end of a `with` does.
 
