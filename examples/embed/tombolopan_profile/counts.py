@@ -148,7 +148,7 @@ class Counts:
         return steps
 
     def shown_calls(self) -> list[int]:
-        """For each of the calls the number of itself, or of those with MOST_FRAMES that it is in."""
+        """For each of the calls its number, or that of those with MOST_FRAMES that it is in."""
         if len(self.shown) != len(self.calls):
             self.shown, depths = [], list[int]()
             for number, call in enumerate(self.calls):

@@ -174,16 +174,25 @@ class Covered:
 
 
 def executed_lines(counts: Counts, executions: Mapping[int, int]) -> Iterator[tuple[Line, int]]:
-    """For each place with a line how often its first instruction was executed, since compilers count
-    jumps to the line before them; or where it was not, the first one that was: a line as
-    `} else if (..)` begins with a jump from what is above it."""
-    addresses = sorted(executions)
+    """For each place with a line how often its first instruction was executed, since compilers
+    count jumps to the line before them; or where it was not, the first one that was and is no
+    jump: a line as `} else if (..)` begins with a jump from what is above it."""
+    taken = taken_branches(counts)
+    work = sorted(address for address, count in executions.items() if taken[address] != count)
     ends = itertools.chain((start for start, _ in counts.places[1:]), [sys.maxsize])
     for (start, place), end in zip(counts.places, ends, strict=True):
         if place.line:
-            at = bisect.bisect_left(addresses, start)
-            is_reached = at < len(addresses) and addresses[at] < end
-            yield place.line, executions[addresses[at]] if is_reached else 0
+            at = bisect.bisect_left(work, start)
+            is_reached = start not in executions and at < len(work) and work[at] < end
+            yield place.line, executions[work[at]] if is_reached else executions.get(start, 0)
+
+
+def taken_branches(counts: Counts) -> Counter[int]:
+    """How often each branch was taken."""
+    taken: Counter[int] = Counter()
+    for (source, _), count in counts.branches.items():
+        taken[source] += count
+    return taken
 
 
 def coverage(counts: Counts, words: Mapping[int, int]) -> dict[str, Covered]:
@@ -197,9 +206,7 @@ def coverage(counts: Counts, words: Mapping[int, int]) -> dict[str, Covered]:
     for address, name in counts.functions:
         if line := counts.place_at(address).line:
             found[file_of(line)].functions[name] = line.number, executions.get(address, 0)
-    taken: Counter[int] = Counter()
-    for (source, _), count in counts.branches.items():
-        taken[source] += count
+    taken = taken_branches(counts)
     for address, word in words.items():
         line = counts.place_at(address).line
         if line and is_conditional(word):
