@@ -1,5 +1,6 @@
 //! The functions, lines and inlined calls of an image's code.
 
+use crate::bounded_lines::BoundedLines;
 use debug_info::{CallsAt, InlinedCalls};
 use debug_lines::{SourceLine, SourceLines};
 use elf_sections::Sections;
@@ -55,9 +56,12 @@ pub struct CodeNames<'n, 'a> {
 
 impl<'n, 'a> CodeNames<'n, 'a> {
     /// Writes a line for each function: its first address in the code, and its name.
-    pub fn write_functions<W: Write>(&self, out: &mut W) -> io::Result<()> {
+    pub fn write_functions<W: Write>(&self, out: &mut BoundedLines<'_, W>) -> io::Result<()> {
         let mut last = None;
         for address in self.addresses {
+            if out.is_full() {
+                break;
+            }
             let place = self.names.symbols.place(*address);
             let start = address.wrapping_sub(place.offset());
             if let Some(name) = place.name() {
@@ -73,7 +77,11 @@ impl<'n, 'a> CodeNames<'n, 'a> {
     }
 
     /// Writes a line for each address from which on the line or the inlined calls are others.
-    pub fn write_lines<W: Write>(&self, alloc: Global, out: &mut W) -> io::Result<()> {
+    pub fn write_lines<W: Write>(
+        &self,
+        alloc: Global,
+        out: &mut BoundedLines<'_, W>,
+    ) -> io::Result<()> {
         let lines = self.names.lines.lines_of(alloc, self.addresses)?;
         for some in self.addresses.chunks(INSTRUCTIONS) {
             let inlined = self.names.info.inlined_calls(alloc, some)?;
@@ -85,7 +93,7 @@ impl<'n, 'a> CodeNames<'n, 'a> {
 
 /// Writes the lines of some addresses.
 fn write_some<W: Write>(
-    out: &mut W,
+    out: &mut BoundedLines<'_, W>,
     addresses: &[u64],
     lines: &SourceLines<'_>,
     inlined: &InlinedCalls<'_>,
@@ -97,6 +105,9 @@ fn write_some<W: Write>(
             Some((same, innermost)) => *innermost == calls.innermost() && is_same(same, &line),
             None => false,
         };
+        if out.is_full() {
+            break;
+        }
         if !is_known {
             write_address(out, *address, line, calls)?;
             last = Some((line, calls.innermost()));
@@ -121,7 +132,7 @@ fn is_same(one: &Option<SourceLine<'_>>, other: &Option<SourceLine<'_>>) -> bool
 
 /// Writes the line of an address, and the inlined calls that it is in, the innermost first.
 fn write_address<W: Write>(
-    out: &mut W,
+    out: &mut BoundedLines<'_, W>,
     address: u64,
     line: Option<SourceLine<'_>>,
     calls: CallsAt<'_, '_>,
@@ -137,7 +148,10 @@ fn write_address<W: Write>(
 }
 
 /// Writes the rest of a line: a source line and its file, or 0.
-fn write_line<W: Write>(out: &mut W, line: Option<SourceLine<'_>>) -> io::Result<()> {
+fn write_line<W: Write>(
+    out: &mut BoundedLines<'_, W>,
+    line: Option<SourceLine<'_>>,
+) -> io::Result<()> {
     let Some(
         SourceLine {
             path,

@@ -3,6 +3,7 @@
 //! a tenant goes straight on between two of them.
 #![tactic(auto)]
 
+mod bounded_lines;
 mod branch_counts;
 mod call_change;
 mod call_tree;

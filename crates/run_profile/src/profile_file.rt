@@ -1,6 +1,7 @@
 //! The file of a profile: lines of words with tabs between them, which a script turns into the
 //! forms of other tools.
 
+use crate::bounded_lines::BoundedLines;
 use crate::code_names::{CodeNames, code_addresses};
 use crate::run_profile::RunProfile;
 use common::Printable;
@@ -33,8 +34,13 @@ impl<'p, 'a> ProfileFile<'p, 'a> {
             names: &self.profile.names,
             addresses: addresses.as_slice(),
         };
-        code.write_functions(out)?;
-        code.write_lines(alloc, out)
+        let mut lines = BoundedLines::new(out);
+        code.write_functions(&mut lines)?;
+        code.write_lines(alloc, &mut lines)?;
+        if lines.is_full() {
+            writeln!(out, "incomplete")?;
+        }
+        Ok(())
     }
 
     /// Writes what the run was: its first instruction, and the run of instructions after the last

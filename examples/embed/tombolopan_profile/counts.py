@@ -14,6 +14,7 @@ from dataclasses import astuple, dataclass, field
 
 HEAD = "tombolopan profile\t1"
 BYTES = 4  # of an instruction
+MOST_FRAMES = 256  # of a stack
 
 
 class WrongCounts(ValueError):
@@ -104,6 +105,7 @@ class Counts:
     is_complete: bool = True
     functions: list[tuple[int, str]] = field(default_factory=list)
     places: list[tuple[int, Place]] = field(default_factory=list)
+    shown: list[int] = field(default_factory=list)
 
     def function_at(self, address: int) -> tuple[int, str]:
         """The function that an instruction is in: its first address and its name."""
@@ -145,9 +147,20 @@ class Counts:
                 steps[outer] += steps[number]
         return steps
 
+    def shown_calls(self) -> list[int]:
+        """For each of the calls its number, or that of those with MOST_FRAMES that it is in."""
+        if len(self.shown) != len(self.calls):
+            self.shown, depths = [], list[int]()
+            for number, call in enumerate(self.calls):
+                depths.append(depths[call.outer] + 1 if call.outer is not None else 1)
+                is_deep = call.outer is not None and depths[number] > MOST_FRAMES
+                self.shown.append(self.shown[call.outer or 0] if is_deep else number)
+        return self.shown
+
     def stack(self, number: int) -> list[int]:
-        """The calls that a call is in and itself, the outermost first."""
-        found = [number]
+        """The calls that a call is in and itself, the outermost first. The last of MOST_FRAMES has
+        what is called in it."""
+        found = [self.shown_calls()[number]]
         while (outer := self.calls[found[-1]].outer) is not None:
             found.append(outer)
         return found[::-1]

@@ -1,12 +1,15 @@
 """The counts of a run in the forms that other tools read. Each function gives a file's text."""
 from __future__ import annotations
 
+import bisect
 import gzip
+import itertools
 import json
 import os
 import struct
+import sys
 from collections import Counter, defaultdict
-from collections.abc import Iterable, Mapping
+from collections.abc import Iterable, Iterator, Mapping
 from dataclasses import dataclass, field
 from xml.sax.saxutils import quoteattr
 
@@ -170,22 +173,40 @@ class Covered:
     branches: dict[int, list[tuple[int, int]]] = field(default_factory=lambda: defaultdict(list))
 
 
-def coverage(counts: Counts, words: Mapping[int, int]) -> dict[str, Covered]:
-    """The lines, functions and branches of each source file, executed or not. A line was executed
-    as often as an instruction that it begins with, since compilers count jumps to the line before
-    them, and of several such instructions that with the highest count."""
-    found: dict[str, Covered] = defaultdict(Covered)
-    executions = counts.executions()
-    for start, place in counts.places:
+def executed_lines(counts: Counts, executions: Mapping[int, int]) -> Iterator[tuple[Line, int]]:
+    """For each place with a line how often its first instruction was executed, since compilers
+    count jumps to the line before them; or where it was not, the first one that was and is no
+    jump: a line as `} else if (..)` begins with a jump from what is above it."""
+    taken = taken_branches(counts)
+    work = sorted(address for address, count in executions.items() if taken[address] != count)
+    ends = itertools.chain((start for start, _ in counts.places[1:]), [sys.maxsize])
+    for (start, place), end in zip(counts.places, ends, strict=True):
         if place.line:
-            lines, number = found[file_of(place.line)].lines, place.line.number
-            lines[number] = max(executions.get(start, 0), lines.get(number, 0))
-    for address, name in counts.functions:
-        if line := counts.place_at(address).line:
-            found[file_of(line)].functions[name] = line.number, executions.get(address, 0)
+            at = bisect.bisect_left(work, start)
+            is_reached = start not in executions and at < len(work) and work[at] < end
+            yield place.line, executions[work[at]] if is_reached else executions.get(start, 0)
+
+
+def taken_branches(counts: Counts) -> Counter[int]:
+    """How often each branch was taken."""
     taken: Counter[int] = Counter()
     for (source, _), count in counts.branches.items():
         taken[source] += count
+    return taken
+
+
+def coverage(counts: Counts, words: Mapping[int, int]) -> dict[str, Covered]:
+    """The lines, functions and branches of each source file, executed or not. Of several places of
+    a line that counts which was executed most often."""
+    found: dict[str, Covered] = defaultdict(Covered)
+    executions = counts.executions()
+    for place_line, count in executed_lines(counts, executions):
+        lines = found[file_of(place_line)].lines
+        lines[place_line.number] = max(count, lines.get(place_line.number, 0))
+    for address, name in counts.functions:
+        if line := counts.place_at(address).line:
+            found[file_of(line)].functions[name] = line.number, executions.get(address, 0)
+    taken = taken_branches(counts)
     for address, word in words.items():
         line = counts.place_at(address).line
         if line and is_conditional(word):
@@ -342,19 +363,33 @@ class FunctionSteps:
     calls: int
 
 
+def whole_steps(counts: Counts) -> Counter[int]:
+    """The steps of each function with those of the calls in it, each counted once."""
+    inner: dict[int | None, list[int]] = defaultdict(list)
+    for number, call in enumerate(counts.calls):
+        inner[call.outer].append(number)
+    found, opened, steps = Counter[int](), Counter[int](), counts.inclusive()
+    left = [(number, False) for number in inner[None]]
+    while left:
+        number, is_closed = left.pop()
+        entry = counts.function_at(counts.calls[number].entry)[0]
+        if is_closed:
+            opened[entry] -= 1
+            continue
+        found[entry] += 0 if opened[entry] else steps[number]
+        opened[entry] += 1
+        left += [(number, True), *((one, False) for one in inner[number])]
+    return found
+
+
 def functions(counts: Counts) -> list[FunctionSteps]:
     """The functions that were reached, those with the most own steps first."""
     own: Counter[int] = Counter()
     for address, count in counts.executions().items():
         own[counts.function_at(address)[0]] += count
-    whole: Counter[int] = Counter()
-    calls: Counter[int] = Counter()
-    for number, (call, steps) in enumerate(zip(counts.calls, counts.inclusive(), strict=True)):
-        *outer, entry = (counts.function_at(counts.calls[one].entry)[0]
-                         for one in counts.stack(number))
-        calls[entry] += call.calls
-        if entry not in outer:
-            whole[entry] += steps
+    whole, calls = whole_steps(counts), Counter[int]()
+    for call in counts.calls:
+        calls[counts.function_at(call.entry)[0]] += call.calls
     return [FunctionSteps(counts.function_at(entry)[1], steps, whole[entry], calls[entry])
             for entry, steps in own.most_common()]
 

@@ -59,13 +59,14 @@ def place_of(counts: Counts, site: int) -> str:
 
 
 def tree(counts: Counts) -> Branch:
-    """The chunks of the peak by the calls that they were made in."""
-    found = Branch()
+    """The chunks of the peak by the calls that they were made in, the outermost of which is the
+    run: the bytes of a branch are those of the branches below it."""
+    found, run = Branch(), counts.calls[0].entry
     for number, sums in sorted(counts.heap.items()):
         if sums.peak_bytes:
             branch = found
             branch.bytes += sums.peak_bytes
-            for site in sites(counts, number):
+            for site in (*sites(counts, number), run):
                 branch = branch.outer[site]
                 branch.bytes += sums.peak_bytes
     return found
