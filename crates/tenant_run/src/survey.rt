@@ -70,8 +70,8 @@ impl Survey {
     }
 }
 
-/// How an image ends under a seed. Where an access may have been wrong, a second run says whether
-/// it was.
+/// How an image ends under a seed. The watch is made and dropped here, where nothing ends early
+/// with it: that is what a proof pays for.
 fn ending_under<'x>(
     alloc: Global,
     options: &Options,
@@ -81,12 +81,23 @@ fn ending_under<'x>(
 ) -> Result<TenantEnding, Obstacle<AdmitError>> {
     let admission = admission_of(options, terms.image, input, seed);
     let mut observer = silent_observer(alloc, options, terms)?;
-    let ending = ending_of(alloc, options, &admission, &mut observer)?;
+    ending_by(alloc, options, &admission, &mut observer)
+}
+
+/// How a tenant ends that is watched. Where an access may have been wrong, a second run says
+/// whether it was.
+fn ending_by(
+    alloc: Global,
+    options: &Options,
+    admission: &Admission<'_>,
+    observer: &mut Observer<'_>,
+) -> Result<TenantEnding, Obstacle<AdmitError>> {
+    let ending = ending_of(alloc, options, admission, observer)?;
     if observer.shown != WatchLevel::Accesses || !observer.is_suspicious() {
         return Ok(ending);
     }
     observer.restart(alloc, u64::MAX)?;
-    ending_of(alloc, options, &admission, &mut observer)
+    ending_of(alloc, options, admission, observer)
 }
 
 /// The watch of a run of which only the ending, or what is found, counts.
