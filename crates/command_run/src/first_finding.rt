@@ -18,13 +18,24 @@ pub(crate) fn first_finding<'a>(
 ) -> Result<Option<Finding>, Failure<'a>> {
     let (alloc, options) = (request.rt.alloc(), request.options);
     let mut observer = finder_of(alloc, options, admission.image, request.suppressions)?;
+    found_by(alloc, admission, cuts, &mut observer)
+}
+
+/// What a watch finds first, if it watches for anything. It is borrowed, so that no end has to drop
+/// it.
+fn found_by<'a>(
+    alloc: Global,
+    admission: &Admission<'_>,
+    cuts: &Cuts<'_>,
+    observer: &mut Observer<'_>,
+) -> Result<Option<Finding>, Failure<'a>> {
     if observer.shown == WatchLevel::Nothing {
         return Ok(None);
     }
-    let steps = run_cuts(alloc, admission, cuts, &mut observer)?;
+    let steps = run_cuts(alloc, admission, cuts, observer)?;
     if observer.is_suspicious() {
         observer.restart(alloc, steps)?;
-        run_cuts(alloc, admission, cuts, &mut observer)?;
+        run_cuts(alloc, admission, cuts, observer)?;
     }
     match observer.full() {
         Some(full) => Err(failure_of(full)),

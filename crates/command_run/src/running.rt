@@ -8,8 +8,10 @@ use crate::session_replay::{SessionReplay, events_of};
 use crate::telling::tell_end;
 use crate::unadmitted::{refuse, refuse_unadmitted};
 use common::Obstacle;
+use mte_flat::Flat;
 use mte_program::StreamSink;
 use mte_session::{Event, file_of, write_all, write_report};
+use mte_svc::TenantParts;
 use mte_tags::TagMode;
 use run_terms::{Failure, Replay};
 use std::io::BufWriter;
@@ -41,8 +43,26 @@ fn run_tenant<'a>(
         mode: options.run.terms.mode,
     };
     let mut observer = observer_of(rt, options, run.image.bytes, request.suppressions)?;
-    tenant.run(rt, options, &mut bench, &mut observer)?;
-    tell_end(request, &run, bench, &mut observer)
+    let ran = tenant.run(rt, options, &mut bench, &mut observer);
+    let TenantBench {
+        parts,
+        mut memory,
+        ..
+    } = bench;
+    tell_run(request, &run, ran, &parts, &mut memory, &mut observer)
+}
+
+/// Says why a tenant ended, if it ran. All is borrowed, so that no end has to drop it.
+fn tell_run<'a>(
+    request: &RunRequest<'a, '_>,
+    run: &Run<'_>,
+    ran: Result<(), Failure<'a>>,
+    parts: &TenantParts,
+    memory: &mut Flat,
+    observer: &mut Observer<'_>,
+) -> Result<u8, Failure<'a>> {
+    ran?;
+    tell_end(request, run, parts, memory, observer)
 }
 
 /// Runs what a session does to one tenant, writes its lines of the report and says why it ended;
@@ -79,21 +99,39 @@ fn tell_replay<'a>(
     found: Replayed,
     observer: &mut Observer<'_>,
 ) -> Result<u8, Failure<'a>> {
+    let Replayed { bench, image } = found;
+    let TenantBench {
+        parts,
+        mut memory,
+        ..
+    } = bench;
+    tell_replayed(request, session, image, &parts, &mut memory, observer)
+}
+
+/// Writes so of the tenant of an image. All is borrowed, so that no end has to drop it.
+fn tell_replayed<'a>(
+    request: &RunRequest<'a, '_>,
+    session: &SessionReplay<'a, '_>,
+    image: u32,
+    parts: &TenantParts,
+    memory: &mut Flat,
+    observer: &mut Observer<'_>,
+) -> Result<u8, Failure<'a>> {
     let run = Run {
-        image: request.image(found.image),
+        image: request.image(image),
         seed: None,
-        mode: write_lines(request, session, &found.bench)?,
+        mode: write_lines(request, session, parts)?,
     };
-    tell_end(request, &run, found.bench, observer)
+    tell_end(request, &run, parts, memory, observer)
 }
 
 /// Writes a tenant's lines of the report, or its output as it is, and gives its tag mode.
 fn write_lines<'a>(
     request: &RunRequest<'a, '_>,
     session: &SessionReplay<'a, '_>,
-    bench: &TenantBench,
+    parts: &TenantParts,
 ) -> Result<TagMode, Failure<'a>> {
-    let log = &bench.parts.history;
+    let log = &parts.history;
     let rt = request.rt;
     if request.options.output.is_raw {
         write_all(&mut StreamSink(rt.stdout()), log.output.as_slice())?;

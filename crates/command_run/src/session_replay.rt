@@ -33,13 +33,24 @@ impl<'a, 'x> SessionReplay<'a, 'x> {
         let found = self.first_run(rt, options, observer)?;
         let found = self.watched(rt.alloc(), options, found, observer)?;
         if let Some(found) = &found {
-            self.find_store(rt.alloc(), found, observer)?;
-            if observer.wants_branches() {
-                let _again = self.replayed(rt.alloc(), observer, &mut StreamSink(sink()))?;
-            }
-            observer.end_profile(found.bench.parts.history.steps);
+            self.look_back(rt.alloc(), found, observer)?;
         }
         Ok(found)
+    }
+
+    /// Finds what more runs of the tenant have to show: a store, and the branches.
+    fn look_back(
+        &self,
+        alloc: Global,
+        found: &Replayed,
+        observer: &mut Observer<'_>,
+    ) -> Result<(), Failure<'a>> {
+        self.find_store(alloc, found, observer)?;
+        if observer.wants_branches() {
+            let _again = self.replayed(alloc, observer, &mut StreamSink(sink()))?;
+        }
+        observer.end_profile(found.bench.parts.history.steps);
+        Ok(())
     }
 
     /// The tenant after a run that writes the lines of its refused events, unless its output is to

@@ -17,23 +17,19 @@ use report_documents::Document;
 use run_terms::{Failure, Options};
 use std::io;
 use std::io::{BufWriter, Write};
-use tenant_run::{Observer, TenantBench, WholeFile};
+use tenant_run::{Observer, WholeFile};
 
 /// Writes what happened to a tenant, and returns the exit status.
 pub fn tell_end<'a>(
     request: &RunRequest<'a, '_>,
     run: &Run<'_>,
-    bench: TenantBench,
+    parts: &TenantParts,
+    memory: &mut Flat,
     observer: &mut Observer<'_>,
 ) -> Result<u8, Failure<'a>> {
     observer.finish();
     end_watch(observer)?;
-    let TenantBench {
-        parts,
-        mut memory,
-        ..
-    } = bench;
-    tell_parts(request, run, &parts, &mut memory, observer)
+    tell_parts(request, run, parts, memory, observer)
 }
 
 /// What of the watch is a failure: a chunk that is missing, or that it is full.
@@ -102,17 +98,29 @@ fn tell<'a>(
     memory: &mut Flat,
     observer: &Observer<'_>,
 ) -> Result<u8, Failure<'a>> {
+    let mut out = BufWriter::new(request.rt.alloc(), request.rt.stderr())?;
+    tell_into(request, account, subject, memory, observer, &mut out)
+}
+
+/// Writes so, with the lines to a writer.
+fn tell_into<'a, W: Write>(
+    request: &RunRequest<'a, '_>,
+    account: &RunAccount<'_>,
+    subject: &CoreSubject<'_>,
+    memory: &mut Flat,
+    observer: &Observer<'_>,
+    out: &mut W,
+) -> Result<u8, Failure<'a>> {
     let (rt, options) = (request.rt, request.options);
-    let mut out = BufWriter::new(rt.alloc(), rt.stderr())?;
-    let _ = account.write_cut(&mut out);
-    account.write_story(rt.alloc(), &mut out, memory)?;
+    let _ = account.write_cut(out);
+    account.write_story(rt.alloc(), out, memory)?;
     out.flush()?;
     let status = account.status();
     write_files(rt, account.report, options, status, memory)?;
     dump_core(request, subject, memory)?;
     write_profile(request, subject, observer)?;
     end_lines(options, observer)?;
-    let _ = account.write_end(&mut out);
+    let _ = account.write_end(out);
     let _ = out.flush();
     Ok(status)
 }

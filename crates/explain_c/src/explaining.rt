@@ -90,19 +90,32 @@ fn explain_bench<'a>(
     let options = asked.question.options;
     let mut bench = bench;
     let mut observer = quiet_observer(alloc, &options.output, asked.terms)?;
-    tenant.run_silently(alloc, options, &mut bench, &mut observer)?;
+    let ran = tenant.run_silently(alloc, options, &mut bench, &mut observer);
+    let TenantBench {
+        parts,
+        mut memory,
+        ..
+    } = bench;
+    tell_run(alloc, asked, ran, &parts, &mut memory, &observer)
+}
+
+/// Tells why a tenant ended, if it ran. All is borrowed, so that no end has to drop it.
+fn tell_run<'a>(
+    alloc: Global,
+    asked: &Asked<'_>,
+    ran: Result<(), Failure<'a>>,
+    parts: &TenantParts,
+    memory: &mut Flat,
+    observer: &Observer<'_>,
+) -> Result<Answer, Failure<'a>> {
+    ran?;
     if !observer.is_complete() {
         return Err(Failure::Memory);
     }
     if let Some(full) = observer.full() {
         return Err(failure_of(full));
     }
-    let TenantBench {
-        parts,
-        mut memory,
-        ..
-    } = bench;
-    tell_parts(alloc, asked, &parts, &mut memory, &observer)
+    tell_parts(alloc, asked, parts, memory, observer)
 }
 
 /// Tells why a tenant ended by its parts and its memory.
