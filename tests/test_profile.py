@@ -376,7 +376,7 @@ def test_lines_beside_gcov(alone: pathlib.Path, tmp_path: pathlib.Path,
               for count, number, _ in (line.split(":", 2) for line in lines)
               if count.strip() != "-"}
     counts = run_counts.read_files([tmp_path / "counts"])
-    covered = forms.coverage(counts, {})
+    covered = forms.coverage(counts, forms.words_of(path.read_bytes()))
     mine = next(one.lines for file, one in covered.items() if file.endswith(source.name))
     shared_lines = sorted(theirs.keys() & mine.keys())
     assert {at: theirs[at] for at in shared_lines} == {at: mine[at] > 0 for at in shared_lines}
