@@ -182,15 +182,15 @@ class Covered:
 def executed_lines(counts: Counts, words: Mapping[int, int],
                    executions: Mapping[int, int]) -> Iterator[tuple[Line, int]]:
     """For each place with a line how often its first instruction was executed, since compilers
-    count jumps to the line before them; or where it was not, the first one that was and is known
-    to be no jump: a line as `} else if (..)` begins with a jump from what is above it."""
-    work = sorted(address for address in executions if not is_jump(words.get(address, JUMP)))
+    count jumps to the line before them; where that is a jump that was not, the first one behind it
+    that is none: a line as `} else if (..)` begins with a jump from what is above it."""
     ends = itertools.chain((start for start, _ in counts.places[1:]), [sys.maxsize])
     for (start, place), end in zip(counts.places, ends, strict=True):
         if place.line:
-            at = bisect.bisect_left(work, start)
-            is_reached = start not in executions and at < len(work) and work[at] < end
-            yield place.line, executions[work[at]] if is_reached else executions.get(start, 0)
+            at = start
+            while at not in executions and at + BYTES < end and is_jump(words.get(at, 0)):
+                at += BYTES
+            yield place.line, executions.get(at, 0)
 
 
 def coverage(counts: Counts, words: Mapping[int, int]) -> dict[str, Covered]:
