@@ -356,6 +356,52 @@ def test_runs_add_up(alone: pathlib.Path, tmp_path: pathlib.Path) -> None:
     assert ran.status == 5 and ran.errors.startswith("tenant-profile: ")
 
 
+DEEP = """\
+#include <stdlib.h>
+static void *deeper(int more)
+{
+    if (more < 0) {
+        abort();
+    } else if (more > 0) {
+        return deeper(more - 1);
+    } else if (more == 1) {
+        return 0;
+    }
+    return malloc(100000);
+}
+int main(void)
+{
+    return deeper(999) == malloc(7);
+}
+"""
+
+
+def test_deep_calls_and_jumped_lines(alone: pathlib.Path, tmp_path: pathlib.Path) -> None:
+    """Forms show the outermost of deep calls, with all steps and bytes; and a line that begins with
+    a jump from what was not reached is executed."""
+    need("clang", "ld.lld")
+    source = tmp_path / "deep.c"
+    source.write_text(DEEP)
+    path = compiled(tenant_library(), source, "clang", "-O0", source.with_suffix(".elf"), [])
+    succeed([alone, "--profile", tmp_path / "counts", path])
+    counts = run_counts.read_files([tmp_path / "counts"])
+    folded = [line.rsplit(" ", 1) for line in forms.folded(counts).splitlines()]
+    assert sum(int(steps) for _, steps in folded) == counts.steps
+    assert max(len(stack.split(";")) for stack, _ in folded) == run_counts.MOST_FRAMES
+    whole = {row.name: row.whole for row in forms.functions(counts)}
+    assert whole["_start"] == counts.steps and whole["deeper"] < whole["main"]
+    branches = [heap.tree(counts)]
+    for branch in branches:
+        inner = list(branch.outer.values())
+        branches += inner
+        assert not inner or sum(one.bytes for one in inner) == branch.bytes
+    assert branches[0].bytes == counts.peak.bytes and "heap_tree=peak" in heap.massif(counts)
+    covered = forms.coverage(counts, forms.words_of(path.read_bytes()))
+    lines = next(one.lines for file, one in covered.items() if file.endswith("deep.c"))
+    executed = [number for number in sorted(lines) if lines[number]]
+    assert executed == [3, 4, 6, 7, 8, 11, 12, 14, 15], lines
+
+
 @pytest.mark.parametrize("source", PROGRAMS, ids=[path.stem for path in PROGRAMS])
 def test_lines_beside_gcov(alone: pathlib.Path, tmp_path: pathlib.Path,
                            source: pathlib.Path) -> None:
@@ -376,7 +422,7 @@ def test_lines_beside_gcov(alone: pathlib.Path, tmp_path: pathlib.Path,
               for count, number, _ in (line.split(":", 2) for line in lines)
               if count.strip() != "-"}
     counts = run_counts.read_files([tmp_path / "counts"])
-    covered = forms.coverage(counts, {})
+    covered = forms.coverage(counts, forms.words_of(path.read_bytes()))
     mine = next(one.lines for file, one in covered.items() if file.endswith(source.name))
     shared_lines = sorted(theirs.keys() & mine.keys())
     assert {at: theirs[at] for at in shared_lines} == {at: mine[at] > 0 for at in shared_lines}

@@ -16,6 +16,7 @@ from xml.sax.saxutils import quoteattr
 from tombolopan_profile.counts import BYTES, Counts, Line, Place
 
 UNKNOWN = "??"
+JUMP = 0x14000000
 
 
 def file_of(line: Line | None) -> str:
@@ -60,6 +61,11 @@ def draws_tag(word: int) -> bool:
 def is_service(word: int) -> bool:
     """SVC."""
     return word & 0xFFE0001F == 0xD4000001
+
+
+def is_jump(word: int) -> bool:
+    """B."""
+    return word & 0xFC000000 == JUMP
 
 
 def is_conditional(word: int) -> bool:
@@ -173,26 +179,18 @@ class Covered:
     branches: dict[int, list[tuple[int, int]]] = field(default_factory=lambda: defaultdict(list))
 
 
-def executed_lines(counts: Counts, executions: Mapping[int, int]) -> Iterator[tuple[Line, int]]:
+def executed_lines(counts: Counts, words: Mapping[int, int],
+                   executions: Mapping[int, int]) -> Iterator[tuple[Line, int]]:
     """For each place with a line how often its first instruction was executed, since compilers
-    count jumps to the line before them; or where it was not, the first one that was and is no
-    jump: a line as `} else if (..)` begins with a jump from what is above it."""
-    taken = taken_branches(counts)
-    work = sorted(address for address, count in executions.items() if taken[address] != count)
+    count jumps to the line before them; where that is a jump that was not, the first one behind it
+    that is none: a line as `} else if (..)` begins with a jump from what is above it."""
     ends = itertools.chain((start for start, _ in counts.places[1:]), [sys.maxsize])
     for (start, place), end in zip(counts.places, ends, strict=True):
         if place.line:
-            at = bisect.bisect_left(work, start)
-            is_reached = start not in executions and at < len(work) and work[at] < end
-            yield place.line, executions[work[at]] if is_reached else executions.get(start, 0)
-
-
-def taken_branches(counts: Counts) -> Counter[int]:
-    """How often each branch was taken."""
-    taken: Counter[int] = Counter()
-    for (source, _), count in counts.branches.items():
-        taken[source] += count
-    return taken
+            at = start
+            while at not in executions and at + BYTES < end and is_jump(words.get(at, 0)):
+                at += BYTES
+            yield place.line, executions.get(at, 0)
 
 
 def coverage(counts: Counts, words: Mapping[int, int]) -> dict[str, Covered]:
@@ -200,13 +198,15 @@ def coverage(counts: Counts, words: Mapping[int, int]) -> dict[str, Covered]:
     a line that counts which was executed most often."""
     found: dict[str, Covered] = defaultdict(Covered)
     executions = counts.executions()
-    for place_line, count in executed_lines(counts, executions):
+    for place_line, count in executed_lines(counts, words, executions):
         lines = found[file_of(place_line)].lines
         lines[place_line.number] = max(count, lines.get(place_line.number, 0))
     for address, name in counts.functions:
         if line := counts.place_at(address).line:
             found[file_of(line)].functions[name] = line.number, executions.get(address, 0)
-    taken = taken_branches(counts)
+    taken: Counter[int] = Counter()
+    for (source, _), count in counts.branches.items():
+        taken[source] += count
     for address, word in words.items():
         line = counts.place_at(address).line
         if line and is_conditional(word):
@@ -245,9 +245,9 @@ def rate(lines: Iterable[Mapping[int, int]]) -> str:
     return f"{sum(map(hits, several)) / max(1, sum(map(len, several))):.4f}"
 
 
-def cobertura(counts: Counts) -> str:
+def cobertura(counts: Counts, words: Mapping[int, int]) -> str:
     """Cobertura's XML: a class for each source file."""
-    files = sorted(coverage(counts, {}).items())
+    files = sorted(coverage(counts, words).items())
     whole = rate(covered.lines for _, covered in files)
     valid, hit = (sum(len(one.lines) for _, one in files), sum(hits(one.lines) for _, one in files))
     found = ['<?xml version="1.0" ?>',
