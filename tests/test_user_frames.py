@@ -192,24 +192,30 @@ def paths_near_a_library() -> list[tuple[str, bool]]:
     return found
 
 
+def image_of_paths(folder: pathlib.Path, paths: list[str]) -> pathlib.Path:
+    """A program that reads a number, and writes past a chunk in the source of that number."""
+    lines = ['#include "tenant.h"']
+    for at, path in enumerate(paths):
+        lines += [f'#line 1 "{path}"', f"static void use{at}(volatile char *p) {{ *p = 1; }}"]
+    uses = ", ".join(f"use{at}" for at in range(len(paths)))
+    lines += ['#line 1 "main.c"', f"static void (*const uses[])(volatile char *) = {{ {uses} }};",
+              "int main(void) { unsigned char given[2]; tenant_read(given, 2);"
+              " uses[given[0] | given[1] << 8]((char *)tenant_malloc(16) + 16); return 0; }"]
+    (folder / "paths.c").write_text("\n".join(lines) + "\n", encoding="utf-8")
+    for name in ("start.c", "tenant.h"):
+        shutil.copy(EXAMPLES / "c" / name, folder)
+    succeed([*BUILDS["clang-O0"], *FLAGS, "-fdebug-compilation-dir=.", "-o", "paths.elf",
+             "./start.c", "./paths.c"], cwd=folder)
+    return folder / "paths.elf"
+
+
 def test_paths_near_those_of_a_library_are_the_programs(
     alone: pathlib.Path, tmp_path: pathlib.Path
 ) -> None:
     """The user's frame is the innermost one, but where its path is a library's."""
     need("clang", "ld.lld")
     paths = paths_near_a_library()
-    lines = ['#include "tenant.h"']
-    for at, (path, _) in enumerate(paths):
-        lines += [f'#line 1 "{path}"', f"static void use{at}(volatile char *p) {{ *p = 1; }}"]
-    uses = ", ".join(f"use{at}" for at in range(len(paths)))
-    lines += ['#line 1 "main.c"', f"static void (*const uses[])(volatile char *) = {{ {uses} }};",
-              "int main(void) { unsigned char given[2]; tenant_read(given, 2);"
-              " uses[given[0] | given[1] << 8]((char *)tenant_malloc(16) + 16); return 0; }"]
-    (tmp_path / "paths.c").write_text("\n".join(lines) + "\n", encoding="utf-8")
-    for name in ("start.c", "tenant.h"):
-        shutil.copy(EXAMPLES / "c" / name, tmp_path)
-    succeed([*BUILDS["clang-O0"], *FLAGS, "-fdebug-compilation-dir=.", "-o", "paths.elf",
-             "./start.c", "./paths.c"], cwd=tmp_path)
+    image_of_paths(tmp_path, [path for path, _ in paths])
     for at, (path, is_of_library) in enumerate(paths):
         (tmp_path / "input").write_bytes(at.to_bytes(2, "little"))
         run([alone, "--json", "told.json", "--input", "input", "paths.elf"], cwd=tmp_path)
