@@ -9,10 +9,11 @@ from dataclasses import dataclass
 import pytest
 
 from tests.support import asan
-from tests.support.acts import BUILDS, OPTION_BUILDS, PRIMARY, Act, image, primary
+from tests.support.acts import (
+    ABORT, ACTS, BREAKPOINT, BUILDS, FAULT, ILLEGAL, OPTION_BUILDS, PRIMARY, Act, image, primary)
 from tests.support.explained import Explained, run_act
 from tests.support.places import EXAMPLES, IMAGES
-from tests.support.running import succeed
+from tests.support.running import Word, run, succeed
 from tests.support.told import input_file
 from tests.support.tools import need
 
@@ -158,7 +159,8 @@ def test_signal_of_a_core(
 def told_by_packets(alone: pathlib.Path, folder: pathlib.Path, act: Act, build: str) -> Front:
     """A front over an act, which was continued to its end."""
     named = image(act.source, build)
-    front = Front([str(alone), "--gdb", "--input", str(input_file(folder, act.input)), str(named)])
+    words = [str(alone), "--gdb", "--input", str(input_file(folder, act.input)), *act.options]
+    front = Front([*words, str(named)])
     front.stopped = front.ask(b"c")
     return front
 
@@ -191,3 +193,24 @@ def test_gdb_is_told_of_chunks_around_an_address(
         assert "  allocated by call 3, calloc(3, 16) = 0x0100000012000090 by the SVC at " in told
         freed = "  freed by call 16, free(0x0100000012000090) = 0x0000000000000000 by the SVC at "
         assert freed in told
+
+
+# The acts that GDB is told the end of.
+WHYS = [act for act in ACTS
+        if act.first and act.status in (FAULT, ABORT, ILLEGAL, BREAKPOINT)]
+
+
+@pytest.mark.parametrize("source", sorted({act.source for act in WHYS}))
+def test_gdb_is_told_why_as_the_report_has_it(
+    alone: pathlib.Path, tmp_path: pathlib.Path, source: str
+) -> None:
+    """`monitor why` has the report of each end, to the last line: kinds of ends, causes, hints."""
+    for number, act in enumerate(it for it in WHYS if it.source == source):
+        build = act.builds[number % len(act.builds)]
+        front = told_by_packets(alone, tmp_path, act, build)
+        why = front.ask_user("why").decode()
+        front.end()
+        given = input_file(tmp_path, act.input)
+        words: list[Word] = [alone, "--last", "0", "--input", given, *act.options]
+        plain = run([*words, image(source, build)])
+        assert plain.errors.startswith(why) and why.count("\n") > 1, (act, why, plain.errors)

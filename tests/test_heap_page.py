@@ -5,11 +5,13 @@ import hashlib
 import json
 import pathlib
 import re
+from typing import Any
 
 import pytest
 
 from tests.support.browser import Browser
-from tests.support.heap_pages import heap_at_end, plain, read_page, tags_at_end
+from tests.support.heap_pages import (
+    GRANULE, ROW, heap_at_end, plain, read_page, tags_at_end)
 from tests.support.places import EXAMPLES, IMAGES
 from tests.support.running import Word, run
 from tests.support.samples import tenant
@@ -184,6 +186,46 @@ int main(void)
     assert data["made"] == 18_001
     assert [call["number"] for call in data["calls"]] == [1, *range(18_001 - 4_095, 18_002)]
     assert page.stat().st_size < 2_000_000
+
+
+DRAWN = """#include "tenant.h"
+static char *kept[96];
+int main(void)
+{
+    unsigned drawn = SEED;
+    for (int i = 0; i < 900; i++) {
+        drawn = drawn * 1103515245 + 12345;
+        char **at = &kept[(drawn >> 8) % 96];
+        tenant_free(*at);
+        *at = drawn >> 29 ? tenant_malloc((drawn >> 13) % 6000) : 0;
+    }
+    return 0;
+}
+"""
+
+
+def rows_of(call: Any) -> set[int]:
+    """The rows of a heap call: that of a chunk which it freed, and the first eight of one which it
+    made, with the granules in front of it and behind it."""
+    found = {plain(call["ended"]) // ROW * ROW} if "ended" in call else set()
+    if "made" in call:
+        start, size = plain(call["made"]), max(call["size"], 1)
+        first, last = start - GRANULE, start + (size + GRANULE - 1) // GRANULE * GRANULE
+        found |= {row * ROW for row in range(first // ROW, last // ROW + 1)[:8]}
+    return found
+
+
+@pytest.mark.parametrize("seed", range(3))
+def test_rows_are_those_of_the_chunks(alone: pathlib.Path, tmp_path: pathlib.Path, seed: int
+                                      ) -> None:
+    """Those of chunks of drawn sizes, which are made and freed in a drawn order."""
+    image = image_of(tmp_path, "drawn", DRAWN.replace("SEED", str(seed)))
+    page = tmp_path / "drawn.html"
+    assert run([alone, "--html", page, image]).status == 0
+    data = read_page(page).data
+    wanted = set().union(*map(rows_of, data["calls"]))
+    assert 200 < len(wanted) < 1024 and len(data["calls"]) > 1000
+    assert [int(start, 16) for start, _ in data["rows"]] == sorted(wanted)
 
 
 @pytest.mark.parametrize("name", [

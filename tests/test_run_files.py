@@ -96,6 +96,22 @@ def test_files_are_replaced_whole(
     assert {it.name for it in tmp_path.iterdir()} == there and image.read_bytes() == before
 
 
+@pytest.mark.parametrize("option", OUTPUTS)
+def test_files_have_names_of_all_characters(
+    alone: pathlib.Path, tmp_path: pathlib.Path, option: str
+) -> None:
+    """But for / and NUL; of one to four bytes each. Of a folder it is said that it is one."""
+    more: list[Word] = ["--trace"] if option == "--trace-file" else []
+    every = "".join(map(chr, range(1, 128))).replace("/", "")
+    for name in (every, "".join(map(chr, range(0x80, 0xF0))), "größe\u2028\U0001F600", "-x", " "):
+        folder = tmp_path / name
+        folder.mkdir()
+        assert run([alone, *more, option, folder / name, HELLO]).status == 0
+        assert [it.name for it in folder.iterdir()] == [name]
+        ran = run([alone, *more, option, folder, HELLO])
+        assert ran.status == WRITE and ran.errors.endswith(": it is a folder\n"), ran.errors
+
+
 def test_a_trace_that_finds_no_room(alone: pathlib.Path) -> None:
     """The file's name is told where its lines cannot be written."""
     ran = run([alone, "--trace", "--trace-file", "/dev/full", HELLO])

@@ -15,6 +15,7 @@ from tests.support.places import EXAMPLES, IMAGES, ROOT
 from tests.support.running import Word, run, succeed
 from tests.support.samples import COMPILERS, FLAGS, tenant
 from tests.support.tools import need
+from tests.test_checks import image
 
 RULES = {
     "Use After Free": "use-after-free", "Buffer Overflow": "heap-buffer-overflow",
@@ -80,6 +81,18 @@ def test_a_log_says_what_the_report_says(
     lines = re.findall(r"^  #\d+ .* at (\S+)", errors, re.M)
     assert place_of(result["locations"][0]) == next(
         it for it in lines if not it.startswith("tenant.h:"))
+
+
+@pytest.mark.parametrize("place, region", [(1, "global"), (2, "stack"), (3, "heap")])
+@pytest.mark.parametrize("at, direction", [(5, "overflow"), (-4, "underflow")])
+def test_a_rule_is_by_place_and_direction(
+    alone: pathlib.Path, tmp_path: pathlib.Path, place: int, region: str, at: int, direction: str
+) -> None:
+    """A write beyond an array of the image, of the stack and of the heap, at each of its ends."""
+    path = image(tmp_path, "clang-O0", "place_rule.c", f"PLACE={place}", f"AT={at}")
+    log, told, _ = log_of(alone, path, "--check=all,places")
+    assert f"Buffer {direction.title()}, " in told["cause"]
+    assert [it["ruleId"] for it in log["results"]] == [f"{region}-buffer-{direction}"]
 
 
 def test_a_log_of_a_tenant_that_exits(alone: pathlib.Path, tmp_path: pathlib.Path) -> None:

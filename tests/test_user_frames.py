@@ -1,9 +1,12 @@
 """The user's frame: where SARIF, the page and JSON say that something happened is a line of the
 program, whatever library functions it happened in."""
 
+import json
 import pathlib
 import random
 import re
+import shutil
+import string
 from collections.abc import Sequence
 from typing import Any
 
@@ -12,11 +15,13 @@ import pytest
 from tests.support import sarif
 from tests.support.cache import tenant_cxx_library, tenant_library
 from tests.support.heap_pages import read_page
+from tests.support.places import EXAMPLES
 from tests.support.programs import compiled
-from tests.support.running import run
+from tests.support.running import run, succeed
 from tests.support.rust_tenants import build_tenants
+from tests.support.samples import FLAGS
 from tests.support.tools import need
-from tests.test_checks import ARITHMETIC, BUGS, PLACES, UNDEFINED, image
+from tests.test_checks import ARITHMETIC, BUGS, BUILDS, PLACES, UNDEFINED, image
 
 BUGS_OF: dict[str, list[int]] = {
     "pointer_bugs.c": sorted(BUGS), "undefined_bugs.c": sorted(UNDEFINED),
@@ -165,3 +170,55 @@ def test_a_picture_names_the_programs_line(alone: pathlib.Path, tmp_path: pathli
     run([alone, "--check", "--map", map_, "--input", given, path])
     titles = re.findall(r"<title>([^<]*, call \d+, calloc[^<]*)</title>", map_.read_text())
     assert titles and all(f" at {line_of(source, 'made')}" in title for title in titles), titles
+
+
+# What paths of a library's sources begin with, and directories and files that they have anywhere.
+BEGINNINGS = ("musl", "compiler-rt", "llvm", "tenant/src", "tenant/src_cxx", "tenant/arch",
+              "tenant/include", "tenant/out", "/rustc")
+PARTS = ("include_cxx", "include/c++", "include/bits", "ctype.h", "library/core/src",
+         "library/alloc/src", "library/std/src", "tenant.h", "tenant.rs")
+
+
+def paths_near_a_library() -> list[tuple[str, bool]]:
+    """Paths of sources, and whether they are a library's: with its name, and with a name of which
+    one letter is another one, or missing, or added."""
+    source, found = random.Random("paths"), list[tuple[str, bool]]()
+    for name in (*BEGINNINGS, *PARTS):
+        form = "{}/a.c" if name in BEGINNINGS else "own/{}" if "." in name else "own/{}/a.c"
+        letters = [source.choice(string.ascii_letters.replace(it, "")) for it in name]
+        near = [name[:at] + letter + name[at + 1:] for at, letter in enumerate(letters)]
+        near += [name[:-1], f"{name}s", f"s{name}"]
+        found += [(form.format(name), True), *((form.format(it), False) for it in near)]
+    return found
+
+
+def image_of_paths(folder: pathlib.Path, paths: list[str]) -> pathlib.Path:
+    """A program that reads a number, and writes past a chunk in the source of that number."""
+    lines = ['#include "tenant.h"']
+    for at, path in enumerate(paths):
+        lines += [f'#line 1 "{path}"', f"static void use{at}(volatile char *p) {{ *p = 1; }}"]
+    uses = ", ".join(f"use{at}" for at in range(len(paths)))
+    lines += ['#line 1 "main.c"', f"static void (*const uses[])(volatile char *) = {{ {uses} }};",
+              "int main(void) { unsigned char given[2]; tenant_read(given, 2);"
+              " uses[given[0] | given[1] << 8]((char *)tenant_malloc(16) + 16); return 0; }"]
+    (folder / "paths.c").write_text("\n".join(lines) + "\n", encoding="utf-8")
+    for name in ("start.c", "tenant.h"):
+        shutil.copy(EXAMPLES / "c" / name, folder)
+    succeed([*BUILDS["clang-O0"], *FLAGS, "-fdebug-compilation-dir=.", "-o", "paths.elf",
+             "./start.c", "./paths.c"], cwd=folder)
+    return folder / "paths.elf"
+
+
+def test_paths_near_those_of_a_library_are_the_programs(
+    alone: pathlib.Path, tmp_path: pathlib.Path
+) -> None:
+    """The user's frame is the innermost one, but where its path is a library's."""
+    need("clang", "ld.lld")
+    paths = paths_near_a_library()
+    image_of_paths(tmp_path, [path for path, _ in paths])
+    for at, (path, is_of_library) in enumerate(paths):
+        (tmp_path / "input").write_bytes(at.to_bytes(2, "little"))
+        run([alone, "--json", "told.json", "--input", "input", "paths.elf"], cwd=tmp_path)
+        told = json.loads((tmp_path / "told.json").read_text(encoding="utf-8"))
+        frame = told["stack"][told["user"]]
+        assert frame["function"] == ("main" if is_of_library else f"use{at}"), (path, frame)

@@ -91,6 +91,43 @@ def test_a_write_past_an_array_is_told(
             assert is_told or size <= ELEMENT or is_shared, (seed, number, told.errors)
 
 
+# Bytes of an array between two others of a frame, whose places are numbers of one to three bytes.
+APART = sorted({(1 << bits) + more for bits in range(5, 14) for more in (-48, -8, 0, 24)
+                if (1 << bits) + more > ELEMENT} | {12345})
+FAR = """
+static int far{size}(int which)
+{{
+    volatile char low[24], between[{size}], high[40];
+    fill(low, 24 + (which == 0));
+    fill(between, {size} + (which == 1));
+    fill(high, 40 + (which == 2));
+    return low[1] + between[1] + high[1];
+}}
+"""
+
+
+@pytest.mark.parametrize("compiler", sorted(COMPILERS))
+def test_arrays_far_from_one_another_are_told_by_their_names(
+    alone: pathlib.Path, tmp_path: pathlib.Path, compiler: str
+) -> None:
+    """A write past each of three arrays of a frame, over all sizes of that between two others."""
+    head = ("int number_given(void);\nstatic void fill(volatile char *at, int count)\n"
+            "{ for (int i = 0; i < count; i++) at[i] = 1; }\n")
+    listed = ", ".join(f"far{size}" for size in APART)
+    main = (f"static int (*const all[])(int) = {{ {listed} }};\n"
+            "int main(void) { int it = number_given(); return all[it / 3](it % 3) & 0; }\n")
+    text = head + "".join(FAR.format(size=size) for size in APART) + main
+    (tmp_path / "drawn.c").write_text(text, encoding="utf-8")
+    (tmp_path / "given.c").write_text(blocks.GIVEN, encoding="utf-8")
+    path = image(tmp_path, compiler, "-O0", "./given.c")
+    for number in range(3 * len(APART)):
+        size = APART[number // 3]
+        name, count = (("low", 24), ("between", size), ("high", 40))[number % 3]
+        told = check(alone, path, number)
+        wanted = f": Buffer Overflow, 0 bytes right of the {count}-byte variable `{name}` at "
+        assert wanted in told.errors and told.status == 137, (size, name, told.errors)
+
+
 @pytest.mark.parametrize("compiler", sorted(COMPILERS))
 def test_a_use_after_a_block_is_told(
     alone: pathlib.Path, tmp_path: pathlib.Path, compiler: str

@@ -231,10 +231,12 @@ def by_body(path: pathlib.Path, body: Optional[Body], images: pathlib.Path,
     with tempfile.TemporaryDirectory(prefix="body-") as folder:
         programs, right = pathlib.Path(folder) / "built", path.read_bytes()
         link_programs(programs, given, path.name)
+        # Runs write beside the images: each body has images of its own.
+        own = shutil.copytree(images, pathlib.Path(folder) / "images") if body else images
         program = programs / path.name
         program.write_bytes(body.put(right) if body else right)
         program.chmod(0o755)
-        found = by_quick_cases(program, images) if path.name == "mte_run" else None
+        found = by_quick_cases(program, own) if path.name == "mte_run" else None
         if found is None and not given.sample:
             found = by_cases(ROOT, programs, SUITES[path.name])
         if found is None and given.whole:

@@ -26,10 +26,12 @@ def with_sources(folder: pathlib.Path) -> pathlib.Path:
 
 
 def with_images(folder: pathlib.Path) -> pathlib.Path:
-    """The folder, with the sources and the stored images in it."""
+    """The folder, with the sources and the stored images in it. GDB warns of a source that is newer
+    than its image."""
+    with_sources(folder)
     for name in NAMES:
         shutil.copy(STORED / f"{name}.elf", folder)
-    return with_sources(folder)
+    return folder
 
 
 def built(folder: pathlib.Path, name: str) -> bytes:
