@@ -1,7 +1,6 @@
 """The counts of a run in the forms that other tools read. Each function gives a file's text."""
 from __future__ import annotations
 
-import bisect
 import gzip
 import itertools
 import json
