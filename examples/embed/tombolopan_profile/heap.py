@@ -33,7 +33,7 @@ def sites(counts: Counts, number: int) -> list[int]:
 
 @dataclass
 class Branch:
-    """Chunks that were made under one call: their bytes, and the calls that this one was made in."""
+    """Chunks that were made under one call: their bytes, and the calls that it was made in."""
 
     bytes: int = 0
     outer: dict[int, Branch] = field(default_factory=lambda: defaultdict(Branch))
@@ -73,7 +73,7 @@ def tree(counts: Counts) -> Branch:
 
 
 def massif(counts: Counts) -> str:
-    """Massif's format, a step as an instruction: the heap over time, and who held it at the peak."""
+    """Massif's format, a step as an instruction: the heap over time, and its holders at the peak."""
     found = ["desc: --time-unit=i", f"cmd: {counts.image}", "time_unit: i"]
     least = counts.peak.bytes // SHARE
     sizes = {size.step: size.bytes for size in counts.sizes}
