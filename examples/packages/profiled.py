@@ -49,7 +49,7 @@ SCRIPT = "examples/packages/profiled.py"
 FLAGS = "-O0 -g -w"
 READ = 1  # of how many images of a package the tools read the forms
 DRAWN = {"zlib": "minigzip", "lua5.4": "lua"}
-COVERED = "figlet"
+COVERED = "libb64"
 COMPARED = "compared"
 # Keeps the exit status of a program, whose output goes on when it has ended: a closed pipe ends no
 # program, since such an end leaves no counts.
