@@ -14,8 +14,9 @@ with the most steps.
 A line of the package's sources that one has and the other has not, or that one says was executed
 and the other that it was not, counts by a reason (gcov_lines.py). A line says what came of each
 package; FOLDER keeps copies and results. `--write` writes pictures of zlib and Lua into
-docs/pictures and a part of docs/PROFILING.md. The exit status is 1 where something is wrong, or a
-line differs without a reason. Needed beside what packages.py needs: llvm, lcov, valgrind, golang.
+docs/pictures, and parts of docs/PROFILING.md and docs/project/PACKAGES.md. The exit status is 1
+where something is wrong, or a line differs without a reason. Needed beside what packages.py needs:
+gcc, llvm, lcov, valgrind, golang.
 """
 import argparse
 import concurrent.futures
@@ -43,11 +44,12 @@ from tombolopan_profile import flame, forms  # noqa: E402
 
 ROOT = HERE.parents[1]
 PAGE, PICTURES = ROOT / "docs" / "PROFILING.md", ROOT / "docs" / "pictures"
+REASONS = ROOT / "docs" / "project" / "PACKAGES.md"
 SCRIPT = "examples/packages/profiled.py"
 FLAGS = "-O0 -g -w"
 READ = 1  # of how many images of a package the tools read the forms
 DRAWN = {"zlib": "minigzip", "lua5.4": "lua"}
-COVERED = "zlib"
+COVERED = "libb64"
 COMPARED = "compared"
 # Keeps the exit status of a program, whose output goes on when it has ended: a closed pipe ends no
 # program, since such an end leaves no counts.
@@ -208,29 +210,27 @@ def coverage_rows(result: Result) -> str:
     return "| File | Lines executed | |\n|---|---|---|\n" + "".join(rows)
 
 
-def part(place: packages.Place) -> str:
-    """What the page has: pictures, the coverage of a package, and what was compared."""
-    results = kept(place)
+def compared_rows(results: list[Result]) -> str:
+    """How many lines of packages differ, by the reasons."""
     reasons = sum((Counter(it.reasons) for it in results), Counter[str]())
+    rows = [*reasons.most_common(), ("no reason", sum(len(it.unexplained) for it in results))]
     last = max(results, key=lambda it: it.date)
-    pictures = "".join(f"![Steps of {program} by calls](pictures/profile_{program}.svg)\n\n"
-                       for program in DRAWN.values())
-    rows = "".join(f"| {reason} | {count} |\n" for reason, count in reasons.most_common())
-    covered = coverage_rows(next(it for it in results if it.name == COVERED))
-    return (f"{pictures}The commands of {COVERED} in docs/project/PACKAGES.md cover:\n\n{covered}\n"
-            f"Of {len(results)} packages at -O0 {sum(it.lines for it in results):,} lines were "
-            f"compared with gcov of native builds ({last.date}, {last.build}). "
-            f"{sum(reasons.values()):,} differ by these reasons, "
-            f"{sum(len(it.unexplained) for it in results)} without one:\n\n"
-            f"| Reason | Lines |\n|---|---|\n{rows}")
+    return (f"Of {len(results)} packages {sum(it.lines for it in results):,} lines were compared "
+            f"({last.date}, {last.build}):\n\n| Lines that differ | |\n|---|---|\n"
+            + "".join(f"| {reason} | {count} |\n" for reason, count in rows))
 
 
 def write(place: packages.Place) -> None:
-    """Writes the pictures and the part of the page."""
+    """Writes the pictures and the parts of both pages."""
+    results = kept(place)
     for package, program in DRAWN.items():
         picture = place.out / "profiled" / package / f"{program}.svg"
         shutil.copyfile(picture, PICTURES / f"profile_{program}.svg")
-    write_part(PAGE, SCRIPT, part(place))
+    pictures = "".join(f"![Steps of {program} by calls](pictures/profile_{program}.svg)\n\n"
+                       for program in DRAWN.values())
+    covered = next(it for it in results if it.name == COVERED)
+    write_part(PAGE, SCRIPT, f"{pictures}{COVERED} by its commands:\n\n{coverage_rows(covered)}")
+    write_part(REASONS, SCRIPT, compared_rows(results))
 
 
 def main() -> int:

@@ -1,7 +1,6 @@
 """The counts of a run in the forms that other tools read. Each function gives a file's text."""
 from __future__ import annotations
 
-import bisect
 import gzip
 import itertools
 import json
@@ -66,6 +65,11 @@ def is_service(word: int) -> bool:
 def is_jump(word: int) -> bool:
     """B."""
     return word & 0xFC000000 == JUMP
+
+
+def is_constant(word: int) -> bool:
+    """An instruction on an immediate value, or a MOV of a register."""
+    return word & 0x1C000000 == 0x10000000 or word & 0x7FE0FFE0 == 0x2A0003E0
 
 
 def is_conditional(word: int) -> bool:
@@ -183,14 +187,17 @@ def executed_lines(counts: Counts, words: Mapping[int, int],
                    executions: Mapping[int, int]) -> Iterator[tuple[Line, int]]:
     """For each place with a line how often its first instruction was executed, since compilers
     count jumps to the line before them; where that is a jump that was not, the first one behind it
-    that is none: a line as `} else if (..)` begins with a jump from what is above it."""
+    that is no jump: a line as `} else if (..)` begins with a jump from what is above it. Constants
+    behind a jump may be those of another line, without a place of their own."""
     ends = itertools.chain((start for start, _ in counts.places[1:]), [sys.maxsize])
     for (start, place), end in zip(counts.places, ends, strict=True):
         if place.line:
-            at = start
-            while at not in executions and at + BYTES < end and is_jump(words.get(at, 0)):
+            at, word = start, words.get(start, 0)
+            is_passed = start not in executions and is_jump(word)
+            while is_passed and at < end and (is_jump(word) or is_constant(word)):
                 at += BYTES
-            yield place.line, executions.get(at, 0)
+                word = words.get(at, 0)
+            yield place.line, executions.get(at, 0) if at < end else 0
 
 
 def coverage(counts: Counts, words: Mapping[int, int]) -> dict[str, Covered]:
