@@ -528,9 +528,9 @@ uint32_t tb_fuzz_new(const tb_terms *terms, tb_fuzz *fuzz, tb_alone_end *end);
  * `run`: it does what the tenant would do that is started anew with that input and does the setup
  * with none read. Only pages that were written since are copied.
  * Each branch that is taken, and each conditional one that is not, adds one to a count of `map`,
- * whose place is a hash of the two addresses; the map is otherwise left as it is. What comes behind 255, `run` says. The run is the
- * same whatever the map holds. The counts stay in `map`: clear it before a run if it is to have
- * those of that run alone.
+ * whose place is a hash of the two addresses; the map is otherwise left as it is. What comes behind
+ * 255, `run` says. The run is the same whatever the map holds. The counts stay in `map`: clear it
+ * before a run if it is to have those of that run alone.
  * `end` has all steps, those of the setup too, as tb_alone tells them. TB_NO_MACHINE where `fuzz`
  * holds none. TB_BAD_ARGUMENT, where `map_length` is no power of two from 256 to 65536, and
  * TB_OUT_OF_MEMORY change nothing but `end`.

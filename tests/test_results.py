@@ -43,8 +43,9 @@ def test_tenants_beside_mte_run(host: pathlib.Path, alone: pathlib.Path, tmp_pat
     for number, act in enumerate(ACTS):
         given.write_text(act)
         mode = " async" if number % 2 else ""
-        script.write_text(f"admit 7 image 1 input 2 {TERMS}{mode}\nadmit 7 image 1 input 2 {TERMS}\n"
-                          f"slice 7 1048576\nslice 7 {number}\n" + "stop 7\n" * (number % 3))
+        admit = f"admit 7 image 1 input 2 {TERMS}"
+        script.write_text(f"{admit}{mode}\n{admit}\nslice 7 1048576\nslice 7 {number}\n"
+                          + "stop 7\n" * (number % 3))
         report = run([host, "--frames", "1000", script, image, given]).out
         tenant, = tenants_of(report)
         ran = run([alone, "--script", script, "7", "--frames", "1000", "--raw-output", "--json",
@@ -69,7 +70,8 @@ def test_the_schema_has_all(host: pathlib.Path, shared: pathlib.Path) -> None:
     need_schemas()
     told = told_of_all(host, shared)
     assert told["format"] == "tombolopan results 1"
-    kinds = {tenant["status"]["kind"] for it in told["sessions"] for tenant in it.get("tenants", ())}
+    tenants = [tenant for it in told["sessions"] for tenant in it.get("tenants", ())]
+    kinds = {tenant["status"]["kind"] for tenant in tenants}
     assert {"exit", "fault", "running", "stopped"} <= kinds, kinds
     assert any(it.get("refused") for it in told["sessions"])
 

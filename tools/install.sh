@@ -145,7 +145,7 @@ put_examples() {
         xargs -0 cp --parents -t "$stage/share/tombolopan")
     chmod -R u=rwX,go=rX "$stage/share/tombolopan/examples"
     put share/tombolopan/tools/a64 "$top/tools/a64/__init__.py" "$top/tools/a64/table.py"
-    put share/tombolopan/tools/batch "$top"/tools/batch/*.{py,json}
+    put share/tombolopan/tools/batch "$top"/tools/batch/*.py "$top"/tools/batch/*.json
     put share/tombolopan/isa "$top/isa/a64.rows" "$top/isa/a64.forms"
     ln -s ../share/tombolopan/examples/why.sh "$stage/bin/mte_why"
     # The examples find the programs as in a checkout.

@@ -18,7 +18,6 @@ docs/pictures, and parts of docs/PROFILING.md and docs/project/PACKAGES.md. The 
 where something is wrong, or a line differs without a reason. Needed beside what packages.py needs:
 gcc, llvm, lcov, valgrind, golang.
 """
-import argparse
 import concurrent.futures
 import datetime
 import functools
@@ -205,7 +204,7 @@ def kept(place: packages.Place) -> list[Result]:
 
 def coverage_rows(result: Result) -> str:
     """The coverage of a package's files."""
-    rows = [f"| {name} | {hit} of {lines} | {100 * hit / lines:.1f} % |\n"
+    rows = [f"| {pathlib.PurePath(name).name} | {hit} of {lines} | {100 * hit / lines:.1f} % |\n"
             for name, (lines, hit) in result.files.items()]
     return "| File | Lines executed | |\n|---|---|---|\n" + "".join(rows)
 

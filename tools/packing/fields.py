@@ -79,10 +79,10 @@ def control(package: Package, values: dict[str, str], kilobytes: int) -> str:
 # Python keeps what it compiled beside modules, which no list of files has.
 CLEAN = """#!/bin/sh
 set -e
-find "${{DPKG_ROOT:-}}{folder}" -type d -name __pycache__ -prune \\
+find "${{DPKG_ROOT:-}}"{folder} -type d -name __pycache__ -prune \\
     -exec rm -rf {{}} + 2>/dev/null || true
 """
-MODULES = "/usr/lib/python3/dist-packages/tombolopan"
+MODULES = "/usr/lib/python3/dist-packages/tombolopan*"
 COMPILE_MODULE = """#!/bin/sh
 set -e
 if [ "$1" = configure ] && [ -z "${DPKG_ROOT:-}" ] && command -v py3compile >/dev/null 2>&1; then
