@@ -22,7 +22,7 @@ NOT_RUN = {
     r"(^|/)check\.sh$|^make check$": "takes minutes; the tests of its folder do the same",
     r"(^|/)build\.sh .*\.rs$": "builds Rust's core, for minutes; the tests of examples/rust run it",
     r"cargo\.sh run ": "builds Rust's core too; the tests of examples/rust run it",
-    r"/(packages|compilers|suites)\.py ":
+    r"/(packages|profiled|compilers|suites)\.py ":
         "builds what others wrote, for minutes; tests/test_packages.py runs a sample",
     r" out/mine\.elf$": "runs what the command before it builds",
 }
