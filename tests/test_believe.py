@@ -237,7 +237,7 @@ def test_a_printed_closure() -> None:
     for text in ("ensures free { FreedBlocksAreFree }", "crates/mte_tags/specs/Memory.antt: ",
                  "  skip ", "types and constants of the code:", "words of the kit:"):
         assert text in told
-    assert "it rests on the proof of `heap_laws`" in told
+    assert "it rests on the proof of `mte_laws`" in told
     assert "what it does not say: It holds of a careful run" in told
     assert believe("chunks_are_guarded", "pages").status == 1
     assert "0 public functions" in believe("no_such_law").errors
@@ -277,7 +277,7 @@ def keeps_to(bound: Bound, cells: list[str]) -> bool:
 def test_laws_of_the_heap(checkout: Repository) -> None:
     """Each public law of the heap that theorems.toml lists has a row of its own on the page and a
     bound, and each of its bounds a row that keeps to it."""
-    laws = {it.called for it in checkout.functions() if it.crate == "heap_laws" and it.is_public}
+    laws = {it.called for it in checkout.functions() if it.crate == "mte_laws" and it.is_public}
     listed = [it for it in read_page().theorems if it.name in laws]
     rows = rows_of_the_page()
     assert len(listed) >= 24
@@ -338,10 +338,10 @@ def test_a_verdict_of_other_sources(tmp_path: pathlib.Path) -> None:
     """A law more than a verdict counts is found, and so is one less: the file's last, which the
     page does not list."""
     root = copy_read_files(tmp_path)
-    path = root / "crates/heap_laws/src/laws.rt"
+    path = root / "crates/mte_laws/src/laws.rt"
     text = path.read_text(encoding="utf-8")
     another = "\n/// Another.\npub fn another()\n    ensures { NewChunksAreZero }\n{}\n"
     for changed in (text + another, text[:text.rindex("\n///")]):
         path.write_text(changed, encoding="utf-8")
         ran = believe("--root", str(root), "--check")
-        assert ran.status == 1 and "the verdict of heap_laws is of" in ran.errors
+        assert ran.status == 1 and "the verdict of mte_laws is of" in ran.errors

@@ -95,11 +95,11 @@ WRONG = wrong_definitions.read_data()
 @pytest.mark.parametrize("wrong", WRONG, ids=[wrong.name for wrong in WRONG])
 def test_a_wrong_definition_is_of_what_is_there(
         wrong: wrong_definitions.WrongDefinition, tmp_path: pathlib.Path) -> None:
-    """What it changes is there once, and its laws are those of its crate that name no tenant."""
+    """What it changes is there once, and its laws name no tenant, but those of sessions."""
     for file, old, _ in wrong.changes:
         assert (ROOT / file).read_text(encoding="utf-8").count(old) == 1
-    if wrong.crate == wrong_definitions.LAWS:
-        laws = wrong_definitions.copy_laws(ROOT / "crates" / wrong.crate, tmp_path)
+    if not wrong.of_sessions:
+        laws = wrong_definitions.copy_laws(ROOT / "crates" / wrong_definitions.LAWS, tmp_path)
         assert set(wrong.laws) <= set(laws) and "careful_tenants_are_sound" not in laws
     row = ", ".join(f"`{law}`" for law in wrong.laws)
     page = (ROOT / "docs/project/CHECKED.md").read_text(encoding="utf-8")

@@ -10,10 +10,10 @@
 A contract asks that code and definition agree; so a mistake in both, made alike, meets it. What is
 left are the laws of the definitions. tools/wrong_definitions.toml has the mistakes.
 
-The laws of a state are those of `heap_laws` that name no tenant. They are copied, with what their
+The laws of a state are those of `mte_laws` that name no tenant. They are copied, with what their
 statements and proofs need, and checked over `scudo_heap`, and the crates that an edit changes, as
 sources. Their code is not proved anew. The libraries below have to be in crates/*/out, as
-`rt ci heap_laws` leaves them.
+`rt ci mte_laws` leaves them.
 """
 import argparse
 import pathlib
@@ -31,7 +31,7 @@ from closures import pages
 from static_library import ROOT, kit
 
 DATA = ROOT / "tools/wrong_definitions.toml"
-LAWS = "heap_laws"
+LAWS = "mte_laws"
 KIT_CRATES = ("arrayvec", "byteorder", "circular_buffer", "hex", "itoa", "thiserror")
 # The crates that the laws of a state are about, lowest first.
 CRATES = ("common", "a64_bits", "mte_tags", "scudo_header", "scudo_primary",
@@ -42,12 +42,12 @@ FUNCTION = re.compile(r"((?:^///.*\n)+)^pub fn (\w+)\(\)\n((?:.*\n)*?)\{\}\n", r
 
 
 class WrongDefinition(NamedTuple):
-    """A mistake in definitions: what it shows, the laws that must refuse it and their crate, the
-    changes of files, and those of all proofs."""
+    """A mistake in definitions: what it shows, whether laws of sessions refuse it, the laws that
+    must refuse it, the changes of files, and those of all proofs."""
 
     name: str
     shows: str
-    crate: str
+    of_sessions: bool
     laws: list[str]
     changes: list[list[str]]
     proofs: list[list[str]]
@@ -60,8 +60,8 @@ class WrongDefinition(NamedTuple):
 def read_data() -> list[WrongDefinition]:
     """All wrong definitions."""
     data = tomllib.loads(DATA.read_text(encoding="utf-8"))
-    return [WrongDefinition(name, it["shows"], it.get("crate", LAWS), it["laws"], it["changes"],
-                            it.get("proofs", []))
+    return [WrongDefinition(name, it["shows"], it.get("sessions", False), it["laws"],
+                            it["changes"], it.get("proofs", []))
             for name, it in data.items()]
 
 
@@ -151,18 +151,18 @@ def change_files(wrong: WrongDefinition, folder: pathlib.Path) -> None:
         path.write_text(text, encoding="utf-8")
 
 
-def crates_under(laws: str) -> list[str]:
-    """The crates that laws are about, lowest first."""
-    if laws == LAWS:
+def crates_under(of_sessions: bool) -> list[str]:
+    """The crates that laws of a state, or of sessions, are about, lowest first."""
+    if not of_sessions:
         return list(CRATES)
     listed = pages.read_crates(ROOT)
     seen: set[str] = set()
-    left = [laws]
+    left = [LAWS]
     while left:
         name = left.pop()
         left += [it for it in listed.get(name, []) if it not in seen]
         seen.add(name)
-    return [name for name in listed if name in seen - {laws}]
+    return [name for name in listed if name in seen - {LAWS}]
 
 
 def copied_crates(wrong: WrongDefinition | None, under: list[str]) -> list[str]:
@@ -171,16 +171,16 @@ def copied_crates(wrong: WrongDefinition | None, under: list[str]) -> list[str]:
     return under[min(under.index(name) for name in under if name in changed):]
 
 
-def words_of(folder: pathlib.Path, laws: str, sources: Iterable[str]) -> list[str]:
+def words_of(folder: pathlib.Path, of_sessions: bool, sources: Iterable[str]) -> list[str]:
     """The command that checks the laws in a folder over sources and libraries."""
     tools = kit()
-    words = [f"{tools}/bin/rattle", "check", "--crate-name", laws, "src/lib.rt",
+    words = [f"{tools}/bin/rattle", "check", "--crate-name", LAWS, "src/lib.rt",
              "--extern", f"std={tools}/rlibs/std.rlib", "-L", f"dependency={tools}/rlibs"]
-    if laws != LAWS:
+    if of_sessions:
         for name in KIT_CRATES:
             words += ["--extern", f"{name}={tools}/rlibs/{name}.rlib"]
     given = set(sources)
-    for name in crates_under(laws):
+    for name in crates_under(of_sessions):
         library = ROOT / "crates" / name / "out/rlib"
         words += ["-L", f"dependency={library}"]
         words += (["--lib", f"{name}={folder / name}/src/lib.rt"] if name in given
@@ -199,19 +199,20 @@ class Answer(NamedTuple):
 
 def check(folder: pathlib.Path, wrong: WrongDefinition | None, has_all: bool) -> Answer:
     """Checks the laws of a state, or those that are named, over a wrong definition."""
-    crate = wrong.crate if wrong else LAWS
-    sources = copied_crates(wrong, crates_under(crate))
-    for name in [*sources, *[crate] * (crate != LAWS)]:
+    of_sessions = wrong is not None and wrong.of_sessions
+    sources = copied_crates(wrong, crates_under(of_sessions))
+    for name in [*sources, *[LAWS] * of_sessions]:
         for part in ("src", "specs", "proofs"):
             if (ROOT / "crates" / name / part).is_dir():
                 shutil.copytree(ROOT / "crates" / name / part, folder / name / part)
-    laws = copy_laws(ROOT / "crates" / LAWS, folder / LAWS) if crate == LAWS else []
+    laws = [] if of_sessions else copy_laws(ROOT / "crates" / LAWS, folder / LAWS)
     only = wrong.laws if wrong and not (has_all and laws) else []
     if wrong:
         change_files(wrong, folder)
     began = time.monotonic()
-    words = words_of(folder, crate, sources) + [word for name in only for word in ("--only", name)]
-    ran = subprocess.run(words, cwd=folder / crate, text=True, stdout=subprocess.PIPE,
+    words = words_of(folder, of_sessions, sources)
+    words += [word for name in only for word in ("--only", name)]
+    ran = subprocess.run(words, cwd=folder / LAWS, text=True, stdout=subprocess.PIPE,
                          stderr=subprocess.STDOUT, check=False)
     proved = set(re.findall(r"^fn (?:\w+::)*(\w+): proved", ran.stdout, re.M))
     return Answer([it for it in only or laws if it not in proved], time.monotonic() - began,

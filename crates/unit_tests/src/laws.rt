@@ -4,22 +4,22 @@ use a64_decode::{words_are_unique, words_mean};
 use a64_run::known_words_stay;
 use a64_step::{steps_keep_fixed_pages, steps_keep_tag_mode, steps_keep_tags};
 use common::{limits_in_digits, ranges_in_digits};
-use heap_laws::{
-    allowed_tags_are_drawn, careful_runs_are_sound, careful_tenants_are_sound,
+use mte_elf::loading_keeps_memories_whole;
+use mte_frames::others_are_kept;
+use mte_laws::{
+    accepted_alone, allowed_tags_are_drawn, careful_runs_are_sound, careful_tenants_are_sound,
     changed_headers_are_refused, chunks_are_apart, chunks_are_guarded, chunks_are_tagged,
     chunks_may_be_used, chunks_of_tenants_are_guarded, chunks_of_tenants_may_be_used,
-    double_frees_abort, freed_chunks_are_refused, freed_chunks_are_zero,
+    decisions_need_no_steps, double_frees_abort, freed_chunks_are_refused, freed_chunks_are_zero,
     freed_chunks_of_tenants_are_refused, freed_chunks_stay_freed, freed_headers_stay,
     freed_pages_are_refused, freed_pages_of_tenants_are_refused, freed_tags_differ,
     grown_granules_are_zero, large_chunks_are_guarded, large_double_frees_abort,
-    lifetimes_are_guarded, mallocs_are_answered, neighbours_differ, new_chunks_are_live,
-    new_chunks_are_zero, new_tags_differ, odd_distances_differ, other_chunks_stay,
-    other_tags_are_refused, reallocations_free, reallocations_keep_bytes,
-    refused_calls_change_nothing, reused_tags_differ, reused_tags_of_tenants_differ,
-    services_are_calls, stale_calls_are_served, tenants_take_turns,
+    lifetimes_are_guarded, lines_may_be_left_out, mallocs_are_answered, neighbours_differ,
+    new_chunks_are_live, new_chunks_are_zero, new_tags_differ, odd_distances_differ,
+    other_chunks_stay, other_tags_are_refused, reallocations_free, reallocations_keep_bytes,
+    refused_calls_change_nothing, report_in_parts, reused_tags_differ,
+    reused_tags_of_tenants_differ, services_are_calls, stale_calls_are_served, tenants_take_turns,
 };
-use mte_elf::loading_keeps_memories_whole;
-use mte_frames::others_are_kept;
 use mte_sched::{
     behaviours_are_alone, behaviours_are_isolated, flag_is_clear, ledger_follows,
     live_limit_in_digits, slices_are_bounded, tenants_are_alone, tenants_are_isolated,
@@ -34,9 +34,6 @@ use mte_translate::{
 use scudo_heap::{
     accesses_keep_the_condition, calls_keep_other_pages, calls_keep_the_condition,
     condition_of_calls, settings_in_digits,
-};
-use session_parts::{
-    accepted_alone, decisions_need_no_steps, lines_may_be_left_out, report_in_parts,
 };
 use tombolopan::steps_without_access_keep_memory;
 

@@ -1,5 +1,0 @@
-use Rattle.heap_laws.proofs.Clearing.{freed-zero}
-use Rattle.heap_laws.proofs.call_laws.freed_chunks_are_zero.Goals as goal
-
-pub returns : goal.returns
-returns c = freed-zero

@@ -1,5 +1,0 @@
-use Rattle.heap_laws.proofs.Clearing.{grown-zero}
-use Rattle.heap_laws.proofs.call_laws.grown_granules_are_zero.Goals as goal
-
-pub returns : goal.returns
-returns c = grown-zero

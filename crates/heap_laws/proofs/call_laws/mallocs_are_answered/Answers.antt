@@ -1,5 +1,0 @@
-use Rattle.heap_laws.proofs.Requests.{answered}
-use Rattle.heap_laws.proofs.call_laws.mallocs_are_answered.Goals as goal
-
-pub returns : goal.returns
-returns c = answered

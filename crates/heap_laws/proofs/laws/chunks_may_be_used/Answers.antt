@@ -1,5 +1,0 @@
-use Rattle.heap_laws.proofs.Uses.{chunks-usable}
-use Rattle.heap_laws.proofs.laws.chunks_may_be_used.Goals as goal
-
-pub returns : goal.returns
-returns c = chunks-usable

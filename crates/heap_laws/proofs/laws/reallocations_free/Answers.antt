@@ -1,8 +1,0 @@
-use Rattle.heap_laws.proofs.Reallocs.{realloc-frees, realloc-unmaps}
-use Rattle.heap_laws.proofs.laws.reallocations_free.Goals as goal
-
-pub returns-clause-blocks : goal.returns-clause-blocks
-returns-clause-blocks c = realloc-frees
-
-pub returns-clause-pages : goal.returns-clause-pages
-returns-clause-pages c = realloc-unmaps

@@ -1,5 +1,0 @@
-use Rattle.heap_laws.proofs.Disciplines.{apart}
-use Rattle.heap_laws.proofs.tag_laws.chunks_are_apart.Goals as goal
-
-pub returns : goal.returns
-returns c = apart

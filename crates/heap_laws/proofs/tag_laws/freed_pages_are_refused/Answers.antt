@@ -1,5 +1,0 @@
-use Rattle.heap_laws.proofs.Disciplines.{freed-pages-refused}
-use Rattle.heap_laws.proofs.tag_laws.freed_pages_are_refused.Goals as goal
-
-pub returns : goal.returns
-returns c = freed-pages-refused

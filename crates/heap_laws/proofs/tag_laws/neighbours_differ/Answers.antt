@@ -1,5 +1,0 @@
-use Rattle.heap_laws.proofs.Disciplines.{neighbours}
-use Rattle.heap_laws.proofs.tag_laws.neighbours_differ.Goals as goal
-
-pub returns : goal.returns
-returns c = neighbours

@@ -1,5 +1,0 @@
-use Rattle.heap_laws.proofs.Disciplines.{fresh}
-use Rattle.heap_laws.proofs.tag_laws.new_tags_differ.Goals as goal
-
-pub returns : goal.returns
-returns c = fresh

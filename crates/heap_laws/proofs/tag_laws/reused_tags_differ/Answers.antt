@@ -1,5 +1,0 @@
-use Rattle.heap_laws.proofs.Disciplines.{reused-differ}
-use Rattle.heap_laws.proofs.tag_laws.reused_tags_differ.Goals as goal
-
-pub returns : goal.returns
-returns c = reused-differ

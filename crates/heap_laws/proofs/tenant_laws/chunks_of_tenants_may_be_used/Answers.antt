@@ -1,5 +1,0 @@
-use Rattle.heap_laws.proofs.TenantCalls.{chunks-of-tenants-usable}
-use Rattle.heap_laws.proofs.tenant_laws.chunks_of_tenants_may_be_used.Goals as goal
-
-pub returns : goal.returns
-returns c = chunks-of-tenants-usable

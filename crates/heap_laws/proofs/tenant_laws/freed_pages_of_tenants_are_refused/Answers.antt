@@ -1,5 +1,0 @@
-use Rattle.heap_laws.proofs.Sessions.{pages-in-session}
-use Rattle.heap_laws.proofs.tenant_laws.freed_pages_of_tenants_are_refused.Goals as goal
-
-pub returns : goal.returns
-returns c = pages-in-session
