@@ -6,8 +6,8 @@
  * All memory is the caller's and is lent to each call: files, an array of places for pages, the tag
  * state, the registers. The library keeps nothing between calls but the machine that tb_fuzz_new
  * makes and tb_fuzz_free frees (tb_fuzz), and only these, tb_fuzz_run, tb_fuzz_run_exact,
- * tb_session, tb_alone, tb_machine_acts, tb_machine_pages, tb_heap_calls, tb_heap_replay,
- * tb_heap_pages and tb_heap_live allocate, the last eight for their own time. So the caller may
+ * tb_fuzz_run_compared, tb_session, tb_alone, tb_machine_acts, tb_machine_pages, tb_heap_calls,
+ * tb_heap_replay, tb_heap_pages and tb_heap_live allocate, the last eight for their own time. So the caller may
  * read and write all that it lends between calls, copy it, or place it in a file. Every content has
  * a meaning:
  *
@@ -164,6 +164,20 @@ enum tb_trespass {
     TB_PAST_SIZE = 1, /* it goes past the size of a live chunk, in its last granule */
     TB_FREED = 2,     /* it touches a chunk that was freed */
     TB_NO_CHUNK = 3   /* it touches bytes of the heap that are no chunk's */
+};
+
+/* What compared two numbers, or texts (tb_comparison); 0 where nothing is entered. */
+enum tb_compared {
+    TB_COMPARED_SUBS = 1,    /* CMP, SUBS: both operands */
+    TB_COMPARED_ADDS = 2,    /* CMN, ADDS: the first one with the second one's negative */
+    TB_COMPARED_ANDS = 3,    /* TST, ANDS: the bits of the first that the second one has */
+    TB_COMPARED_CCMP = 4,    /* CCMP whose condition holds, as CMP */
+    TB_COMPARED_CCMN = 5,    /* CCMN whose condition holds, as CMN */
+    TB_COMPARED_CBZ = 6,     /* CBZ, CBNZ: a register with 0 */
+    TB_COMPARED_TBZ = 7,     /* TBZ, TBNZ: the bit of the first that the second one has */
+    TB_COMPARED_SUB_CBZ = 8, /* the operands of SUB, by CBZ or CBNZ right after it */
+    TB_COMPARED_EOR_CBZ = 9, /* the operands of EOR, by CBZ or CBNZ right after it */
+    TB_COMPARED_CALL = 10    /* a function that compares texts was called, or jumped to */
 };
 
 // End of what tools/border.py writes.
@@ -333,6 +347,25 @@ typedef struct tb_fuzz_finding {
     uint32_t unused;  /* 0 */
 } tb_fuzz_finding;
 
+/* What an instruction compared, or with what a function that compares texts was called. */
+typedef struct tb_comparison {
+    uint64_t step;   /* the number of the instruction among those of the run, from 1 */
+    uint64_t pc;     /* the address of the instruction */
+    uint64_t left;   /* the first operand; of a call the first argument */
+    uint64_t right;  /* the second operand; of a call the second argument */
+    uint64_t length; /* of a call the third argument; else 0 */
+    uint32_t kind;   /* tb_compared; 0 where nothing is entered */
+    uint32_t width;  /* the bytes of an operand, 4 or 8; of a call its place in `functions` */
+} tb_comparison;
+
+/* What is lent for the comparisons of a run. */
+typedef struct tb_comparisons {
+    const uint64_t *functions; /* the addresses of functions that compare texts, as memcmp does */
+    size_t function_count;
+    tb_comparison *entries;
+    size_t entry_count; /* a power of two from 256 to 65536 */
+} tb_comparisons;
+
 /*
  * A heap call in a list, whose arguments may be the answers of earlier ones: `first_of` and
  * `second_of` are 0, or the number of an earlier call of the list, from 1 on, whose answer is added
@@ -476,6 +509,8 @@ TB_ASSERT(sizeof(tb_page_entry) == 16 && offsetof(tb_page_entry, attrs) == 8);
 TB_ASSERT(sizeof(tb_fuzz) == 8);
 TB_ASSERT(sizeof(tb_fuzz_input) == 40 && offsetof(tb_fuzz_input, saturating) == 32);
 TB_ASSERT(sizeof(tb_fuzz_finding) == 56 && offsetof(tb_fuzz_finding, kind) == 40);
+TB_ASSERT(sizeof(tb_comparison) == 48 && offsetof(tb_comparison, kind) == 40);
+TB_ASSERT(sizeof(tb_comparisons) == 32 && offsetof(tb_comparisons, entries) == 16);
 
 /* The version of these layouts and calls, TB_VERSION. */
 uint32_t tb_version(void);
@@ -548,6 +583,23 @@ uint32_t tb_fuzz_run(tb_fuzz *fuzz, const tb_fuzz_input *run, uint8_t *map, size
  */
 uint32_t tb_fuzz_run_exact(tb_fuzz *fuzz, const tb_fuzz_input *run, uint8_t *map,
                            size_t map_length, tb_alone_end *end, tb_fuzz_finding *finding);
+
+/*
+ * Does what tb_fuzz_run does, and enters what the instructions of the run compare, and calls of the
+ * functions that are lent. It leaves the same machine, the same counts and the same `end`. An
+ * address has eight places, of which the operands choose one: what comes last stays there, and so
+ * does what an earlier run entered, unless the caller clears it. Operands of 4 bytes have zeros
+ * above. Of a call, tb_fuzz_read has the texts. TB_BAD_ARGUMENT also where `entry_count` may not
+ * be; entries change only with TB_OK.
+ */
+uint32_t tb_fuzz_run_compared(tb_fuzz *fuzz, const tb_fuzz_input *run, uint8_t *map,
+                              size_t map_length, tb_comparisons *compared, tb_alone_end *end);
+
+/*
+ * Copies bytes out of the memory of the machine as its last run left it: out of pages with READ,
+ * whatever the tags. TB_FAULT, and TB_NO_MACHINE, leave the buffer as it was.
+ */
+uint32_t tb_fuzz_read(tb_fuzz *fuzz, uint64_t addr, uint8_t *buffer, size_t length);
 
 /* Frees the machine, if there is one; then `fuzz` holds none. */
 void tb_fuzz_free(tb_fuzz *fuzz);
@@ -1122,6 +1174,24 @@ static inline const char *tb_trespass_name(uint32_t kind) {
     case TB_PAST_SIZE: return "PastSize";
     case TB_FREED: return "Freed";
     case TB_NO_CHUNK: return "NoChunk";
+    default: return "unknown";
+    }
+}
+
+/* The name of a tb_compared; "none" for 0. The text stays. */
+static inline const char *tb_comparison_name(uint32_t kind) {
+    switch (kind) {
+    case 0: return "none";
+    case TB_COMPARED_SUBS: return "subs";
+    case TB_COMPARED_ADDS: return "adds";
+    case TB_COMPARED_ANDS: return "ands";
+    case TB_COMPARED_CCMP: return "ccmp";
+    case TB_COMPARED_CCMN: return "ccmn";
+    case TB_COMPARED_CBZ: return "cbz";
+    case TB_COMPARED_TBZ: return "tbz";
+    case TB_COMPARED_SUB_CBZ: return "sub cbz";
+    case TB_COMPARED_EOR_CBZ: return "eor cbz";
+    case TB_COMPARED_CALL: return "call";
     default: return "unknown";
     }
 }

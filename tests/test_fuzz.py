@@ -148,9 +148,14 @@ def test_from_c_and_rust(shared: pathlib.Path, variant: str) -> None:
     ran = run([*it.words, image], extra=it.extra)
     assert (ran.status, ran.errors) == (0, "")
     told_lines = [line.split(maxsplit=1) for line in ran.output.splitlines()]
-    exact = [text for what, text in told_lines if what == "exact"]
-    assert exact == [text for what, text in told_lines if what == "run"]
-    lines = [[int(word) for word in text.split()] for what, text in told_lines if what != "exact"]
+    found = {what: [text for name, text in told_lines if name == what] for what, _ in told_lines}
+    assert found["exact"] == found["compared"] == found["run"]
+    entered = [tuple(map(int, text.split())) for text in found["entered"]]
+    codes = [int(text.split()[0]) for text in found["run"]]
+    assert all((places > 0) == (code == 0) for (places, _), code in zip(entered, codes))
+    assert [read for _, read in entered] == [14 if code == 14 else 0 for code in codes]
+    lines = [[int(word) for word in text.split()] for what, text in told_lines
+             if what in ("new", "run")]
     # A new machine, a run without one, one that is refused, a map that may not be.
     ok, none, refused, bad = 0, 14, 12, 8
     codes = [none, refused, none, ok, ok, ok, ok, bad, bad, ok, ok, none, ok]

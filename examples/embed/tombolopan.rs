@@ -92,6 +92,17 @@ pub const TB_PAST_SIZE: u32 = 1;
 pub const TB_FREED: u32 = 2;
 pub const TB_NO_CHUNK: u32 = 3;
 
+pub const TB_COMPARED_SUBS: u32 = 1;
+pub const TB_COMPARED_ADDS: u32 = 2;
+pub const TB_COMPARED_ANDS: u32 = 3;
+pub const TB_COMPARED_CCMP: u32 = 4;
+pub const TB_COMPARED_CCMN: u32 = 5;
+pub const TB_COMPARED_CBZ: u32 = 6;
+pub const TB_COMPARED_TBZ: u32 = 7;
+pub const TB_COMPARED_SUB_CBZ: u32 = 8;
+pub const TB_COMPARED_EOR_CBZ: u32 = 9;
+pub const TB_COMPARED_CALL: u32 = 10;
+
 // End of what tools/border.py writes.
 
 // Written by tools/border.py: the texts
@@ -199,6 +210,24 @@ pub fn trespass_name(kind: u32) -> &'static str {
         TB_PAST_SIZE => "PastSize",
         TB_FREED => "Freed",
         TB_NO_CHUNK => "NoChunk",
+        _ => "unknown",
+    }
+}
+
+/// The name of `Comparison::kind`; "none" for 0.
+pub fn comparison_name(kind: u32) -> &'static str {
+    match kind {
+        0 => "none",
+        TB_COMPARED_SUBS => "subs",
+        TB_COMPARED_ADDS => "adds",
+        TB_COMPARED_ANDS => "ands",
+        TB_COMPARED_CCMP => "ccmp",
+        TB_COMPARED_CCMN => "ccmn",
+        TB_COMPARED_CBZ => "cbz",
+        TB_COMPARED_TBZ => "tbz",
+        TB_COMPARED_SUB_CBZ => "sub cbz",
+        TB_COMPARED_EOR_CBZ => "eor cbz",
+        TB_COMPARED_CALL => "call",
         _ => "unknown",
     }
 }
@@ -395,6 +424,28 @@ pub struct FuzzFinding {
     pub unused: u32,
 }
 
+/// What an instruction compared, or with what a function that compares texts was called.
+#[repr(C)]
+#[derive(Clone, Copy, Debug, Default, PartialEq, Eq)]
+pub struct Comparison {
+    pub step: u64,
+    pub pc: u64,
+    pub left: u64,
+    pub right: u64,
+    pub length: u64,
+    pub kind: u32,
+    pub width: u32,
+}
+
+/// What is lent for the comparisons of a run.
+#[repr(C)]
+struct RawComparisons {
+    functions: *const u64,
+    function_count: usize,
+    entries: *mut Comparison,
+    entry_count: usize,
+}
+
 /// A heap call in a list, whose arguments may be the answers of earlier ones: `first_of` and
 /// `second_of` are 0, or the number of an earlier call of the list, from 1 on, whose answer is
 /// added to call.first or call.second, modulo 2^64.
@@ -523,6 +574,8 @@ const _: () = assert!(size_of::<AloneEnd>() == 88);
 const _: () = assert!(size_of::<RawFuzz>() == 8);
 const _: () = assert!(size_of::<RawFuzzInput>() == 40);
 const _: () = assert!(size_of::<FuzzFinding>() == 56);
+const _: () = assert!(size_of::<Comparison>() == 48);
+const _: () = assert!(size_of::<RawComparisons>() == 32);
 const _: () = assert!(size_of::<HeapStep>() == 64);
 const _: () = assert!(size_of::<LiveChunk>() == 32);
 const _: () = assert!(size_of::<MachineAct>() == 64);
@@ -575,6 +628,15 @@ unsafe extern "C" {
         end: *mut AloneEnd,
         finding: *mut FuzzFinding,
     ) -> u32;
+    fn tb_fuzz_run_compared(
+        fuzz: *mut RawFuzz,
+        run: *const RawFuzzInput,
+        map: *mut u8,
+        map_length: usize,
+        compared: *mut RawComparisons,
+        end: *mut AloneEnd,
+    ) -> u32;
+    fn tb_fuzz_read(fuzz: *mut RawFuzz, addr: u64, buffer: *mut u8, length: usize) -> u32;
     fn tb_fuzz_free(fuzz: *mut RawFuzz);
     fn tb_machine_acts(
         terms: *const RawTerms,
@@ -910,6 +972,35 @@ impl Fuzz {
         let (counts, length) = (map.as_mut_ptr(), map.len());
         unsafe { tb_fuzz_run_exact(&mut self.raw, &raw, counts, length, &mut end, &mut found) };
         (end, found)
+    }
+
+    /// The same run; what its instructions compare, and calls of `functions`, are entered in
+    /// `entries`, of a power of two from 256 to 65536.
+    pub fn run_compared(
+        &mut self,
+        input: &[u8],
+        slices: &[u32],
+        map: &mut [u8],
+        functions: &[u64],
+        entries: &mut [Comparison],
+    ) -> AloneEnd {
+        let raw = RawFuzzInput::of(input, slices);
+        let mut end = AloneEnd::default();
+        let mut compared = RawComparisons {
+            functions: functions.as_ptr(),
+            function_count: functions.len(),
+            entries: entries.as_mut_ptr(),
+            entry_count: entries.len(),
+        };
+        let (counts, length) = (map.as_mut_ptr(), map.len());
+        let lent = &mut compared;
+        unsafe { tb_fuzz_run_compared(&mut self.raw, &raw, counts, length, lent, &mut end) };
+        end
+    }
+
+    /// Copies bytes of the machine as its last run left it, whatever their tags; and the code.
+    pub fn read(&mut self, addr: u64, buffer: &mut [u8]) -> u32 {
+        unsafe { tb_fuzz_read(&mut self.raw, addr, buffer.as_mut_ptr(), buffer.len()) }
     }
 }
 

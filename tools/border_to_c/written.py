@@ -114,7 +114,9 @@ def class_name(name: str) -> str:
 
 def short_name(name: str) -> str:
     """The name of a number in its enum of Python."""
-    return name.removeprefix("STATUS_").removeprefix("ACCESS_")
+    for prefix in ("STATUS_", "ACCESS_", "COMPARED_"):
+        name = name.removeprefix(prefix)
+    return name
 
 
 # Enums whose numbers are added up.

@@ -1,3 +1,4 @@
 pub mod Maps
 pub mod Snapshots
 pub mod Held
+pub mod Comparisons

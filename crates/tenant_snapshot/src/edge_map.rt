@@ -40,7 +40,7 @@ impl<'a> EdgeMap<'a> {
 
 /// The hash of an edge below 65,536: both addresses count, and the edge back has another one.
 #[inline(always)]
-fn hash(from: u64, to: u64) -> usize
+pub(crate) fn hash(from: u64, to: u64) -> usize
     ensures { result ≡ edge_hash from to }
 {
     let mixed = from.wrapping_mul(0x9E37_79B9_7F4A_7C15).rotate_left(29) ^ to;

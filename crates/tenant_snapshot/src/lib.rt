@@ -2,6 +2,9 @@
 //! pointer by which a program in C keeps it between calls, which is null or owns it.
 #![tactic(auto)]
 
+mod compared_edges;
+mod comparison;
+mod comparison_kinds;
 mod edge_map;
 mod exact_watch;
 mod fuzz_handle;
@@ -10,6 +13,9 @@ mod run_watch;
 mod tenant;
 
 pub use a64_run::{Edges, NoEdges};
+pub use compared_edges::{ComparedEdges, Comparisons};
+pub use comparison::Comparison;
+pub use comparison_kinds::comparisons_in_digits;
 pub use edge_map::{CountedEdges, EdgeMap, MAP_MAX, MAP_MIN};
 pub use exact_watch::{ExactFinding, ExactWatch};
 pub use fuzz_handle::FuzzHandle;

@@ -1,20 +1,21 @@
 -- A machine that is kept between calls: its setup, and its runs.
 use Rattle.std.specs.Prelude.{◌≡◌, ◌⊎◌, ℕ, Bool, true, false, not, Option, Some, None}
-use Rattle.std.specs.Prelude.{if◌then◌else◌}
+use Rattle.std.specs.Prelude.{◌==◌, List, length, if◌then◌else◌}
 use Rattle.common.specs.Obstacles.{IfRefused}
 use Rattle.common.specs.declared.obstacle.Obstacle.{Obstacle}
 use Rattle.common.specs.declared.obstacle.Obstacle.TheVariants as obstacle
 use Rattle.mte_tenant.specs.declared.admission.AdmitError.{AdmitError}
 use Rattle.mte_tenant.specs.Ledger.{is_bad}
 use Rattle.mte_tenant.specs.Machines.{Machine, machine_of, start_of}
+use Rattle.mte_tags.specs.Accesses.{read_bytes, read_fault}
 use Rattle.heap_bounds.specs.declared.bounds.Trespass.{Trespass}
 use Rattle.heap_bounds.specs.declared.bounds.Trespass.TheVariants.{PastSize, Freed, NoChunk}
-use Rattle.tenant_snapshot.specs.Maps.{is_map_length}
 use Rattle.tenant_snapshot.specs.Snapshots.{with_input}
 use Rattle.tenant_snapshot.specs.declared.exact_watch.ExactFinding.{ExactFinding}
 use Rattle.tenant_snapshot.specs.declared.tenant.SnapshotTenant.{SnapshotTenant}
 use Rattle.mte_tenant.specs.Alone.{after_slices, refusal_alone}
 use Rattle.tombolopan_c.specs.declared.codes.TheConstants as code
+use Rattle.tombolopan_c.specs.Faults.{fault_code}
 use Rattle.tombolopan_c.specs.LoneTenants.{lent_start, end_without, told_end, without_tenant}
 use Rattle.tombolopan_c.specs.declared.alone_end.AloneEnd.{AloneEnd}
 use Rattle.tombolopan_c.specs.declared.fuzz_answer.FuzzAnswer.{FuzzAnswer}
@@ -52,8 +53,7 @@ HasSaved t None e =
 abbrev pub after_run : LentFuzzInput → Machine → Machine
 after_run r saved = after_slices (with_input saved r.input.now) r.slices.now
 
--- The machine after a run, and the report of it; the test says whether the map has a
--- length that it may have.
+-- The machine after a run, and the report of it; the test says whether the run may be done.
 abbrev pub HasAnswered :
     LentFuzzInput → Bool → SnapshotTenant → SnapshotTenant → AloneEnd → Type 0
 HasAnswered r true old new e =
@@ -62,14 +62,28 @@ HasAnswered r true old new e =
 HasAnswered r false old new e =
     (now_of new ≡ now_of old) × (e ≡ without_tenant code.BAD_ARGUMENT code.NO_REFUSAL)
 
--- The handle after a run. The snapshot stays.
+-- The handle after a run. The snapshot stays. The test says whether what is lent has lengths that
+-- it may have.
 abbrev pub HasRun :
-    LentFuzzInput → ℕ → Option SnapshotTenant → Option SnapshotTenant → AloneEnd → Type 0
-HasRun r counts None new e =
+    LentFuzzInput → Bool → Option SnapshotTenant → Option SnapshotTenant → AloneEnd → Type 0
+HasRun r fits None new e =
     (new ≡ None) × (e ≡ without_tenant code.NO_MACHINE code.NO_REFUSAL)
-HasRun r counts (Some old) new e =
+HasRun r fits (Some old) new e =
     (s : SnapshotTenant) × (new ≡ Some s) × (saved_of s ≡ saved_of old)
-    × HasAnswered r (is_map_length counts) old s e
+    × HasAnswered r fits old s e
+
+-- ---- the memory that a run left
+
+-- The handle after bytes are read, the answer and the buffer. The machine stays.
+abbrev pub HasRead :
+    ℕ → Option SnapshotTenant → Option SnapshotTenant → List ℕ → List ℕ → ℕ → Type 0
+HasRead addr None new old_bytes bytes answer =
+    (new ≡ None) × (answer ≡ code.NO_MACHINE) × (bytes ≡ old_bytes)
+HasRead addr (Some old) new old_bytes bytes answer =
+    (s : SnapshotTenant) × (new ≡ Some s) × (now_of s ≡ now_of old) × (saved_of s ≡ saved_of old)
+    × (answer ≡ fault_code (read_fault old.memory.now addr (length old_bytes) false))
+    × (bytes ≡ (if answer == code.OK then read_bytes old.memory.now addr (length old_bytes)
+    else old_bytes))
 
 -- ---- what an exact run found
 

@@ -1,8 +1,9 @@
 //! Sessions, a tenant alone, a tagged memory, a step, a run and a heap for programs in C: exports
 //! over memory that the caller lends to each call. Nothing is kept between calls but the machine
 //! that `tb_fuzz_new` makes and `tb_fuzz_free` frees, and only these, `tb_fuzz_run`,
-//! `tb_fuzz_run_exact`, `tb_session`, `tb_alone`, `tb_machine_acts`, `tb_machine_pages`,
-//! `tb_heap_calls`, `tb_heap_replay`, `tb_heap_pages` and `tb_heap_live` allocate.
+//! `tb_fuzz_run_exact`, `tb_fuzz_run_compared`, `tb_session`, `tb_alone`, `tb_machine_acts`,
+//! `tb_machine_pages`, `tb_heap_calls`, `tb_heap_replay`, `tb_heap_pages` and `tb_heap_live`
+//! allocate.
 #![tactic(auto)]
 
 mod act;
@@ -11,6 +12,7 @@ mod alone_calls;
 mod alone_end;
 mod build_calls;
 mod codes;
+mod compare_calls;
 mod faults;
 mod find;
 mod fuzz_answer;
@@ -53,6 +55,7 @@ pub use codes::{
     aborts_in_digits, answers_in_digits, faults_in_digits, heap_calls_in_digits, pages_in_digits,
     refusals_in_digits, script_faults_in_digits, statuses_in_digits, trespasses_in_digits,
 };
+pub use compare_calls::{tb_fuzz_read, tb_fuzz_run_compared};
 pub use faults::FaultReport;
 pub use fuzz_answer::FuzzFinding;
 pub use fuzz_calls::{tb_fuzz_free, tb_fuzz_new, tb_fuzz_run, tb_fuzz_run_exact};

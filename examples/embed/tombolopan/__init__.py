@@ -116,28 +116,30 @@ from __future__ import annotations
 from .abi import (
     ABORT, ACCESS_READ, ACCESS_READ_TAG, ACCESS_WRITE, ACCESS_WRITE_TAG, ALIGNMENT, ALREADY_FREE,
     ALREADY_MAPPED, BAD_ARGUMENT, BAD_HEADERS, BAD_NUMBER, BAD_RESERVATION, BREAKPOINT, CALLOC,
-    CODES, EXEC, FAULT, FAULT_KINDS, FREE, FREED, HEADER_CORRUPT, HEAP_ABORTS, ILLEGAL, INTERPRETER,
-    INVALID_STATE, LOAD, LOAD_TAG, MALLOC, MEMALIGN, MISALIGNED, NOT_AARCH64, NOT_A_BLOCK,
-    NOT_ELF64, NOT_EXEC, NOT_MAPPED, NO_CHUNK, NO_ENTRY, NO_MACHINE, NO_ROOM, NO_SUCH_FILE, OK,
-    OUT_OF_MEMORY, OVERLAP, PAST_SIZE, PC_ALIGNMENT, PERMISSION, READ, REALLOC, REFUSALS, REFUSED,
-    RESERVATION_TOO_SMALL, SCRIPT, SCRIPT_FAULTS, SEGMENT_RANGE, SHORT, SP_ALIGNMENT, STATUSES,
-    STATUS_ABORT, STATUS_ASYNC, STATUS_BREAK, STATUS_EXIT, STATUS_FAULT, STATUS_ILLEGAL,
-    STATUS_RUNNING, STOPPED, STORE, SVC, SYNTAX, TAGGED, TAG_CHECK, TOO_MANY_EVENTS, TRANSLATION,
-    TRESPASSES, UNMAPPED, USABLE_SIZE, VERSION, WRITE,
+    CODES, COMPARED_ADDS, COMPARED_ANDS, COMPARED_CALL, COMPARED_CBZ, COMPARED_CCMN, COMPARED_CCMP,
+    COMPARED_EOR_CBZ, COMPARED_SUBS, COMPARED_SUB_CBZ, COMPARED_TBZ, COMPARISONS, EXEC, FAULT,
+    FAULT_KINDS, FREE, FREED, HEADER_CORRUPT, HEAP_ABORTS, ILLEGAL, INTERPRETER, INVALID_STATE,
+    LOAD, LOAD_TAG, MALLOC, MEMALIGN, MISALIGNED, NOT_AARCH64, NOT_A_BLOCK, NOT_ELF64, NOT_EXEC,
+    NOT_MAPPED, NO_CHUNK, NO_ENTRY, NO_MACHINE, NO_ROOM, NO_SUCH_FILE, OK, OUT_OF_MEMORY, OVERLAP,
+    PAST_SIZE, PC_ALIGNMENT, PERMISSION, READ, REALLOC, REFUSALS, REFUSED, RESERVATION_TOO_SMALL,
+    SCRIPT, SCRIPT_FAULTS, SEGMENT_RANGE, SHORT, SP_ALIGNMENT, STATUSES, STATUS_ABORT, STATUS_ASYNC,
+    STATUS_BREAK, STATUS_EXIT, STATUS_FAULT, STATUS_ILLEGAL, STATUS_RUNNING, STOPPED, STORE, SVC,
+    SYNTAX, TAGGED, TAG_CHECK, TOO_MANY_EVENTS, TRANSLATION, TRESPASSES, UNMAPPED, USABLE_SIZE,
+    VERSION, WRITE,
 )
 from .build import build_info
 from .disassembly import disassemble
 from .enums import (
-    AccessKind, Attrs, Code, FaultKind, HeapAbort, HeapOp, Refusal, ScriptFault, TenantStatus,
-    Trespass, fault_kind_name, heap_abort_name, refusal_name, script_fault_name, tenant_status_name,
-    text, trespass_name,
+    AccessKind, Attrs, Code, Compared, FaultKind, HeapAbort, HeapOp, Refusal, ScriptFault,
+    TenantStatus, Trespass, comparison_name, fault_kind_name, heap_abort_name, refusal_name,
+    script_fault_name, tenant_status_name, text, trespass_name,
 )
 from .examples import example
 from .explaining import (
     AnswerForm, Chunk, Explained, Explanation, Frame, Profile, explain, profile, why,
 )
 from .faults import Fault, MappingError, Refused, ScriptError
-from .fuzzing import Fuzz, FuzzFinding, FuzzRun
+from .fuzzing import Comparison, Fuzz, FuzzFinding, FuzzRun
 from .heaps import HeapAnswer, heap_calls
 from .hooks import Block, Hooked, Instruction, TracedAccess, hook_block, hook_code, hook_mem
 from .machines import Machine
@@ -153,23 +155,26 @@ __all__ = [
     "ABORT", "ACCESS_READ", "ACCESS_READ_TAG", "ACCESS_WRITE", "ACCESS_WRITE_TAG", "ALIGNMENT",
     "ALREADY_FREE", "ALREADY_MAPPED", "Access", "AccessKind", "Answer", "AnswerForm", "Attrs",
     "BAD_ARGUMENT", "BAD_HEADERS", "BAD_NUMBER", "BAD_RESERVATION", "BREAKPOINT", "Block", "CALLOC",
-    "CODES", "Chunk", "Code", "EXEC", "Explained", "Explanation", "FAULT", "FAULT_KINDS", "FREE",
-    "FREED", "Fault", "FaultKind", "Frame", "Fuzz", "FuzzFinding", "FuzzRun", "HEADER_CORRUPT",
-    "HEAP_ABORTS", "Heap", "HeapAbort", "HeapAnswer", "HeapCall", "HeapOp", "Hooked", "ILLEGAL",
-    "INTERPRETER", "INVALID_STATE", "Instruction", "LOAD", "LOAD_TAG", "LiveChunk", "MALLOC",
-    "MEMALIGN", "MISALIGNED", "Machine", "MappingError", "Memory", "NOT_AARCH64", "NOT_A_BLOCK",
-    "NOT_ELF64", "NOT_EXEC", "NOT_MAPPED", "NO_CHUNK", "NO_ENTRY", "NO_MACHINE", "NO_ROOM",
-    "NO_SUCH_FILE", "OK", "OUT_OF_MEMORY", "OVERLAP", "PAST_SIZE", "PC_ALIGNMENT", "PERMISSION",
-    "Profile", "READ", "REALLOC", "REFUSALS", "REFUSED", "RESERVATION_TOO_SMALL", "Refusal",
-    "Refused", "Region", "Regs", "Replay", "SCRIPT", "SCRIPT_FAULTS", "SEGMENT_RANGE", "SHORT",
-    "SP_ALIGNMENT", "STATUSES", "STATUS_ABORT", "STATUS_ASYNC", "STATUS_BREAK", "STATUS_EXIT",
-    "STATUS_FAULT", "STATUS_ILLEGAL", "STATUS_RUNNING", "STOPPED", "STORE", "SVC", "SYNTAX",
-    "ScriptError", "ScriptFault", "Session", "Stop", "TAGGED", "TAG_CHECK", "TOO_MANY_EVENTS",
-    "TRANSLATION", "TRESPASSES", "Tenant", "TenantStatus", "TracedAccess", "Trespass", "UNMAPPED",
-    "USABLE_SIZE", "VERSION", "WRITE", "access_size", "alone", "build_info", "disassemble",
-    "example", "explain", "fault_kind_name", "heap_abort_name", "heap_calls", "hook_block",
-    "hook_code", "hook_mem", "profile", "refusal_name", "run", "script_fault_name", "session",
-    "step", "tenant_status_name", "text", "trace", "trace_step", "trespass_name", "why",
+    "CODES", "COMPARED_ADDS", "COMPARED_ANDS", "COMPARED_CALL", "COMPARED_CBZ", "COMPARED_CCMN",
+    "COMPARED_CCMP", "COMPARED_EOR_CBZ", "COMPARED_SUBS", "COMPARED_SUB_CBZ", "COMPARED_TBZ",
+    "COMPARISONS", "Chunk", "Code", "Compared", "Comparison", "EXEC", "Explained", "Explanation",
+    "FAULT", "FAULT_KINDS", "FREE", "FREED", "Fault", "FaultKind", "Frame", "Fuzz", "FuzzFinding",
+    "FuzzRun", "HEADER_CORRUPT", "HEAP_ABORTS", "Heap", "HeapAbort", "HeapAnswer", "HeapCall",
+    "HeapOp", "Hooked", "ILLEGAL", "INTERPRETER", "INVALID_STATE", "Instruction", "LOAD",
+    "LOAD_TAG", "LiveChunk", "MALLOC", "MEMALIGN", "MISALIGNED", "Machine", "MappingError",
+    "Memory", "NOT_AARCH64", "NOT_A_BLOCK", "NOT_ELF64", "NOT_EXEC", "NOT_MAPPED", "NO_CHUNK",
+    "NO_ENTRY", "NO_MACHINE", "NO_ROOM", "NO_SUCH_FILE", "OK", "OUT_OF_MEMORY", "OVERLAP",
+    "PAST_SIZE", "PC_ALIGNMENT", "PERMISSION", "Profile", "READ", "REALLOC", "REFUSALS", "REFUSED",
+    "RESERVATION_TOO_SMALL", "Refusal", "Refused", "Region", "Regs", "Replay", "SCRIPT",
+    "SCRIPT_FAULTS", "SEGMENT_RANGE", "SHORT", "SP_ALIGNMENT", "STATUSES", "STATUS_ABORT",
+    "STATUS_ASYNC", "STATUS_BREAK", "STATUS_EXIT", "STATUS_FAULT", "STATUS_ILLEGAL",
+    "STATUS_RUNNING", "STOPPED", "STORE", "SVC", "SYNTAX", "ScriptError", "ScriptFault", "Session",
+    "Stop", "TAGGED", "TAG_CHECK", "TOO_MANY_EVENTS", "TRANSLATION", "TRESPASSES", "Tenant",
+    "TenantStatus", "TracedAccess", "Trespass", "UNMAPPED", "USABLE_SIZE", "VERSION", "WRITE",
+    "access_size", "alone", "build_info", "comparison_name", "disassemble", "example", "explain",
+    "fault_kind_name", "heap_abort_name", "heap_calls", "hook_block", "hook_code", "hook_mem",
+    "profile", "refusal_name", "run", "script_fault_name", "session", "step", "tenant_status_name",
+    "text", "trace", "trace_step", "trespass_name", "why",
 ]
 # Their names in tracebacks and in what is pickled.
 for _it in (Fault, MappingError, Refused, ScriptError, Memory, Region, Regs, Session, Answer,

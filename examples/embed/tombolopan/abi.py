@@ -139,6 +139,23 @@ TRESPASSES = {
     0: "none", PAST_SIZE: "PastSize", FREED: "Freed", NO_CHUNK: "NoChunk",
 }
 
+# tb_compared
+COMPARED_SUBS = 1
+COMPARED_ADDS = 2
+COMPARED_ANDS = 3
+COMPARED_CCMP = 4
+COMPARED_CCMN = 5
+COMPARED_CBZ = 6
+COMPARED_TBZ = 7
+COMPARED_SUB_CBZ = 8
+COMPARED_EOR_CBZ = 9
+COMPARED_CALL = 10
+COMPARISONS = {
+    0: "none", COMPARED_SUBS: "subs", COMPARED_ADDS: "adds", COMPARED_ANDS: "ands",
+    COMPARED_CCMP: "ccmp", COMPARED_CCMN: "ccmn", COMPARED_CBZ: "cbz", COMPARED_TBZ: "tbz",
+    COMPARED_SUB_CBZ: "sub cbz", COMPARED_EOR_CBZ: "eor cbz", COMPARED_CALL: "call",
+}
+
 # End of what tools/border.py writes.
 
 
@@ -202,6 +219,20 @@ class _FuzzFinding(ctypes.Structure):
         ("step", c_uint64), ("pc", c_uint64), ("addr", c_uint64), ("pointer", c_uint64),
         ("size", c_uint64), ("kind", c_uint32), ("write", c_uint32), ("missed", c_uint32),
         ("unused", c_uint32),
+    ]
+
+
+class _Comparison(ctypes.Structure):
+    _fields_ = [
+        ("step", c_uint64), ("pc", c_uint64), ("left", c_uint64), ("right", c_uint64),
+        ("length", c_uint64), ("kind", c_uint32), ("width", c_uint32),
+    ]
+
+
+class _Comparisons(ctypes.Structure):
+    _fields_ = [
+        ("functions", c_void_p), ("function_count", c_size_t), ("entries", c_void_p),
+        ("entry_count", c_size_t),
     ]
 
 
@@ -325,6 +356,11 @@ _CALLS = {
         POINTER(_Fuzz), POINTER(_FuzzInput), c_void_p, c_size_t, POINTER(_AloneEnd),
         POINTER(_FuzzFinding),
     ],
+    "tb_fuzz_run_compared": [
+        POINTER(_Fuzz), POINTER(_FuzzInput), c_void_p, c_size_t, POINTER(_Comparisons),
+        POINTER(_AloneEnd),
+    ],
+    "tb_fuzz_read": [POINTER(_Fuzz), c_uint64, c_void_p, c_size_t],
     "tb_fuzz_free": [POINTER(_Fuzz)],
     "tb_machine_acts": [
         POINTER(_Terms), POINTER(_MachineAct), c_size_t, c_void_p, c_size_t, POINTER(_KeptCall),

@@ -147,6 +147,21 @@ class Trespass(Word):
     FREED = 2, "Freed"
     NO_CHUNK = 3, "NoChunk"
 
+
+class Compared(Word):
+    """What compared two numbers, or texts (tb_comparison); 0 where nothing is entered."""
+
+    SUBS = 1, "subs"
+    ADDS = 2, "adds"
+    ANDS = 3, "ands"
+    CCMP = 4, "ccmp"
+    CCMN = 5, "ccmn"
+    CBZ = 6, "cbz"
+    TBZ = 7, "tbz"
+    SUB_CBZ = 8, "sub cbz"
+    EOR_CBZ = 9, "eor cbz"
+    CALL = 10, "call"
+
 # End of what tools/border.py writes.
 
 

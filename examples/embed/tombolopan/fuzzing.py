@@ -1,14 +1,17 @@
 """A tenant that sets itself up once and runs many times from there, with an input each time."""
 from __future__ import annotations
 
+import contextlib
 import ctypes
-from collections.abc import Sequence
-from ctypes import byref, c_uint8, c_uint32
+from collections.abc import Iterator, Sequence
+from ctypes import byref, c_uint8, c_uint32, c_uint64
 from dataclasses import dataclass
+from typing import Any
 
-from .abi import BAD_ARGUMENT, NO_MACHINE, OUT_OF_MEMORY, REFUSED
-from .abi import _AloneEnd, _Fuzz, _FuzzFinding, _FuzzInput, _lend, _library, _Terms
-from .enums import Refusal, TenantStatus, Trespass
+from .abi import BAD_ARGUMENT, FAULT, NO_MACHINE, OUT_OF_MEMORY, REFUSED
+from .abi import _AloneEnd, _Comparison, _Comparisons, _Fuzz, _FuzzFinding, _FuzzInput, _lend
+from .abi import _library, _Terms
+from .enums import Compared, Refusal, TenantStatus, Trespass
 from .faults import Fault, Refused
 from .ranges import all_in_bits, as_bytes, in_bits
 
@@ -26,6 +29,21 @@ class FuzzFinding:
     pointer: int
     size: int
     write: bool
+
+
+@dataclass(frozen=True)
+class Comparison:
+    """What an instruction compared: its number among those of the run, its address, both operands
+    of `width` bytes, and by what. Of a call `left`, `right` and `length` are its arguments, and
+    `width` is the place of the function that was called."""
+
+    step: int
+    pc: int
+    left: int
+    right: int
+    length: int
+    kind: Compared
+    width: int
 
 
 @dataclass(frozen=True)
@@ -108,19 +126,58 @@ class Fuzz:
         """Runs it from its setup on, with an input. Where it is to be `exact`, the first access is
         told that goes beyond the bytes of its chunks, whatever the tags; the rest is the same, and
         takes longer. MemoryError where memory to follow its chunks is refused."""
+        end, found = _AloneEnd(), _FuzzFinding()
+        with self._begin(input, slices) as given:
+            if exact:
+                _library.tb_fuzz_run_exact(*given, byref(end), byref(found))
+            else:
+                _library.tb_fuzz_run(*given, byref(end))
+        return _run_of(end, _finding_of(found))
+
+    def compare(
+        self,
+        input: bytes,
+        slices: Sequence[int] = (1 << 20,),
+        functions: Sequence[int] = (),
+        room: int = 4096,
+    ) -> tuple[FuzzRun, list[Comparison]]:
+        """The same run, and what its instructions compared, by their addresses: of each address
+        the last ones, eight at most. A call of one of the `functions`, which are addresses, is one
+        too. `room` is a power of two from 256 to 65536; where it is less than eight times the
+        addresses that compare, some are missing."""
+        entries = (_Comparison * in_bits("room", room, 32))()
+        lent = (c_uint64 * max(len(functions), 1))(*all_in_bits("functions", functions, 64))
+        compared = _Comparisons(
+            ctypes.addressof(lent), len(functions), ctypes.addressof(entries), room
+        )
+        end = _AloneEnd()
+        with self._begin(input, slices) as given:
+            _library.tb_fuzz_run_compared(*given, byref(compared), byref(end))
+        found = [_comparison_of(it) for it in entries if it.kind]
+        return _run_of(end), sorted(found, key=lambda it: (it.pc, it.step))
+
+    def read(self, address: int, length: int) -> bytes:
+        """Bytes of the machine as its last run left it, whatever their tags. KeyError where a page
+        is not there, or may not be read."""
+        buffer = ctypes.create_string_buffer(in_bits("length", length, 32) or 1)
+        at = in_bits("address", address, 64)
+        code = _library.tb_fuzz_read(byref(self._machine), at, buffer, length)
+        if code == FAULT:
+            raise KeyError(address)
+        if code == NO_MACHINE:
+            raise ValueError("the machine is closed")
+        return buffer.raw[:length]
+
+    @contextlib.contextmanager
+    def _begin(self, input: bytes, slices: Sequence[int]) -> Iterator[tuple[Any, ...]]:
+        """What each run is lent but for its answers; the counts are cleared."""
         given = _lend(as_bytes("input", input))
         cuts = (c_uint32 * max(len(slices), 1))(*all_in_bits("slices", slices, 32))
         wanted = _FuzzInput(
             given.bytes, given.length, ctypes.addressof(cuts), len(slices), True, 0
         )
         ctypes.memset(self._map, 0, len(self._map))
-        end, found = _AloneEnd(), _FuzzFinding()
-        given_to = byref(self._machine), byref(wanted), self._map, len(self._map), byref(end)
-        if exact:
-            _library.tb_fuzz_run_exact(*given_to, byref(found))
-        else:
-            _library.tb_fuzz_run(*given_to)
-        return _run_of(end, _finding_of(found))
+        yield byref(self._machine), byref(wanted), self._map, len(self._map)
 
     def close(self) -> None:
         """Frees the machine, once; a run fails then."""
@@ -135,6 +192,12 @@ class Fuzz:
     def __del__(self) -> None:
         if hasattr(self, "_machine"):
             self.close()
+
+
+def _comparison_of(it: _Comparison) -> Comparison:
+    """A comparison by what the library entered."""
+    kind = Compared.of(it.kind)
+    return Comparison(it.step, it.pc, it.left, it.right, it.length, kind, it.width)
 
 
 def _finding_of(found: _FuzzFinding) -> FuzzFinding | None:
@@ -158,7 +221,7 @@ def _run_of(end: _AloneEnd, finding: FuzzFinding | None = None) -> FuzzRun:
     if end.code == NO_MACHINE:
         raise ValueError("the machine is closed")
     if end.code == BAD_ARGUMENT:
-        raise ValueError("edges is a power of two from 256 to 65536")
+        raise ValueError("edges and room are powers of two from 256 to 65536")
     status = end.status
     return FuzzRun(
         TenantStatus.of(status.status), status.number, status.pc, status.pointer,

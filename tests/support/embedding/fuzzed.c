@@ -7,6 +7,7 @@
 #include "tombolopan.h"
 
 static uint8_t image[65536], counts[512];
+static tb_comparison places[512];
 static tb_fuzz fuzz;
 static tb_fuzz_finding none;
 
@@ -17,6 +18,21 @@ static void tell(const char *what, uint32_t code, const tb_alone_end *end) {
     printf("%s %u %u %u %llu %u %u\n", what, (unsigned)code, (unsigned)end->code,
            (unsigned)end->status.status, (unsigned long long)end->steps,
            (unsigned)end->status.number, sum);
+}
+
+/* The run whose comparisons are entered, how many are, and the image's first bytes in memory. */
+static void compare(const tb_fuzz_input *input, size_t length) {
+    tb_comparisons compared = {(const uint64_t *)places, 0, places, length};
+    tb_alone_end end;
+    uint8_t bytes[4];
+    unsigned entered = 0;
+    memset(&end, 0xee, sizeof end);
+    memset(counts, 0, sizeof counts);
+    memset(places, 0, sizeof places);
+    tell("compared", tb_fuzz_run_compared(&fuzz, input, counts, length, &compared, &end), &end);
+    for (size_t i = 0; i < 512; i++)
+        entered += places[i].kind != 0;
+    printf("entered %u %u\n", entered, (unsigned)tb_fuzz_read(&fuzz, 0x10000, bytes, 4));
 }
 
 static void run(const char *text, size_t length, size_t map_length) {
@@ -43,6 +59,7 @@ static void run(const char *text, size_t length, size_t map_length) {
     tell("exact", tb_fuzz_run_exact(&fuzz, &input, counts, map_length, &end, &found), &end);
     if (memcmp(&found, &none, sizeof found) != 0)
         exit(8);
+    compare(&input, map_length);
     free(given);
 }
 

@@ -2,7 +2,7 @@
 #[allow(dead_code)]
 mod tombolopan;
 
-use tombolopan::{AloneEnd, Fuzz, FuzzFinding, Terms};
+use tombolopan::{AloneEnd, Comparison, Fuzz, FuzzFinding, Terms};
 
 fn tell(what: &str, end: &AloneEnd, counts: &[u8]) {
     let sum: u32 = counts.iter().map(|it| u32::from(*it)).sum();
@@ -18,6 +18,12 @@ fn run(fuzz: &mut Fuzz, text: &[u8], map_length: usize) {
     let (end, found) = fuzz.run_exact(text, &[100000], &mut counts);
     tell("exact", &end, &counts);
     assert_eq!(found, FuzzFinding::default());
+    counts.fill(0);
+    let mut places = vec![Comparison::default(); map_length];
+    let end = fuzz.run_compared(text, &[100000], &mut counts, &[], &mut places);
+    tell("compared", &end, &counts);
+    let entered = places.iter().filter(|it| it.kind != 0).count();
+    println!("entered {entered} {}", fuzz.read(0x10000, &mut [0; 4]));
 }
 
 fn make(image: &[u8], pages: u32) -> Fuzz {
