@@ -14,6 +14,7 @@ EXPORT = re.compile(
     r'#\[unsafe\(no_mangle\)\]\s*(?:#\[tactic\(.*\)\]\s*)?pub extern "C" fn (\w+)'
     r"\(([^)]*)\)\s*(?:->\s*(\w+))?"
 )
+LIFETIMES = re.compile(r"<'\w+(?:, '\w+)*>")
 IMPORTS = re.compile(r'unsafe extern "C" \{(.*?)\n\}', re.S)
 IMPORT = re.compile(r"fn (\w+)\(([^)]*)\)\s*(?:->\s*(\w+))?;")
 
@@ -37,7 +38,7 @@ def constants(text: str) -> dict[str, int]:
 
 def places_of(name: str, text: str) -> list[Place]:
     """What C sees of a field or an argument: of a slice a pointer and a length, of Global none."""
-    text = re.sub(r"'\w+\s*|<'\w+>", "", text).strip()
+    text = re.sub(r"'\w+\s*", "", text).strip()
     if text == "Global":
         return []
     found = re.fullmatch(r"&\s*(mut )?\[(\w+)\]", text)
@@ -61,7 +62,7 @@ def split(text: str) -> list[str]:
 def places(text: str) -> Struct:
     """The fields of a struct or the arguments of a call."""
     found: list[Place] = []
-    for it in split(text):
+    for it in split(LIFETIMES.sub("", text)):
         name, _, kind = it.removeprefix("pub ").partition(":")
         found += places_of(name.strip(), kind.strip())
     return tuple(found)

@@ -202,11 +202,14 @@ entries_after functions step before r pc word entries =
 
 -- ---- which words are looked at
 
--- Whether bits 30 to 24 of a word are those of additions, subtractions and AND with flags, of
--- conditional compares, CBZ, TBZ, B or BR (Arm ARM DDI 0487, C4.1).
+-- Bits 30 to 24 of the words that are looked at (Arm ARM DDI 0487, C4.1): B and BL; ADDS of
+-- registers; ADDS of a number; CBZ, CBNZ, TBZ and TBNZ; CCMN; BR and BLR; ANDS and SUBS of registers;
+-- SUBS and ANDS of a number; CCMP. Each is a bit.
+abbrev pub groups : ℕ
+groups =
+    15 * 2 ^ 0x14 + 2 ^ 0x2B + 2 ^ 0x31 + 15 * 2 ^ 0x34 + 2 ^ 0x3A + 2 ^ 0x56 + 3 * 2 ^ 0x6A
+    + 3 * 2 ^ 0x71 + 2 ^ 0x7A
+
+-- Whether a word is looked at.
 abbrev pub may_compare : ℕ → Bool
-may_compare word =
-    let bits = word / 2 ^ 24 % 2 ^ 7 in
-    (bits / 4 == 5) || (bits / 4 == 13) || (bits == 0x2B) || (bits == 0x31) || (bits == 0x3A)
-    || (bits == 0x56) || (bits == 0x6A) || (bits == 0x6B) || (bits == 0x71) || (bits == 0x72)
-    || (bits == 0x7A)
+may_compare word = groups / 2 ^ (word / 2 ^ 24 % 2 ^ 7) % 2 == 1

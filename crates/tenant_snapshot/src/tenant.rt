@@ -1,12 +1,15 @@
 //! A tenant alone with a snapshot of its machine.
 
-ghost use Rattle.std.specs.Prelude.{◌≡◌, None, IfOk, IfErr, OnOk, OnErr, IsErrOf, false};
+ghost use Rattle.std.specs.Prelude.{◌≡◌, None, IfOk, IfErr, OnOk, OnErr, IsErrOf, false, is_ok};
+ghost use Rattle.std.specs.Prelude.{length, if◌then◌else◌};
 ghost use Rattle.common.specs.Obstacles.{IfRefused};
+ghost use Rattle.mte_tags.specs.Accesses.{read_bytes, read_fault, result_of};
 ghost use Rattle.mte_svc.specs.Ready.{IsReady};
 ghost use Rattle.mte_tenant.specs.Admissions.{start_in};
 ghost use Rattle.mte_tenant.specs.Alone.{refusal_alone};
 ghost use Rattle.mte_tenant.specs.Ledger.{is_bad};
 
+use crate::compared_edges::ComparedEdges;
 use crate::exact_watch::ExactWatch;
 use crate::run_watch::RunWatch;
 use a64_run::{Edges, OpCache};
@@ -14,8 +17,27 @@ use common::Obstacle;
 use heap_bounds::Bounds;
 use mte_flat::SnapshotMemory;
 use mte_svc::{Input, TenantParts};
+use mte_tags::{MemFault, Tagged};
 use mte_tenant::{Admission, AdmitError, Lone, slice_noted, slice_with_edges};
 use std::alloc::{AllocError, Global};
+
+/// Copies bytes out of pages with READ, whatever their tags; the memory stays.
+fn read_without_tags<M: Tagged>(
+    memory: &mut M,
+    addr: u64,
+    buffer: &mut [u8],
+) -> Result<(), MemFault>
+    ensures answer { result
+        ≡ result_of (read_fault (M.memory memory.old) addr (length buffer.old) false) }
+    ensures bytes { buffer.new
+        ≡ (if is_ok result
+        then read_bytes (M.memory memory.old) addr (length buffer.old)
+        else buffer.old) }
+    ensures memory { M.memory memory.new ≡ M.memory memory.old }
+    ensures kept { M.kept memory.old memory.new }
+{
+    memory.read(addr, buffer, false)
+}
 
 /// A tenant's machine, as the definition has it, and a snapshot of it. Its table of kept
 /// instructions stays when it is restored.
@@ -111,6 +133,24 @@ impl SnapshotTenant {
         );
     }
 
+    /// A slice of at most `steps` instructions whose comparisons are entered.
+    pub fn slice_compared(&mut self, edges: &mut ComparedEdges<'_, '_, '_>, steps: u32)
+        ensures machine { machine_of self.new.parts self.new.memory.now
+            ≡ after_slice steps (machine_of self.old.parts self.old.memory.now) }
+        ensures saved { machine_of self.new.saved self.new.memory.saved
+            ≡ machine_of self.old.saved self.old.memory.saved }
+        ensures chunks { self.new.chunks ≡ self.old.chunks }
+    {
+        slice_noted(
+            &mut self.words,
+            edges,
+            &mut self.parts,
+            &mut self.memory,
+            steps,
+            0,
+        );
+    }
+
     /// A slice of at most `steps` instructions, whatever watches it.
     pub fn slice_with(&mut self, watch: &mut RunWatch<'_>, steps: u32)
         ensures machine { machine_of self.new.parts self.new.memory.now
@@ -123,6 +163,24 @@ impl SnapshotTenant {
             RunWatch::Edges(edges) => self.slice(edges, steps),
             RunWatch::Exact(exact) => self.slice_exact(exact, steps),
         }
+    }
+
+    /// Copies bytes out of pages with READ, whatever their tags; after a fault the buffer is as it
+    /// was.
+    pub fn read(&mut self, addr: u64, buffer: &mut [u8]) -> Result<(), MemFault>
+        ensures answer { result
+            ≡ result_of (read_fault self.old.memory.now addr (length buffer.old) false) }
+        ensures bytes { buffer.new
+            ≡ (if is_ok result
+            then read_bytes self.old.memory.now addr (length buffer.old)
+            else buffer.old) }
+        ensures machine { machine_of self.new.parts self.new.memory.now
+            ≡ machine_of self.old.parts self.old.memory.now }
+        ensures saved { machine_of self.new.saved self.new.memory.saved
+            ≡ machine_of self.old.saved self.old.memory.saved }
+        ensures chunks { self.new.chunks ≡ self.old.chunks }
+    {
+        read_without_tags(&mut self.memory, addr, buffer)
     }
 
     /// Makes the snapshot that of the machine now. Where memory is refused, nothing changes.

@@ -7,11 +7,13 @@ ghost use Rattle.tombolopan_c.specs.declared.codes.TheConstants.{OK};
 ghost use Rattle.tombolopan_c.specs.LentFuzz.{HasAnswered, HasRead, HasRun, now_of, saved_of};
 
 use crate::alone_end::AloneEnd;
-use crate::codes::{BAD_ARGUMENT, FAULT, NO_MACHINE, NO_REFUSAL, OK, OUT_OF_MEMORY};
+use crate::codes::{BAD_ARGUMENT, NO_MACHINE, NO_REFUSAL, OK, OUT_OF_MEMORY};
+use crate::faults::{FaultReport, report};
 use crate::fuzz_input::LentFuzzInput;
-use mte_tags::Tagged;
 use std::alloc::Global;
-use tenant_snapshot::{ComparedEdges, Comparisons, EdgeMap, FuzzHandle, SnapshotTenant};
+use tenant_snapshot::{
+    ComparedEdges, Comparison, Comparisons, EdgeMap, FuzzHandle, SnapshotTenant,
+};
 
 /// Does what `tb_fuzz_run` does, and enters what the instructions of the run compare, and the calls
 /// of functions that compare texts. An address has eight places; of each the comparison that comes
@@ -23,7 +25,7 @@ pub extern "C" fn tb_fuzz_run_compared(
     fuzz: &mut FuzzHandle,
     run: &LentFuzzInput<'_>,
     map: &mut [u8],
-    compared: &mut Comparisons<'_>,
+    compared: &mut Comparisons<'_, '_>,
     end: &mut AloneEnd,
 ) -> u32
     ensures code { result ≡ end.new.code }
@@ -32,15 +34,31 @@ pub extern "C" fn tb_fuzz_run_compared(
     ensures map { result ≢ OK → map.new ≡ map.old }
     ensures entries { result ≢ OK → compared.new.entries.now ≡ compared.old.entries.now }
 {
-    *end = match fuzz.take(alloc) {
+    *end = compare_kept(alloc, fuzz, run, map, compared);
+    end.code
+}
+
+/// Runs the machine that a handle holds, if it holds one, and reports how the tenant ended.
+fn compare_kept(
+    alloc: Global,
+    fuzz: &mut FuzzHandle,
+    run: &LentFuzzInput<'_>,
+    map: &mut [u8],
+    compared: &mut Comparisons<'_, '_>,
+) -> AloneEnd
+    ensures ran { HasRun run.now (is_map_length (length map.old)
+        && is_map_length (length compared.old.entries.now)) fuzz.old.value fuzz.new.value result }
+    ensures map { result.code ≢ OK → map.new ≡ map.old }
+    ensures entries { result.code ≢ OK → compared.new.entries.now ≡ compared.old.entries.now }
+{
+    match fuzz.take(alloc) {
         Some(mut machine) => {
             let told = answer_compared(alloc, &mut machine, run, map, compared);
             fuzz.put(machine);
             told
         }
         None => AloneEnd::without_tenant(NO_MACHINE, NO_REFUSAL),
-    };
-    end.code
+    }
 }
 
 /// Runs a machine with an input, enters its comparisons, and reports how the tenant ended.
@@ -49,7 +67,7 @@ fn answer_compared(
     machine: &mut SnapshotTenant,
     run: &LentFuzzInput<'_>,
     map: &mut [u8],
-    compared: &mut Comparisons<'_>,
+    compared: &mut Comparisons<'_, '_>,
 ) -> AloneEnd
     ensures answered { HasAnswered run.now (is_map_length (length map.old)
         && is_map_length (length compared.old.entries.now)) machine.old machine.new result }
@@ -63,19 +81,39 @@ fn answer_compared(
     if machine.restore(alloc, run.input).is_err() {
         return AloneEnd::without_tenant(OUT_OF_MEMORY, NO_REFUSAL);
     }
-    let map = EdgeMap::new(map, run.saturating != 0);
-    let mut edges = ComparedEdges::new(map, compared.functions, &mut *compared.entries);
-    run_slices(machine, &mut edges, run.slices);
+    run_compared(
+        machine,
+        run,
+        map,
+        compared.functions,
+        &mut *compared.entries,
+    );
     AloneEnd::of_record(OK, &machine.parts.history)
 }
 
+/// Runs a machine for slices, counts its branches, and enters its comparisons.
+fn run_compared(
+    machine: &mut SnapshotTenant,
+    run: &LentFuzzInput<'_>,
+    map: &mut [u8],
+    functions: &[u64],
+    entries: &mut [Comparison],
+)
+    ensures machine { now_of machine.new ≡ after_slices (now_of machine.old) run.now.slices.now }
+    ensures saved { saved_of machine.new ≡ saved_of machine.old }
+{
+    let map = EdgeMap::new(map, run.saturating != 0);
+    let mut edges = ComparedEdges::new(map, functions, entries);
+    run_slices(machine, &mut edges, run.slices);
+}
+
 /// Runs a machine for slices, and enters its comparisons.
-fn run_slices(machine: &mut SnapshotTenant, edges: &mut ComparedEdges<'_>, slices: &[u32])
+fn run_slices(machine: &mut SnapshotTenant, edges: &mut ComparedEdges<'_, '_, '_>, slices: &[u32])
     ensures machine { now_of machine.new ≡ after_slices (now_of machine.old) slices.now }
     ensures saved { saved_of machine.new ≡ saved_of machine.old }
 {
     for steps in slices {
-        machine.slice(edges, *steps);
+        machine.slice_compared(edges, *steps);
     }
 }
 
@@ -93,12 +131,9 @@ pub extern "C" fn tb_fuzz_read(
 {
     match fuzz.take(alloc) {
         Some(mut machine) => {
-            let answer = machine.memory.read(addr, buffer, false);
+            let answer = machine.read(addr, buffer);
             fuzz.put(machine);
-            match answer {
-                Ok(()) => OK,
-                Err(_) => FAULT,
-            }
+            report(answer, &mut FaultReport::none())
         }
         None => NO_MACHINE,
     }

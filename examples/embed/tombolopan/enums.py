@@ -11,7 +11,7 @@ from collections.abc import Mapping
 from enum import IntEnum, IntFlag
 
 from .abi import (
-    CODES, FAULT_KINDS, HEAP_ABORTS, REFUSALS, SCRIPT_FAULTS, STATUSES, TRESPASSES,
+    CODES, COMPARISONS, FAULT_KINDS, HEAP_ABORTS, REFUSALS, SCRIPT_FAULTS, STATUSES, TRESPASSES,
 )
 from .words import Word
 
@@ -203,3 +203,8 @@ def tenant_status_name(status: int) -> str:
 def trespass_name(kind: int) -> str:
     """The name of what an access does beyond its chunk; "none" for 0."""
     return _entry(TRESPASSES, kind)
+
+
+def comparison_name(kind: int) -> str:
+    """The name of what compared two numbers, or texts; "none" for 0."""
+    return _entry(COMPARISONS, kind)

@@ -20,19 +20,23 @@ static void tell(const char *what, uint32_t code, const tb_alone_end *end) {
            (unsigned)end->status.number, sum);
 }
 
-/* The run whose comparisons are entered, how many are, and the image's first bytes in memory. */
+/* The run whose comparisons are entered, how many are, and whether one's instruction is read. */
 static void compare(const tb_fuzz_input *input, size_t length) {
     tb_comparisons compared = {(const uint64_t *)places, 0, places, length};
     tb_alone_end end;
     uint8_t bytes[4];
     unsigned entered = 0;
+    uint64_t at = 0;
     memset(&end, 0xee, sizeof end);
     memset(counts, 0, sizeof counts);
     memset(places, 0, sizeof places);
     tell("compared", tb_fuzz_run_compared(&fuzz, input, counts, length, &compared, &end), &end);
-    for (size_t i = 0; i < 512; i++)
+    for (size_t i = 0; i < 512; i++) {
         entered += places[i].kind != 0;
-    printf("entered %u %u\n", entered, (unsigned)tb_fuzz_read(&fuzz, 0x10000, bytes, 4));
+        if (places[i].kind != 0 && at == 0)
+            at = places[i].pc;
+    }
+    printf("entered %u %u\n", entered, (unsigned)tb_fuzz_read(&fuzz, at, bytes, 4));
 }
 
 static void run(const char *text, size_t length, size_t map_length) {

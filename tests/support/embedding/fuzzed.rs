@@ -22,8 +22,9 @@ fn run(fuzz: &mut Fuzz, text: &[u8], map_length: usize) {
     let mut places = vec![Comparison::default(); map_length];
     let end = fuzz.run_compared(text, &[100000], &mut counts, &[], &mut places);
     tell("compared", &end, &counts);
-    let entered = places.iter().filter(|it| it.kind != 0).count();
-    println!("entered {entered} {}", fuzz.read(0x10000, &mut [0; 4]));
+    let entered: Vec<_> = places.iter().filter(|it| it.kind != 0).collect();
+    let at = entered.first().map_or(0, |it| it.pc);
+    println!("entered {} {}", entered.len(), fuzz.read(at, &mut [0; 4]));
 }
 
 fn make(image: &[u8], pages: u32) -> Fuzz {
