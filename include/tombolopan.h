@@ -7,9 +7,9 @@
  * state, the registers. The library keeps nothing between calls but the machine that tb_fuzz_new
  * makes and tb_fuzz_free frees (tb_fuzz), and only these, tb_fuzz_run, tb_fuzz_run_exact,
  * tb_fuzz_run_compared, tb_session, tb_alone, tb_machine_acts, tb_machine_pages, tb_heap_calls,
- * tb_heap_replay, tb_heap_pages and tb_heap_live allocate, the last eight for their own time. So the caller may
- * read and write all that it lends between calls, copy it, or place it in a file. Every content has
- * a meaning:
+ * tb_heap_replay, tb_heap_pages and tb_heap_live allocate, the last eight for their own time. So
+ * the caller may read and write all that it lends between calls, copy it, or place it in a file.
+ * Every content has a meaning:
  *
  * - A place with `mapped` 0 is free; zero bytes are free places and the synchronous mode.
  * - Of several places of one page the first counts.

@@ -42,13 +42,15 @@ STRUCTS = {
     "FuzzHandle": ("tb_fuzz", "RawFuzz", "_Fuzz"),
     "LentFuzzInput": ("tb_fuzz_input", "RawFuzzInput", "_FuzzInput"),
     "FuzzFinding": ("tb_fuzz_finding", "FuzzFinding", "_FuzzFinding"),
+    "ComparisonEntry": ("tb_comparison", "Comparison", "_Comparison"),
+    "Comparisons": ("tb_comparisons", "RawComparisons", "_Comparisons"),
 }
 CALLS = [
     "tb_version", "tb_build_info", "tb_session", "tb_alone", "tb_memory_init", "tb_map", "tb_unmap",
     "tb_read", "tb_write", "tb_load", "tb_load_tag", "tb_store_tags", "tb_step", "tb_run",
     "tb_run_until", "tb_heap_calls", "tb_heap_replay", "tb_run_traced", "tb_disassemble",
     "tb_machine_acts", "tb_machine_pages", "tb_heap_pages", "tb_heap_live", "tb_fuzz_new",
-    "tb_fuzz_run", "tb_fuzz_run_exact", "tb_fuzz_free",
+    "tb_fuzz_run", "tb_fuzz_run_exact", "tb_fuzz_run_compared", "tb_fuzz_read", "tb_fuzz_free",
 ]
 FOLDERS = ("crates", "docs", "include", "examples", "tools")
 FIELD = r"(?<=^    pub )\w+: [^,\n]+(?=,)|(?<=^    )(?!pub )\w+: [^,\n]+(?=,)"
@@ -103,7 +105,7 @@ def test_fields_of_another_width(name: str) -> None:
     """A number of a struct with another width, in the crate, in C, in Rust and in Python."""
     for language in range(4):
         path, begin, end = body_of(language, name)
-        if name not in ("LentBytes", "MachineEnd", "FuzzHandle", "TraceArrays"):
+        if name not in ("LentBytes", "MachineEnd", "FuzzHandle", "TraceArrays", "Comparisons"):
             assert not unnoticed(border.each_replaced(
                 path, r"\bu(\d+)\b|\buint(\d+)_t\b|\bc_uint(\d+)\b", widened, begin, end
             ))
@@ -125,7 +127,7 @@ def test_arguments_of_another_width(name: str) -> None:
                     "tb_store_tags", "tb_heap_calls", "tb_heap_replay", "tb_run_traced",
                     "tb_machine_acts",
                     "tb_machine_pages", "tb_heap_pages", "tb_heap_live", "tb_fuzz_new",
-                    "tb_fuzz_run", "tb_fuzz_run_exact", "tb_fuzz_free"):
+                    "tb_fuzz_run", "tb_fuzz_run_exact", "tb_fuzz_run_compared", "tb_fuzz_free"):
         for path, begin in places:
             assert not unnoticed(border.each_replaced(path, number, widened, begin, ")"))
 

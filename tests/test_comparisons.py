@@ -15,7 +15,7 @@ from tests.reference.decode import decode
 from tests.reference.drawing import POOL, TABLE, ZERO, data_word, word
 from tests.reference.runs import INPUT, Runner
 from tests.support.instructions import SERVICE, move, program
-from tests.test_fuzz import hash_of
+from tests.test_fuzz import BEGIN, hash_of
 from tests.test_python_package import told
 
 # How many programs of each kind are drawn, and how many words one of comparisons has.
@@ -123,3 +123,44 @@ def test_comparisons_are_those_of_the_trace(shared: pathlib.Path, alone: pathlib
     found = told_of(shared, cases, tmp_path / "cases")
     assert found == [[list(dataclasses.astuple(it)) for it in them] for them in wanted]
     assert len(kinds) == 10 and min(kinds.values()) >= DRAWN, kinds
+
+
+def test_lengths_and_bytes(shared: pathlib.Path) -> None:
+    """Arrays of other lengths change nothing; bytes are those of the machine after its run, where
+    they may be read."""
+    assert told(shared, BEGIN + """
+from tombolopan.abi import _library, _AloneEnd, _Comparisons, _Fuzz, _FuzzInput
+end, none = _AloneEnd(), _Fuzz()
+text, cuts = ctypes.create_string_buffer(b"A"), (ctypes.c_uint32 * 1)(100)
+given = _FuzzInput(ctypes.addressof(text), 1, ctypes.addressof(cuts), 1, 0, 0)
+
+def compared(machine, length, room):
+    lent = [(ctypes.c_uint8 * max(it, 1))(*[7] * max(it, 1)) for it in (length, 48 * room)]
+    at = ctypes.addressof(lent[1])
+    code = _library.tb_fuzz_run_compared(
+        ctypes.byref(machine), given, lent[0], length, _Comparisons(at, 0, at, room),
+        ctypes.byref(end))
+    assert end.code == code and (code == OK or all(set(it) == {7} for it in lent))
+    return code
+
+wrong, right = (0, 1, 8, 128, 255, 300, 65535, 131072), (256, 512, 65536)
+machine = fuzz._machine
+assert {compared(machine, 256, it) for it in wrong} == {BAD_ARGUMENT}
+assert {compared(machine, it, 256) for it in wrong} == {BAD_ARGUMENT}
+assert {compared(machine, 256, it) for it in right} == {OK}
+assert {compared(none, *it) for it in ((256, 256), (0, 256), (256, 0))} == {NO_MACHINE}
+fuzz.run(b"A")
+assert fuzz.read(0x10000, 8) == fuzz.read(0x10000, 4) + fuzz.read(0x10004, 4)
+assert fuzz.read(0x10000, 8) in image and fuzz.read(0x10000, 0) == b""
+for address in (0, 0x10ffe, 1 << 55):
+    try:
+        print(fuzz.read(address, 4))
+    except KeyError as error:
+        assert error.args == (address,)
+fuzz.close()
+for call in (lambda: fuzz.read(0x10000, 4), lambda: fuzz.compare(b"")):
+    try:
+        call()
+    except ValueError as error:
+        print(error)
+""") == "the machine is closed\n" * 2

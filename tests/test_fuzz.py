@@ -39,7 +39,7 @@ CONDITIONAL = re.compile(r"(b\.|cbn?z|tbn?z)")
 IMAGES = sorted((pathlib.Path(__file__).parent / "images").glob("*.elf"))
 BEGIN = f"""
 import ctypes
-from tombolopan.abi import _library, _AloneEnd, _Comparisons, _Fuzz, _FuzzFinding, _FuzzInput
+from tombolopan.abi import _library, _AloneEnd, _Fuzz, _FuzzFinding, _FuzzInput
 image = bytes.fromhex('{IMAGE.hex()}')
 fuzz = Fuzz(image, pages=64, room=16)
 """
@@ -76,16 +76,6 @@ def run(machine, length):
     code = _library.tb_fuzz_run(*lent[:2], counts, length, lent[2])
     assert end.code == code == _library.tb_fuzz_run_exact(*lent[:2], counts, length, *lent[2:])
     assert not any(bytes(found)) and (code == OK or set(counts) == {7})
-    assert code == compared(machine, counts, length, 256)
-    return code
-
-def compared(machine, counts, length, room):
-    places = (ctypes.c_uint8 * (48 * max(room, 1)))(*[7] * 48 * max(room, 1))
-    at = ctypes.addressof(places)
-    code = _library.tb_fuzz_run_compared(
-        ctypes.byref(machine), given, counts, length, _Comparisons(at, 0, at, room),
-        ctypes.byref(end))
-    assert end.code == code and (code == OK or set(places) == {7})
     return code
 
 assert run(none, 256) == NO_MACHINE and end.status.status == 0 and not none.machine
@@ -93,20 +83,6 @@ assert [run(fuzz._machine, it) for it in (0, 1, 128, 255, 257, 300, 4095, 65535,
     == [BAD_ARGUMENT] * 10
 assert [run(fuzz._machine, 1 << it) for it in range(8, 17)] == [OK] * 9
 assert end.status.number == ord("A")
-lengths = (0, 1, 8, 128, 255, 300, 65535, 131072, 256, 512, 65536)
-assert [compared(fuzz._machine, (ctypes.c_uint8 * 1)(), 0, it) for it in lengths] == [BAD_ARGUMENT] * 11
-counts = (ctypes.c_uint8 * 256)()
-assert [compared(fuzz._machine, counts, 256, it) for it in lengths] \\
-    == [BAD_ARGUMENT] * 8 + [OK] * 3
-assert fuzz.read(0x10000, 8) == fuzz.read(0x10000, 4) + fuzz.read(0x10004, 4)
-assert fuzz.read(0x10000, 8) in image and fuzz.read(0x10000, 0) == b""
-for address in (0, 0x10ffe, 1 << 55):
-    try:
-        fuzz.read(address, 4)
-    except KeyError as error:
-        assert error.args == (address,)
-    else:
-        print("read", hex(address))
 of = dict(image=image)
 for terms in (of | dict(pages=0), of | dict(pages=4097), of | dict(room=65537), of | dict(pages=2),
               dict(image=image[:60])):

@@ -111,7 +111,8 @@ def comparisons(moments: Sequence[Moment], functions: Sequence[int]) -> Iterator
     for last, at in zip(before, moments):
         place = target(at)
         if place in functions:
-            yield Comparison(at.step.number, at.step.pc, *at.before[:3], "call",
+            first, second, third = at.before[:3]
+            yield Comparison(at.step.number, at.step.pc, first, second, third, "call",
                              list(functions).index(place or 0))
         elif found := values(last, at):
             kind, left, right = found

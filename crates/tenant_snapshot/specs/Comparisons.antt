@@ -15,15 +15,15 @@ use Rattle.a64_registers.specs.Registers.{register, register_or_sp}
 use Rattle.a64_step.specs.Addressing.{offset_address}
 use Rattle.a64_step.specs.Logical.{mask_or_zero, shifted_operand}
 use Rattle.tenant_snapshot.specs.Maps.{edge_hash}
-use Rattle.tenant_snapshot.specs.declared.comparison.Comparison.{Comparison}
-use Rattle.tenant_snapshot.specs.declared.comparison.Operation.{Operation}
+use Rattle.tenant_snapshot.specs.declared.comparison.ComparisonEntry.{ComparisonEntry}
+use Rattle.tenant_snapshot.specs.declared.comparison.ComparedOperation.{ComparedOperation}
 use Rattle.tenant_snapshot.specs.declared.comparison_kinds.TheConstants as kind
 
 -- ---- what is compared (Arm ARM DDI 0487, C6.2)
 
 -- A comparison of two numbers of 32 bits, where sf is 0, or of 64; whoever enters it adds the step
 -- and the address.
-abbrev pub comparison : ℕ → ℕ → ℕ → ℕ → Comparison
+abbrev pub comparison : ℕ → ℕ → ℕ → ℕ → ComparisonEntry
 comparison kind sf left right = record {
   step = 0;
   pc = 0;
@@ -42,11 +42,13 @@ sum_kind op s =
 
 -- What AND, ORR, EOR and ANDS compare so.
 abbrev pub logic_kind : ℕ → ℕ
-logic_kind opc = if opc == ANDS then kind.COMPARED_ANDS else (if opc == EOR then kind.COMPARED_EOR_CBZ else kind.NOT_COMPARED)
+logic_kind opc =
+    if opc == ANDS then kind.COMPARED_ANDS
+    else (if opc == EOR then kind.COMPARED_EOR_CBZ else kind.NOT_COMPARED)
 
 -- The operands of an addition or a subtraction. The second one is of rm, or of no register where
 -- that is 31.
-abbrev pub sum_of : Regs → Instr → Option Operation
+abbrev pub sum_of : Regs → Instr → Option ComparedOperation
 sum_of r (instr.AddSubImm sf op s sh imm12 rn rd) =
     Some (record {
       kind = sum_kind op s;
@@ -77,7 +79,7 @@ sum_of r (instr.AddSubExt sf op s rm option imm3 rn rd) =
 sum_of r other = None
 
 -- The operands of an operation on bits.
-abbrev pub logic_of : Regs → Instr → Option Operation
+abbrev pub logic_of : Regs → Instr → Option ComparedOperation
 logic_of r (instr.LogImm sf opc n immr imms rn rd) =
     Some (record {
       kind = logic_kind opc;
@@ -98,16 +100,16 @@ logic_of r (instr.LogShift sf opc shift n rm imm6 rn rd) =
     })
 logic_of r other = None
 
-abbrev pub or_logic : Regs → Instr → Option Operation → Option Operation
+abbrev pub or_logic : Regs → Instr → Option ComparedOperation → Option ComparedOperation
 or_logic r i None = logic_of r i
 or_logic r i (Some o) = Some o
 
 -- The operands of either.
-abbrev pub operation_of : Regs → Instr → Option Operation
+abbrev pub operation_of : Regs → Instr → Option ComparedOperation
 operation_of r i = or_logic r i (sum_of r i)
 
 -- What an operation compares by itself: it sets the flags.
-abbrev pub by_flags : Option Operation → Option Comparison
+abbrev pub by_flags : Option ComparedOperation → Option ComparisonEntry
 by_flags None = None
 by_flags (Some o) =
     if (o.kind == kind.COMPARED_SUBS) || (o.kind == kind.COMPARED_ADDS)
@@ -117,34 +119,35 @@ by_flags (Some o) =
 
 -- Whether the value of a register is that of a subtraction, or of an exclusive OR, right before,
 -- whose second operand is still in its register.
-abbrev pub is_result : Operation → ℕ → ℕ → Bool
+abbrev pub is_result : ComparedOperation → ℕ → ℕ → Bool
 is_result o sf rt =
-    ((o.kind == kind.COMPARED_SUB_CBZ) || (o.kind == kind.COMPARED_EOR_CBZ)) && (o.sf == sf) && (o.rd == rt)
-    && not (o.rm == rt) && not (rt == 31)
+    ((o.kind == kind.COMPARED_SUB_CBZ) || (o.kind == kind.COMPARED_EOR_CBZ)) && (o.sf == sf)
+    && (o.rd == rt) && not (o.rm == rt) && not (rt == 31)
 
 -- What CBZ and CBNZ compare: the register with 0, or the operands of what came right before them.
 -- The first one is what the result and the second one give.
-abbrev pub with_zero : Option Operation → Regs → ℕ → ℕ → Comparison
+abbrev pub with_zero : Option ComparedOperation → Regs → ℕ → ℕ → ComparisonEntry
 with_zero None r sf rt = comparison kind.COMPARED_CBZ sf (operand sf (register r rt)) 0
 with_zero (Some o) r sf rt =
     let value = operand sf (register r rt) in
     if is_result o sf rt
     then comparison o.kind sf
-    (if o.kind == kind.COMPARED_SUB_CBZ then (value + o.right) % 2 ^ size_of sf else bit_xor value o.right)
+    (if o.kind == kind.COMPARED_SUB_CBZ then (value + o.right) % 2 ^ size_of sf
+    else bit_xor value o.right)
     o.right
     else comparison kind.COMPARED_CBZ sf value 0
 
 -- The operation that a word is, if it is one.
-abbrev pub operation_before : Regs → Option Instr → Option Operation
+abbrev pub operation_before : Regs → Option Instr → Option ComparedOperation
 operation_before r None = None
 operation_before r (Some i) = operation_of r i
 
 -- The bit that TBZ and TBNZ test.
-abbrev pub bit_of : Regs → ℕ → ℕ → ℕ → Comparison
+abbrev pub bit_of : Regs → ℕ → ℕ → ℕ → ComparisonEntry
 bit_of r b5 b40 rt = comparison kind.COMPARED_TBZ 1 (register r rt) (2 ^ (32 * b5 + b40))
 
 -- A call of one of some functions, with three arguments.
-abbrev pub call_of : List ℕ → Regs → ℕ → Option Comparison
+abbrev pub call_of : List ℕ → Regs → ℕ → Option ComparisonEntry
 call_of functions r target =
     option_map
     (λ place. record {
@@ -159,7 +162,7 @@ call_of functions r target =
     (position (λ f. f == target % 2 ^ 56) functions)
 
 -- What an instruction compares, where a word was attempted before it.
-abbrev pub comparison_of : List ℕ → ℕ → Regs → ℕ → Instr → Option Comparison
+abbrev pub comparison_of : List ℕ → ℕ → Regs → ℕ → Instr → Option ComparisonEntry
 comparison_of functions before r pc (instr.CondCmp sf op rm cond i rn nzcv) =
     if holds r.flags cond
     then Some (comparison (if op == 1 then kind.COMPARED_CCMP else kind.COMPARED_CCMN) sf
@@ -178,33 +181,33 @@ comparison_of functions before r pc i = by_flags (operation_of r i)
 -- ---- where it is entered
 
 -- The place of a comparison: its address has eight, and both operands choose one of them.
-abbrev pub place_of : ℕ → Comparison → ℕ
+abbrev pub place_of : ℕ → ComparisonEntry → ℕ
 place_of count c = bit_and (c.pc / 4) (count / 8 - 1) * 8 + edge_hash c.left c.right % 8
 
 -- The entries with one more, which takes the place of another.
-abbrev pub with_comparison : List Comparison → Comparison → List Comparison
+abbrev pub with_comparison : List ComparisonEntry → ComparisonEntry → List ComparisonEntry
 with_comparison entries c = slice_set entries (place_of (length entries) c) c
 
--- The entries after an instruction of a word at an address, attempted as the step of a number, where
+-- The entries after an instruction of a word at an address, which is the step of a number, where
 -- another word was attempted before it.
-abbrev pub entered : List Comparison → ℕ → ℕ → Option Comparison → List Comparison
+abbrev pub entered : List ComparisonEntry → ℕ → ℕ → Option ComparisonEntry → List ComparisonEntry
 entered entries step pc None = entries
 entered entries step pc (Some c) = with_comparison entries (record c { step = step; pc = pc })
 
-abbrev pub compared_by : List ℕ → ℕ → Regs → ℕ → Option Instr → Option Comparison
+abbrev pub compared_by : List ℕ → ℕ → Regs → ℕ → Option Instr → Option ComparisonEntry
 compared_by functions before r pc None = None
 compared_by functions before r pc (Some i) = comparison_of functions before r pc i
 
 abbrev pub entries_after :
-    List ℕ → ℕ → ℕ → Regs → ℕ → ℕ → List Comparison → List Comparison
+    List ℕ → ℕ → ℕ → Regs → ℕ → ℕ → List ComparisonEntry → List ComparisonEntry
 entries_after functions step before r pc word entries =
     entered entries step pc (compared_by functions before r pc (instr_of_word word))
 
 -- ---- which words are looked at
 
--- Bits 30 to 24 of the words that are looked at (Arm ARM DDI 0487, C4.1): B and BL; ADDS of
--- registers; ADDS of a number; CBZ, CBNZ, TBZ and TBNZ; CCMN; BR and BLR; ANDS and SUBS of registers;
--- SUBS and ANDS of a number; CCMP. Each is a bit.
+-- Bits 30 to 24 of the words that are looked at (Arm ARM DDI 0487, C4.1), each as a bit: B and BL;
+-- ADDS of registers; ADDS of a number; CBZ, CBNZ, TBZ and TBNZ; CCMN; BR and BLR; ANDS and SUBS of
+-- registers; SUBS and ANDS of a number; CCMP.
 abbrev pub groups : ℕ
 groups =
     15 * 2 ^ 0x14 + 2 ^ 0x2B + 2 ^ 0x31 + 15 * 2 ^ 0x34 + 2 ^ 0x3A + 2 ^ 0x56 + 3 * 2 ^ 0x6A

@@ -4,7 +4,7 @@ ghost use Rattle.std.specs.Prelude.{◌≡◌, None};
 ghost use Rattle.tenant_snapshot.specs.Comparisons.{entries_after, may_compare, place_of};
 ghost use Rattle.tenant_snapshot.specs.Comparisons.{with_comparison};
 
-use crate::comparison::{Comparison, compared};
+use crate::comparison::{ComparisonEntry, compared};
 use crate::edge_map::{CountedEdges, EdgeMap, hash};
 use a64_decode::Decoder;
 use a64_registers::Regs;
@@ -20,13 +20,13 @@ pub struct Comparisons<'f, 'e> {
     /// The addresses of functions that compare texts.
     pub functions: &'f [u64],
     /// Where comparisons are entered; a power of two of places from MAP_MIN to MAP_MAX.
-    pub entries: &'e mut [Comparison],
+    pub entries: &'e mut [ComparisonEntry],
 }
 
 /// The place of a comparison among so many: its address has eight, and both operands choose one of
 /// them.
 #[inline(always)]
-fn place(count: usize, comparison: &Comparison) -> usize
+fn place(count: usize, comparison: &ComparisonEntry) -> usize
     ensures { result ≡ place_of count comparison.now }
 {
     let set = (comparison.pc / 4) as usize & (count / 8).saturating_sub(1);
@@ -35,7 +35,7 @@ fn place(count: usize, comparison: &Comparison) -> usize
 
 /// Enters a comparison; all other places stay.
 #[inline(always)]
-pub(crate) fn enter(entries: &mut [Comparison], comparison: Comparison)
+pub(crate) fn enter(entries: &mut [ComparisonEntry], comparison: ComparisonEntry)
     ensures { entries.new ≡ with_comparison entries.old comparison }
 {
     let at = place(entries.len(), &comparison);
@@ -69,7 +69,7 @@ fn may_compare(word: u32) -> bool
 pub struct ComparedEdges<'m, 'f, 'e> {
     edges: CountedEdges<'m>,
     functions: &'f [u64],
-    entries: &'e mut [Comparison],
+    entries: &'e mut [ComparisonEntry],
     decoder: Decoder,
     /// How many instructions were attempted.
     steps: u64,
@@ -82,7 +82,7 @@ impl<'m, 'f, 'e> ComparedEdges<'m, 'f, 'e> {
     pub fn new(
         map: Option<EdgeMap<'m>>,
         functions: &'f [u64],
-        entries: &'e mut [Comparison],
+        entries: &'e mut [ComparisonEntry],
     ) -> ComparedEdges<'m, 'f, 'e> {
         ComparedEdges {
             edges: CountedEdges { map },
@@ -108,7 +108,7 @@ impl<'m, 'f, 'e> ComparedEdges<'m, 'f, 'e> {
         let (decoder, before) = (&mut self.decoder, self.before);
         if let Some(found) = compared(self.functions, decoder, before, regs, pc, &instr) {
             let step = self.steps;
-            enter(self.entries, Comparison { step, pc, ..found });
+            enter(self.entries, ComparisonEntry { step, pc, ..found });
         }
     }
 }

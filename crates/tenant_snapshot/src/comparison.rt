@@ -24,7 +24,7 @@ use a64_step::logical::shift_operand;
 /// What an instruction compared, or what a function that compares texts was called with.
 #[repr(C)]
 #[derive(Clone, Copy)]
-pub struct Comparison {
+pub struct ComparisonEntry {
     /// The number of the instruction among those that the run attempted, from 1.
     pub step: u64,
     /// The address of the instruction.
@@ -44,7 +44,7 @@ pub struct Comparison {
 
 /// An addition, a subtraction or an operation on bits, with its operands.
 #[derive(Clone, Copy)]
-pub(crate) struct Operation {
+pub(crate) struct ComparedOperation {
     /// What it compares by itself (SUBS, ADDS, ANDS), or with a CBZ of its result.
     kind: u32,
     /// 0 has 32 bits, 1 has 64.
@@ -59,10 +59,10 @@ pub(crate) struct Operation {
 
 /// A comparison of two operands.
 #[inline(always)]
-fn compare(kind: u32, sf: u8, left: u64, right: u64) -> Comparison
+fn compare(kind: u32, sf: u8, left: u64, right: u64) -> ComparisonEntry
     ensures { result ≡ comparison kind sf left right }
 {
-    Comparison {
+    ComparisonEntry {
         step: 0,
         pc: 0,
         left,
@@ -101,12 +101,12 @@ fn kind_of_logic(opc: u8) -> u32
 /// The operands of an addition or a subtraction; `None` of another instruction.
 #[rattlefmt::skip]
 #[inline(always)]
-fn sum(instr: &Instr, regs: &Regs) -> Option<Operation>
+fn sum(instr: &Instr, regs: &Regs) -> Option<ComparedOperation>
     requires { IsAllowed instr.now }
     ensures { result ≡ sum_of regs.now instr.now }
 {
     match *instr {
-        Instr::AddSubImm { sf, op, s, sh, imm12, rn, rd } => Some(Operation {
+        Instr::AddSubImm { sf, op, s, sh, imm12, rn, rd } => Some(ComparedOperation {
             kind: kind_of_sum(op, s),
             sf,
             left: truncate(sf, regs.get_or_sp(rn)),
@@ -114,7 +114,7 @@ fn sum(instr: &Instr, regs: &Regs) -> Option<Operation>
             rm: 31,
             rd,
         }),
-        Instr::AddSubShift { sf, op, s, shift, rm, imm6, rn, rd } => Some(Operation {
+        Instr::AddSubShift { sf, op, s, shift, rm, imm6, rn, rd } => Some(ComparedOperation {
             kind: kind_of_sum(op, s),
             sf,
             left: truncate(sf, regs.get(rn)),
@@ -122,7 +122,7 @@ fn sum(instr: &Instr, regs: &Regs) -> Option<Operation>
             rm,
             rd,
         }),
-        Instr::AddSubExt { sf, op, s, rm, option, imm3, rn, rd } => Some(Operation {
+        Instr::AddSubExt { sf, op, s, rm, option, imm3, rn, rd } => Some(ComparedOperation {
             kind: kind_of_sum(op, s),
             sf,
             left: truncate(sf, regs.get_or_sp(rn)),
@@ -137,12 +137,12 @@ fn sum(instr: &Instr, regs: &Regs) -> Option<Operation>
 /// The operands of an operation on bits; `None` of another instruction.
 #[rattlefmt::skip]
 #[inline(always)]
-fn logic(instr: &Instr, regs: &Regs) -> Option<Operation>
+fn logic(instr: &Instr, regs: &Regs) -> Option<ComparedOperation>
     requires { IsAllowed instr.now }
     ensures { result ≡ logic_of regs.now instr.now }
 {
     match *instr {
-        Instr::LogImm { sf, opc, n, immr, imms, rn, rd } => Some(Operation {
+        Instr::LogImm { sf, opc, n, immr, imms, rn, rd } => Some(ComparedOperation {
             kind: kind_of_logic(opc),
             sf,
             left: truncate(sf, regs.get(rn)),
@@ -150,7 +150,7 @@ fn logic(instr: &Instr, regs: &Regs) -> Option<Operation>
             rm: 31,
             rd,
         }),
-        Instr::LogShift { sf, opc, shift, n, rm, imm6, rn, rd } => Some(Operation {
+        Instr::LogShift { sf, opc, shift, n, rm, imm6, rn, rd } => Some(ComparedOperation {
             kind: kind_of_logic(opc),
             sf,
             left: truncate(sf, regs.get(rn)),
@@ -164,7 +164,7 @@ fn logic(instr: &Instr, regs: &Regs) -> Option<Operation>
 
 /// The operands of either.
 #[inline(always)]
-fn find_operation(instr: &Instr, regs: &Regs) -> Option<Operation>
+fn find_operation(instr: &Instr, regs: &Regs) -> Option<ComparedOperation>
     requires { IsAllowed instr.now }
     ensures { result ≡ operation_of regs.now instr.now }
 {
@@ -174,10 +174,10 @@ fn find_operation(instr: &Instr, regs: &Regs) -> Option<Operation>
     }
 }
 
-impl Operation {
+impl ComparedOperation {
     /// What it compares by itself, if it sets the flags.
     #[inline(always)]
-    fn by_flags(&self) -> Option<Comparison>
+    fn by_flags(&self) -> Option<ComparisonEntry>
         ensures { result ≡ by_flags (Some self.now) }
     {
         match self.kind {
@@ -201,7 +201,13 @@ impl Operation {
 
 /// What CBZ and CBNZ compare, where a word was attempted right before.
 #[inline(always)]
-fn compare_with_zero(decoder: &mut Decoder, before: u32, regs: &Regs, sf: u8, rt: u8) -> Comparison
+fn compare_with_zero(
+    decoder: &mut Decoder,
+    before: u32,
+    regs: &Regs,
+    sf: u8,
+    rt: u8,
+) -> ComparisonEntry
     requires { rt < 32 }
     ensures { result ≡ with_zero (operation_before regs.now (instr_of_word before)) regs.now sf rt }
 {
@@ -233,11 +239,11 @@ fn find_function(functions: &[u64], target: u64) -> Option<usize>
 
 /// The call of one of some functions.
 #[inline(always)]
-fn call(functions: &[u64], regs: &Regs, target: u64) -> Option<Comparison>
+fn call(functions: &[u64], regs: &Regs, target: u64) -> Option<ComparisonEntry>
     ensures { result ≡ call_of functions.now regs.now target }
 {
     let place = find_function(functions, target % (1 << 56))?;
-    Some(Comparison {
+    Some(ComparisonEntry {
         step: 0,
         pc: 0,
         left: regs.x[0],
@@ -259,7 +265,7 @@ pub(crate) fn compared(
     regs: &Regs,
     pc: u64,
     instr: &Instr,
-) -> Option<Comparison>
+) -> Option<ComparisonEntry>
     requires { IsAllowed instr.now }
     ensures { result ≡ comparison_of functions.now before regs.now pc instr.now }
 {

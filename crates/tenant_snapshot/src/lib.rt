@@ -14,7 +14,7 @@ mod tenant;
 
 pub use a64_run::{Edges, NoEdges};
 pub use compared_edges::{ComparedEdges, Comparisons};
-pub use comparison::Comparison;
+pub use comparison::ComparisonEntry;
 pub use comparison_kinds::comparisons_in_digits;
 pub use edge_map::{CountedEdges, EdgeMap, MAP_MAX, MAP_MIN};
 pub use exact_watch::{ExactFinding, ExactWatch};

@@ -12,7 +12,7 @@ use crate::faults::{FaultReport, report};
 use crate::fuzz_input::LentFuzzInput;
 use std::alloc::Global;
 use tenant_snapshot::{
-    ComparedEdges, Comparison, Comparisons, EdgeMap, FuzzHandle, SnapshotTenant,
+    ComparedEdges, ComparisonEntry, Comparisons, EdgeMap, FuzzHandle, SnapshotTenant,
 };
 
 /// Does what `tb_fuzz_run` does, and enters what the instructions of the run compare, and the calls
@@ -97,7 +97,7 @@ fn run_compared(
     run: &LentFuzzInput<'_>,
     map: &mut [u8],
     functions: &[u64],
-    entries: &mut [Comparison],
+    entries: &mut [ComparisonEntry],
 )
     ensures machine { now_of machine.new ≡ after_slices (now_of machine.old) run.now.slices.now }
     ensures saved { saved_of machine.new ≡ saved_of machine.old }

@@ -105,7 +105,8 @@ pub extern "C" fn tb_fuzz_run(
     end: &mut AloneEnd,
 ) -> u32
     ensures code { result ≡ end.new.code }
-    ensures ran { HasRun run.now (is_map_length (length map.old)) fuzz.old.value fuzz.new.value end.new }
+    ensures ran { HasRun run.now (is_map_length (length map.old))
+        fuzz.old.value fuzz.new.value end.new }
     ensures map { result ≢ OK → map.new ≡ map.old }
 {
     let told = run_kept(alloc, fuzz, run, map, false);
@@ -126,7 +127,8 @@ pub extern "C" fn tb_fuzz_run_exact(
     finding: &mut FuzzFinding,
 ) -> u32
     ensures code { result ≡ end.new.code }
-    ensures ran { HasRun run.now (is_map_length (length map.old)) fuzz.old.value fuzz.new.value end.new }
+    ensures ran { HasRun run.now (is_map_length (length map.old))
+        fuzz.old.value fuzz.new.value end.new }
     ensures map { result ≢ OK → map.new ≡ map.old }
     ensures none { result ≢ OK → finding.new ≡ no_finding }
 {
@@ -144,7 +146,8 @@ fn run_kept(
     map: &mut [u8],
     is_exact: bool,
 ) -> FuzzAnswer
-    ensures ran { HasRun run.now (is_map_length (length map.old)) fuzz.old.value fuzz.new.value result.end }
+    ensures ran { HasRun run.now (is_map_length (length map.old))
+        fuzz.old.value fuzz.new.value result.end }
     ensures map { result.end.code ≢ OK → map.new ≡ map.old }
     ensures none { result.end.code ≢ OK → result.finding ≡ no_finding }
 {
