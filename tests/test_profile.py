@@ -154,6 +154,16 @@ def heap_by_stack(counts: run_counts.Counts) -> dict[Stack, list[int]]:
     return dict(found)
 
 
+def services_of(counts: run_counts.Counts) -> list[tuple[int, str]]:
+    """The services after which the tenant went on. Slices begin one after another; an end is the
+    last event."""
+    slices = [it.step for it in counts.events if it.kind == "slice"]
+    assert slices[0] == 0 and slices == sorted(slices) and counts.missed == 0
+    ends = [it for it in counts.events if it.kind == "end"]
+    assert ends in ([], [counts.events[-1]]) and all(it.step == counts.steps for it in ends)
+    return [(it.step, it.what) for it in counts.events if it.kind == "service"]
+
+
 def compare(alone: pathlib.Path, folder: pathlib.Path, path: pathlib.Path,
             words: list[Word]) -> int:
     """Compares the profile of a run with its trace; how many steps there were."""
@@ -172,6 +182,8 @@ def compare(alone: pathlib.Path, folder: pathlib.Path, path: pathlib.Path,
     assert (counts.peak.step, counts.peak.bytes) == heap.peak
     assert heap_by_stack(counts) == {stack: [*row, heap.at_peak[stack]]
                                      for stack, row in heap.sums.items()}
+    assert services_of(counts) == [
+        (step.number, step.service.split("(")[0]) for step in steps[:-1] if step.service]
     assert sum(call.steps for call in counts.calls) == counts.inclusive()[0] == counts.steps
     assert all(0 <= one.first < one.last <= counts.steps for one in counts.long_calls)
     return len(steps)
@@ -282,7 +294,9 @@ def test_other_forms(counted: pathlib.Path, tmp_path: pathlib.Path) -> None:
     folded = [line.rsplit(" ", 1) for line in made(counted, "folded").splitlines()]
     assert sum(int(steps) for _, steps in folded) == counts.steps
     events = json.loads(made(counted, "timeline"))["traceEvents"]
-    assert {event["ph"] for event in events} == {"X", "C"} and events[0]["dur"] == counts.steps
+    assert {event["ph"] for event in events} == {"X", "C", "i"}
+    assert events[0]["dur"] == counts.steps
+    assert sum(it["dur"] for it in events if it.get("tid") == 2) == counts.steps
     root = xml.etree.ElementTree.fromstring(made(counted, "cobertura"))
     assert root.tag == "coverage" and root.find(".//line[@hits]") is not None
     file = tmp_path / "profile.pb.gz"

@@ -14,6 +14,7 @@ mod long_calls;
 mod pair_numbers;
 mod profile_file;
 mod recent_branches;
+mod run_events;
 mod run_profile;
 
 pub use branch_counts::BranchCounts;

@@ -3,6 +3,7 @@
 
 use crate::bounded_lines::BoundedLines;
 use crate::code_names::{CodeNames, code_addresses};
+use crate::run_events::EventKind;
 use crate::run_profile::RunProfile;
 use common::Printable;
 use std::alloc::Global;
@@ -29,6 +30,7 @@ impl<'p, 'a> ProfileFile<'p, 'a> {
         self.write_long_calls(out)?;
         self.write_heap(out)?;
         self.write_sizes(out)?;
+        self.write_events(out)?;
         let addresses = code_addresses(alloc, self.profile.image)?;
         let code = CodeNames {
             names: &self.profile.names,
@@ -112,6 +114,24 @@ impl<'p, 'a> ProfileFile<'p, 'a> {
         for size in sizes.sizes() {
             let (step, bytes) = (size.step, size.bytes);
             writeln!(out, "size\t{step}\t{bytes}")?;
+        }
+        Ok(())
+    }
+
+    /// Writes the slices, the services and the end, in their order, and how many more there were.
+    fn write_events<W: Write>(&self, out: &mut W) -> io::Result<()> {
+        let events = &self.profile.events;
+        for event in events.events() {
+            let step = event.step;
+            match event.kind {
+                EventKind::Slice => writeln!(out, "slice\t{step}")?,
+                EventKind::Service(number) => writeln!(out, "service\t{step}\t{number}")?,
+                EventKind::End(word) => writeln!(out, "end\t{step}\t{word}")?,
+            }
+        }
+        if events.missed > 0 {
+            let missed = events.missed;
+            writeln!(out, "missed\t{missed}")?;
         }
         Ok(())
     }

@@ -5,8 +5,9 @@ use crate::call_tree::CallTree;
 use crate::heap_profile::HeapProfile;
 use crate::pair_numbers::{NumberPair, PairNumbers};
 use crate::recent_branches::{RecentBranch, RecentBranches};
+use crate::run_events::RunEvents;
 use mte_backtrace::Names;
-use mte_svc::HeapCalls;
+use mte_svc::TenantParts;
 use std::alloc::{AllocError, Global};
 
 /// A branch that was taken.
@@ -31,6 +32,8 @@ pub struct RunProfile<'a> {
     pub(crate) tree: CallTree,
     /// The chunks.
     pub(crate) heap: HeapProfile,
+    /// The slices, the services and the end.
+    pub(crate) events: RunEvents,
     /// The first instruction of the run, once it has begun.
     pub(crate) first: Option<u64>,
     /// The first instruction since the last branch.
@@ -52,6 +55,7 @@ impl<'a> RunProfile<'a> {
             recent: RecentBranches::new(alloc)?,
             tree: CallTree::new(alloc)?,
             heap: HeapProfile::new(alloc),
+            events: RunEvents::new(alloc),
             first: None,
             start: 0,
             bytes: 0,
@@ -59,12 +63,14 @@ impl<'a> RunProfile<'a> {
         })
     }
 
-    /// Begins the run at an instruction, unless it has begun.
-    pub fn begin(&mut self, first: u64) {
+    /// Begins a slice at an instruction, and the run, unless it has begun.
+    pub fn begin_slice(&mut self, parts: &TenantParts) {
+        let first = parts.regs.pc;
         if self.first.is_none() {
             self.first = Some(first);
             self.start = first;
         }
+        self.events.begin_slice(parts.history.steps);
     }
 
     /// Whether the run has begun.
@@ -113,8 +119,11 @@ impl<'a> RunProfile<'a> {
         }
     }
 
-    /// Notes the last heap call, if it is a new one, after some steps.
-    pub fn note_heap(&mut self, calls: &HeapCalls, steps: u64) {
+    /// Notes the service or the end of an attempt after which there is no next instruction, and its
+    /// heap call, if it made one.
+    pub fn note_attempt(&mut self, parts: &TenantParts) {
+        self.events.note_attempt(parts);
+        let (calls, steps) = (&parts.history.calls, parts.history.steps);
         self.heap.note_last(calls, self.tree.node(), steps);
     }
 

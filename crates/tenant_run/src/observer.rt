@@ -114,18 +114,18 @@ impl<'a> Observer<'a> {
         self.profile.as_ref()
     }
 
-    /// Begins the profile at the first instruction, unless it has begun.
-    fn begin_profile(&mut self, first: u64) {
+    /// A slice of the profile begins.
+    fn begin_profile(&mut self, parts: &TenantParts) {
         if let Some(profile) = &mut self.profile {
-            profile.begin(first);
+            profile.begin_slice(parts);
         }
     }
 
-    /// Notes the last heap call where the branches are counted.
-    fn note_heap(&mut self, parts: &TenantParts) {
+    /// Notes an attempt after which there is no next instruction, where the branches are counted.
+    fn note_attempt(&mut self, parts: &TenantParts) {
         if self.shown == WatchLevel::Branches {
             if let Some(profile) = &mut self.profile {
-                profile.note_heap(&parts.history.calls, parts.history.steps);
+                profile.note_attempt(parts);
             }
         }
     }
@@ -299,7 +299,7 @@ impl<'a> Watcher for Observer<'a> {
 
     fn begin(&mut self, parts: &TenantParts, steps: u32) -> u32 {
         if self.shown == WatchLevel::Branches {
-            self.begin_profile(parts.regs.pc);
+            self.begin_profile(parts);
             return 0;
         }
         let before = parts.history.steps;
@@ -425,7 +425,7 @@ impl<'a> Watch for Observer<'a> {
 
     fn after<M: Paged>(&mut self, parts: &TenantParts, memory: &mut M) {
         if self.is_over() {
-            self.note_heap(parts);
+            self.note_attempt(parts);
             return;
         }
         let call = self.book.note(parts, memory);

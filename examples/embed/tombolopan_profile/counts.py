@@ -15,6 +15,9 @@ from dataclasses import astuple, dataclass, field
 HEAD = "tombolopan profile\t1"
 BYTES = 4  # of an instruction
 MOST_FRAMES = 256  # of a stack
+# The services by their numbers (docs/TENANTS.md).
+SERVICES = ("exit", "write", "read", "malloc", "free", "calloc", "realloc", "memalign",
+            "usable_size", "yield", "steps_left", "pages_left")
 
 
 class WrongCounts(ValueError):
@@ -86,6 +89,15 @@ class HeapSize:
     bytes: int
 
 
+@dataclass(frozen=True)
+class Event:
+    """A slice that begins, a service that was done, or how the tenant ended, after some steps."""
+
+    step: int
+    kind: str  # slice, service or end
+    what: str = ""  # the service's name, or the end in a word
+
+
 @dataclass
 class Counts:
     """The counts of a run, or of several of one image."""
@@ -102,6 +114,8 @@ class Counts:
     heap: dict[int, HeapSums] = field(default_factory=dict)
     peak: HeapSize = HeapSize(0, 0)
     sizes: list[HeapSize] = field(default_factory=list)
+    events: list[Event] = field(default_factory=list)
+    missed: int = 0  # events after those
     is_complete: bool = True
     functions: list[tuple[int, str]] = field(default_factory=list)
     places: list[tuple[int, Place]] = field(default_factory=list)
@@ -166,8 +180,8 @@ class Counts:
         return found[::-1]
 
     def add(self, other: Counts) -> None:
-        """Adds the counts of another run of the same image. Its long calls and the sizes of its
-        heap are left out."""
+        """Adds the counts of another run of the same image. Its long calls, its events and the
+        sizes of its heap are left out."""
         if (self.functions, self.places) != (other.functions, other.places):
             raise WrongCounts(f"{other.image} is another image than {self.image}")
         self.steps += other.steps
@@ -205,6 +219,15 @@ def read_call(words: list[str], pairs: list[tuple[int, int]], first: int) -> Cal
     return Call(int(words[0]), *pairs[int(words[1])], calls, steps)
 
 
+def read_event(kind: str, words: list[str]) -> Event:
+    """A line of an event."""
+    if kind == "service":
+        number = int(words[1])
+        return Event(int(words[0]), kind,
+                     SERVICES[number] if number < len(SERVICES) else f"service {number}")
+    return Event(int(words[0]), kind, *words[1:])
+
+
 def read(text: str) -> Counts:
     """The counts of a file's text."""
     lines = text.splitlines()
@@ -212,10 +235,13 @@ def read(text: str) -> Counts:
         raise WrongCounts("it does not begin as one")
     rows: dict[str, list[list[str]]] = defaultdict(list)
     inlined: dict[int, list[Inlined]] = defaultdict(list)
+    events: list[Event] = []
     for line in lines[1:]:
         name, *words = line.split("\t")
         if name == "inlined":
             inlined[len(rows["line"])].append(Inlined(words[0], line_of(words[1], words[2:])))
+        elif name in ("slice", "service", "end"):
+            events.append(read_event(name, words))
         else:
             rows[name].append(words)
     pairs = [(int(source, 16), int(target, 16)) for source, target, _ in rows["branch"]]
@@ -236,6 +262,7 @@ def read(text: str) -> Counts:
         heap={int(words[0]): HeapSums(*map(int, words[1:])) for words in rows["heap"]},
         peak=HeapSize(*map(int, rows["peak"][0])),
         sizes=[HeapSize(*map(int, words)) for words in rows["size"]],
+        events=events, missed=sum(int(words[0]) for words in rows["missed"]),
         is_complete="incomplete" not in rows,
         functions=functions,
         places=[(int(words[0], 16), Place(line_of(words[1], words[2:]), tuple(inlined[number])))

@@ -10,6 +10,7 @@ import sys
 from collections import Counter, defaultdict
 from collections.abc import Iterable, Iterator, Mapping
 from dataclasses import dataclass, field
+from typing import Any
 from xml.sax.saxutils import quoteattr
 
 from tombolopan_profile.counts import BYTES, Counts, Line, Place
@@ -157,18 +158,35 @@ def folded(counts: Counts) -> str:
     return "".join(f"{stack} {steps}\n" for stack, steps in sorted(found.items()))
 
 
+def span(name: str, row: int, first: int, last: int) -> dict[str, Any]:
+    """What takes some steps, in a row of the timeline."""
+    return {"name": name, "ph": "X", "pid": 1, "tid": row, "ts": first, "dur": last - first}
+
+
+def happenings(counts: Counts) -> Iterator[dict[str, Any]]:
+    """The slices, each up to the next, in a row of their own; the services and the end."""
+    starts = [it.step for it in counts.events if it.kind == "slice"]
+    for number, (first, last) in enumerate(itertools.pairwise([*starts, counts.steps]), start=1):
+        yield span(f"slice {number}", 2, first, last)
+    for it in counts.events:
+        if it.kind != "slice":
+            yield {"name": it.what, "ph": "i", "pid": 1, "tid": 1, "ts": it.step,
+                   "s": "g" if it.kind == "end" else "t"}
+
+
 def timeline(counts: Counts) -> str:
-    """The trace event format: the longest calls and the bytes of live chunks, a step as a
-    microsecond."""
-    events = [{"name": counts.function_at(counts.calls[call.call].entry)[1], "ph": "X", "pid": 1,
-               "tid": 1, "ts": call.first, "dur": call.last - call.first}
-              for call in counts.long_calls]
-    run = {"name": counts.image, "ph": "X", "pid": 1, "tid": 1, "ts": 0, "dur": counts.steps}
+    """The trace event format: the longest calls, slices, services, the end, and the bytes of live
+    chunks, a step as a microsecond."""
+    calls = [span(counts.function_at(counts.calls[it.call].entry)[1], 1, it.first, it.last)
+             for it in counts.long_calls]
     heap = [{"name": "live heap", "ph": "C", "pid": 1, "ts": size.step,
              "args": {"bytes": size.bytes}} for size in counts.sizes]
-    return json.dumps({"traceEvents": [run, *events, *heap], "displayTimeUnit": "ms",
+    run = span(counts.image, 1, 0, counts.steps)
+    return json.dumps({"traceEvents": [run, *calls, *happenings(counts), *heap],
+                       "displayTimeUnit": "ms",
                        "otherData": {"unit": "a step is shown as a microsecond",
-                                     "least steps of a call": counts.least}})
+                                     "least steps of a call": counts.least,
+                                     "services after those shown": counts.missed}})
 
 
 # ---- coverage
