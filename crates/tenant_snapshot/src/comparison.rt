@@ -17,7 +17,7 @@ use a64_decode::Decoder;
 use a64_instr::Instr;
 use a64_registers::Regs;
 use a64_registers::conditions::condition_holds;
-use a64_registers::operands::{extend, shift_by, size_of_operands, truncate};
+use a64_registers::operands::{extend, size_of_operands, truncate};
 use a64_step::addressing::moved_by;
 use a64_step::logical::shift_operand;
 
@@ -29,15 +29,15 @@ pub struct ComparisonEntry {
     pub step: u64,
     /// The address of the instruction.
     pub pc: u64,
-    /// The first operand; of CALL the first argument.
+    /// The first operand; of a call the first argument.
     pub left: u64,
-    /// The second operand; of CALL the second argument.
+    /// The second operand; of a call the second argument.
     pub right: u64,
-    /// Of CALL the third argument; else 0.
+    /// Of a call the third argument; else 0.
     pub length: u64,
     /// COMPARED_SUBS to COMPARED_CALL; 0 where nothing is entered.
     pub kind: u32,
-    /// The bytes of an operand, 4 or 8; of CALL the place of the function among those that were
+    /// The bytes of an operand, 4 or 8; of a call the place of the function among those that were
     /// lent.
     pub width: u32,
 }
