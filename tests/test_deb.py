@@ -227,8 +227,8 @@ def test_unproved(alone: pathlib.Path, tmp_path: pathlib.Path) -> None:
 
 def test_words(tmp_path: pathlib.Path) -> None:
     """A folder to write into is wanted; --help prints the script's comment."""
-    usage = "usage: deb.sh OUT [FOLDER] (--help)\n"
+    usage = "usage: deb.sh [--arm64] OUT [FOLDER] (--help)\n"
     for words in ((), ("--out",), (str(tmp_path), "a", "b")):
         assert run([PACKER, *words]) == Ran(2, b"", usage.encode())
     ran = run([PACKER, "--help"])
-    assert ran.status == 0 and "    tools/deb.sh OUT [FOLDER]\n" in ran.output
+    assert ran.status == 0 and "    tools/deb.sh [--arm64] OUT [FOLDER]\n" in ran.output

@@ -30,8 +30,9 @@ BUILT = NUMBER + "(~unproved)?"
 FILES = (rf"tombolopan_{NUMBER}\.tar\.gz", rf"tombolopan_{BUILT}\.spdx\.json",
          rf"tombolopan_{BUILT}\.intoto\.json", rf"tombolopan-golden-steps_{BUILT}\.jsonl\.xz",
          rf"tombolopan-{re.escape(VERSION)}(\.dev0\+unproved)?-py3-none-\w+\.whl", "SHA256SUMS",
-         *(rf"{it}_{BUILT}_\w+\.deb" for it in sorted(debian.NAMES)))
-OPTIONAL = rf"tombolopan_{BUILT}\.html"
+         *(rf"{it}_{BUILT}_(?!arm64)\w+\.deb" for it in sorted(debian.NAMES)))
+# What a trial has where it is built.
+PAGE, ARM64 = rf"tombolopan_{BUILT}\.html", rf"\w+(-dev)?_{BUILT}_arm64\.deb"
 ROW = re.compile(r" *(\d+)  ([0-9a-f]{12})  (\S+)(  unproved)?")
 DRAWN = 12
 
@@ -66,12 +67,14 @@ def test_files(shared: pathlib.Path, to_pack: pathlib.Path) -> None:
     names = {it.name for it in folder.iterdir()}
     for pattern in FILES:
         assert sum(bool(re.fullmatch(pattern, it)) for it in names) == 1, pattern
-    pages = {it for it in names if re.fullmatch(OPTIONAL, it)}
-    assert len(names) == len(FILES) + len(pages)
+    more = [it for it in names if re.fullmatch(f"{PAGE}|{ARM64}", it)]
+    assert len(names) == len(FILES) + len(more)
     assert_table(output, folder)
     missing = [line.split()[2] for line in output.splitlines() if not ROW.fullmatch(line)]
-    wanted = [r"tombolopan-gate_.*\.log", *([] if pages else [OPTIONAL])]
-    assert len(missing) == len(wanted) and all(map(re.fullmatch, wanted, missing))
+    wanted = [r"tombolopan-gate_.*\.log",
+              *(form for form in (PAGE, ARM64) if not any(re.fullmatch(form, it) for it in more))]
+    assert len(missing) == len(wanted)
+    assert all(any(re.fullmatch(form, it) for it in missing) for form in wanted)
     succeed(["sha256sum", "--check", "--strict", "SHA256SUMS"], cwd=folder)
     listed = (folder / "SHA256SUMS").read_text(encoding="utf-8").splitlines()
     assert {line.split()[1] for line in listed} == names - {"SHA256SUMS"}
@@ -202,8 +205,9 @@ class Checkout:
 
     def __init__(self, folder: pathlib.Path, obstacles: frozenset[str]) -> None:
         need("git", "rt", "dpkg-deb", "dpkg-shlibdeps")
-        self.top = copy_files(folder / "top", "tools/packing/", "tools/batch/", "tools/mark.py",
-                              "tools/release.sh", "tools/edges.py", "VERSION", ".gitignore")
+        self.top = copy_files(folder / "top", "tools/packing/", "tools/batch/", "tools/wasm/",
+                              "tools/mark.py", "tools/release.sh", "tools/unproved.py",
+                              "tools/unchecked.py", "tools/sources.sh", "VERSION", ".gitignore")
         self.log, self.out, self.obstacles = folder / "log", folder / "out", obstacles
         for name, text in STUBS.items():
             path = self.top / "tools" / name

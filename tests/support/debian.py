@@ -51,7 +51,8 @@ def released(shared: pathlib.Path, built: pathlib.Path) -> tuple[pathlib.Path, s
 def packages(shared: pathlib.Path, built: pathlib.Path) -> dict[str, pathlib.Path]:
     """The packages by their names."""
     folder, _ = released(shared, built)
-    return {path.name.partition("_")[0]: path for path in sorted(folder.glob("*.deb"))}
+    return {path.name.partition("_")[0]: path for path in sorted(folder.glob("*.deb"))
+            if not path.name.endswith("_arm64.deb")}
 
 
 def older(package: pathlib.Path, folder: pathlib.Path) -> pathlib.Path:

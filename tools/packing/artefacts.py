@@ -86,6 +86,15 @@ def make_packages(made: Made, _: Request) -> None:
         shutil.copy(pathlib.Path(folder, DOCUMENT), made.name("tombolopan_{}.spdx.json"))
 
 
+def make_arm64(made: Made, request: Request) -> None:
+    """The packages for arm64, where programs and library are built for it."""
+    if built.take_arm64(request.folder, made.built, is_dry=request.is_dry):
+        run(TOOLS / "deb.sh", "--arm64", made.out, made.built)
+    else:
+        made.missing[made.name("tombolopan_{}_arm64.deb").name] = (
+            "not built of these sources (tools/build.sh --arm64)")
+
+
 def make_wheel(made: Made, _: Request) -> None:
     """The package of Python."""
     run(sys.executable, TOOLS / "python_wheel.py", made.out, made.built / built.LIBRARY)
@@ -141,7 +150,8 @@ def make_sums(made: Made, _: Request) -> None:
 
 STEPS: tuple[tuple[str, Callable[[Made, Request], None]], ...] = (
     ("the sources", make_sources), ("the packages of Debian", make_packages),
-    ("the wheel", make_wheel), ("the page", make_page), ("the golden steps", make_steps),
+    ("those for arm64", make_arm64), ("the wheel", make_wheel), ("the page", make_page),
+    ("the golden steps", make_steps),
     ("the log of the gate", take_log), ("the statement", make_statement), ("the sums", make_sums),
 )
 

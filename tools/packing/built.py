@@ -9,23 +9,42 @@ from collections.abc import Mapping
 from typing import Optional
 
 from packing.release import ROOT
+from wasm.lowered import is_current
 
 PROGRAMS, LIBRARY = ("mte_host", "mte_split", "mte_run"), "libtombolopan_c.a"
 FILES = (*PROGRAMS, LIBRARY)
-TENANTS = "libc"
+TENANTS, ARM64 = "libc", "arm64"
 
 
-def places(folder: Optional[pathlib.Path]) -> dict[str, pathlib.Path]:
-    """Where what was built is: in a folder, or in this checkout."""
+def places(folder: Optional[pathlib.Path], part: str = "") -> dict[str, pathlib.Path]:
+    """Where what was built is: in a folder, or in this checkout; or in a part of it."""
     if folder:
-        return {name: folder / name for name in FILES}
+        return {name: folder / part / name for name in FILES}
     crates = {name: name.removeprefix("lib").removesuffix(".a") for name in FILES}
-    return {name: ROOT / "crates" / crate / "out" / name for name, crate in crates.items()}
+    return {name: ROOT / "crates" / crate / "out" / part / name for name, crate in crates.items()}
 
 
 def tenants_of(folder: Optional[pathlib.Path]) -> pathlib.Path:
     """Where the libraries of tenants are."""
     return folder / TENANTS if folder else ROOT / "examples" / "libc" / "out"
+
+
+def is_of_proved(path: pathlib.Path) -> bool:
+    """Whether a file for arm64 is of the proved build of the sources that are there."""
+    note = path.with_name(f"{path.name}.unproved")
+    return is_current(ROOT, path) and "the proved build" in note.read_text(encoding="utf-8")
+
+
+def take_arm64(folder: Optional[pathlib.Path], to: pathlib.Path, *, is_dry: bool) -> bool:
+    """Puts links to what is built for arm64 into a folder; whether all of it is, for a release of
+    the proved build."""
+    files = places(folder, ARM64)
+    if not all(it.exists() and (is_dry or is_of_proved(it)) for it in files.values()):
+        return False
+    (to / ARM64).mkdir()
+    for name, path in files.items():
+        (to / ARM64 / name).symlink_to(path.resolve())
+    return True
 
 
 def is_unproved(path: pathlib.Path) -> bool:
