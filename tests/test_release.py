@@ -165,7 +165,7 @@ def test_upgrade(shared: pathlib.Path, to_pack: pathlib.Path, tmp_path: pathlib.
 DEB = """#!/usr/bin/env bash
 folder=$(mktemp -d) version=$(cat "$(dirname "$0")/../VERSION")
 mkdir -p "$folder/DEBIAN" "$folder/usr/share/doc/tombolopan" "$1"
-printf 'Package: tombolopan-doc\\nVersion: %s\\nArchitecture: all\\nMaintainer: n <n@n.n>\\n%s\\n' \\
+printf 'Package: tombolopan-doc\\nVersion: %s\\nArchitecture: all\\nMaintainer: n\\n%s\\n' \\
     "$version" 'Description: n' >"$folder/DEBIAN/control"
 echo "{}" >"$folder/usr/share/doc/tombolopan/tombolopan.spdx.json"
 chmod -R u=rwX,go=rX "$folder"
