@@ -5,7 +5,6 @@ import hashlib
 import os
 import pathlib
 import shutil
-import subprocess
 import sys
 import tempfile
 from collections.abc import Callable, Sequence
@@ -14,6 +13,7 @@ from typing import Any, Optional
 
 from batch.envelope import enclose
 from packing import built, provenance, ready
+from packing.built import NotMade, run
 from packing.gate_log import Gate
 from packing.release import ROOT, Release, find_release
 
@@ -24,23 +24,9 @@ FEW_STEPS = ("--count", "860")
 DOCUMENT = "./usr/share/doc/tombolopan/tombolopan.spdx.json"
 
 
-class NotMade(Exception):
-    """A file is not made, with the reason."""
-
-
 def say(text: str) -> None:
     """Says how far it is."""
     print(f"release.sh: {text}", file=sys.stderr, flush=True)
-
-
-def run(*words: object) -> bytes:
-    """What a command writes; what it says otherwise is shown where it fails."""
-    ran = subprocess.run([str(it) for it in words], stdout=subprocess.PIPE,
-                         stderr=subprocess.PIPE, check=False)
-    if ran.returncode:
-        said = (ran.stderr or ran.stdout).decode(errors="replace").strip()
-        raise NotMade(said or f"{words[0]} ended with status {ran.returncode}")
-    return ran.stdout
 
 
 @dataclass(frozen=True)

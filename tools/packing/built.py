@@ -16,6 +16,20 @@ FILES = (*PROGRAMS, LIBRARY)
 TENANTS, ARM64 = "libc", "arm64"
 
 
+class NotMade(Exception):
+    """A file is not made, with the reason."""
+
+
+def run(*words: object) -> bytes:
+    """What a command writes; what it says otherwise is shown where it fails."""
+    ran = subprocess.run([str(it) for it in words], stdout=subprocess.PIPE,
+                         stderr=subprocess.PIPE, check=False)
+    if ran.returncode:
+        said = (ran.stderr or ran.stdout).decode(errors="replace").strip()
+        raise NotMade(said or f"{words[0]} ended with status {ran.returncode}")
+    return ran.stdout
+
+
 def places(folder: Optional[pathlib.Path], part: str = "") -> dict[str, pathlib.Path]:
     """Where what was built is: in a folder, or in this checkout; or in a part of it."""
     if folder:
@@ -63,7 +77,7 @@ def take(files: Mapping[str, pathlib.Path], tenants: pathlib.Path, folder: pathl
         shutil.copy(path, copy)
         how = ["--unproved"] if is_unproved(path) else []
         marks += how
-        subprocess.run([sys.executable, ROOT / "tools" / "mark.py", *how, copy], check=True)
+        run(sys.executable, ROOT / "tools" / "mark.py", *how, copy)
         if how:
             total = hashlib.sha256(copy.read_bytes()).hexdigest()
             copy.with_name(f"{name}.unproved").write_text(f"{total}  {name}\n", encoding="utf-8")

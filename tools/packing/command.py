@@ -4,12 +4,14 @@ import argparse
 import hashlib
 import pathlib
 import shutil
+import subprocess
 import sys
 import tempfile
 
 from batch.envelope import NoKey, key_of
 from packing import artefacts, built
-from packing.artefacts import Made, NotMade, Request, say
+from packing.artefacts import Made, Request, say
+from packing.built import NotMade
 from packing.gate_log import read_gate
 
 REFUSED, NOT_MADE = 1, 2
@@ -82,7 +84,7 @@ def main() -> int:
         if why and not request.is_dry:
             return REFUSED
         print("\n".join(make(request, out)))
-    except (NotMade, NoKey, OSError) as error:
+    except (NotMade, NoKey, OSError, subprocess.CalledProcessError) as error:
         say(str(error))
         return NOT_MADE
     return 0

@@ -56,7 +56,7 @@ def of_programs(files: Mapping[str, pathlib.Path], gate: Optional[Gate]) -> list
 
 def of_libraries(folder: pathlib.Path) -> list[str]:
     """The libraries of tenants."""
-    return [f"the libraries of tenants are not built: no {name} in {folder}"
+    return [f"the libraries of tenants are not built: no {name} in {folder} (tools/build.sh)"
             for name in LIBRARIES if not (folder / name).exists()]
 
 
