@@ -80,9 +80,11 @@ def test_drawn_sessions(foreign: pathlib.Path, host: pathlib.Path, tmp_path: pat
 def test_words(foreign: pathlib.Path, host: pathlib.Path, tmp_path: pathlib.Path) -> None:
     """So it is with what is wrong: words, and files that cannot be read."""
     (tmp_path / "script").write_text("slice 1 1\n", encoding="utf-8")
-    for words in ([], ["--help"], ["--frames", "0", "script"], ["--frames", "11", "absent"],
-                  ["--frames", "11", "."], ["--frames", "11", "script", "absent"]):
-        native, other = (run([*it, *words], cwd=tmp_path) for it in ([host], [*EMULATOR, foreign]))
+    for text in ("", "--help", "--frames 0 script", "--frames 11 absent", "--frames 11 .",
+                 "--frames 11 script absent"):
+        words = text.split()
+        native = run([host, *words], cwd=tmp_path)
+        other = run([*EMULATOR, foreign, *words], cwd=tmp_path)
         assert (other.status, other.out) == (native.status, native.out), words
         assert other.err == native.err, words
 

@@ -16,7 +16,7 @@ def data_layout(clang: pathlib.Path, target: Sequence[str], work: pathlib.Path) 
     """How LLVM lays out data for a target."""
     empty = work / "empty.c"
     empty.write_text("int empty;\n", encoding="utf-8")
-    words = [clang, *target, "-S", "-emit-llvm", empty, "-o", "-"]
+    words = [str(clang), *target, "-S", "-emit-llvm", str(empty), "-o", "-"]
     text = subprocess.run(words, check=True, stdout=subprocess.PIPE, text=True).stdout
     return next(it for it in text.splitlines() if it.startswith("target datalayout"))
 

@@ -8,7 +8,7 @@ from collections.abc import Mapping, Sequence
 from tests.support import installed
 from tests.support.once import make_once
 from tests.support.places import ROOT
-from tests.support.running import Ran, run, succeed
+from tests.support.running import Ran, Word, run, succeed
 from tests.support.tools import git, need
 
 NAMES = {"tombolopan", "libtombolopan2", "libtombolopan-dev", "python3-tombolopan",
@@ -34,7 +34,7 @@ def release(out: pathlib.Path, built: pathlib.Path, top: pathlib.Path = ROOT) ->
     """Makes a release of what was built, as a trial, by a checkout or a copy of its files; what it
     prints."""
     need("dpkg-deb", "dpkg-shlibdeps", "strip", "git", "objcopy")
-    words = [top / "tools" / "release.sh", "--dry-run", "--built", built, out]
+    words: list[Word] = [top / "tools" / "release.sh", "--dry-run", "--built", built, out]
     return succeed(words, extra={"GIT_DIR": git_folder()}).output
 
 
