@@ -59,6 +59,7 @@ def older(package: pathlib.Path, folder: pathlib.Path) -> pathlib.Path:
     """A package of an earlier version, with a file that the later one has not."""
     name, version, _ = package.name.split("_")
     content, made = folder / name, folder / f"{name}.deb"
+    folder.mkdir(exist_ok=True)
     succeed(["dpkg-deb", "--raw-extract", package, content])
     control = content / "DEBIAN" / "control"
     control.write_text(control.read_text(encoding="utf-8").replace(version, "0.1"),
