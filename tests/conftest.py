@@ -9,7 +9,7 @@ from types import ModuleType
 
 import pytest
 
-from tests.support import places
+from tests.support import debian, places
 from tests.support.acts import EVERY_IMAGE
 from tests.support.explained import ImageActs, run_acts
 
@@ -47,6 +47,13 @@ def shared(tmp_path_factory: pytest.TempPathFactory) -> pathlib.Path:
     folder = (base.parent if base.name.startswith("popen-") else base) / "shared"
     folder.mkdir(exist_ok=True)
     return folder
+
+
+@pytest.fixture
+def to_pack(host: pathlib.Path, alone: pathlib.Path, shared: pathlib.Path) -> pathlib.Path:
+    """A folder with what is packed, after it was installed."""
+    assert host.exists() and alone.exists()
+    return debian.to_pack(shared)
 
 
 @pytest.fixture(scope="module", params=EVERY_IMAGE, ids="-".join)

@@ -56,6 +56,18 @@ count_cases() {
     echo "$passed passed, 0 failed, $skipped skipped"
 }
 
+# Which commit is tried, and whether files differ from it; after the proofs also the sums of the
+# programs. tools/release.sh reads this in the log of a gate.
+say_commit() {
+    local commit changes=none file
+    commit=$(git rev-parse --verify --quiet HEAD 2>/dev/null || echo unknown)
+    [[ -z $(git status --porcelain 2>/dev/null) ]] || changes=some
+    echo "run.sh: commit $commit, changes $changes"
+    for file in "$@"; do
+        [[ ! -e $file ]] || sha256sum "$file"
+    done
+}
+
 if [[ ${1:-} == --suite ]]; then
     for mark in crates/*/out/*.unproved; do
         if has_sum "$mark"; then
@@ -70,9 +82,10 @@ fi
 # theorems reach, the list of crates, the sentences and numbers of pages, style.
 first=(tests/test_style.py tests/test_border.py tests/test_isa.py tests/test_cause_words.py
     tests/test_options.py tests/test_believe.py tests/test_crates.py tests/test_page_words.py)
+say_commit
 run_cases first "${first[@]}"
 save
 "$python" tools/gate_cost.py rt ci | tee "$logs/proofs"
 run_cases suite -rs "${first[@]/#/--ignore=}"
-
+say_commit crates/mte_{host,split,run}/out/mte_{host,split,run}
 count_cases first proofs suite

@@ -37,6 +37,13 @@ MARK = """#!/usr/bin/env bash
 [[ $1 == --unproved ]] || set -- proved "$1"
 echo "mark.py $1 $(basename "$2")" >>"$TRIED"
 """
+FOR_ARM64 = """import os, sys
+with open(os.environ["TRIED"], "a") as file:
+    words = [os.path.basename(sys.argv[-2]), sys.argv[-1], *sys.argv[1:-3]]
+    file.write(f"arm64 {' '.join(words)}\\n")
+open(sys.argv[-2], "w").write("arm64")
+print("3 of 4, compiles\\nof the LLVM module of the proved build")
+"""
 LIBC = """#!/usr/bin/env bash
 here=$(dirname "$0")
 echo build.py >>"$TRIED"
@@ -76,13 +83,16 @@ class Clone:
         for path, text in ((self.top / "tools/unproved.py", UNPROVED), (self.compiler, COMPILER),
                            (self.top / "tools/mark.py", MARK),
                            (self.top / "tools/install.sh", INSTALL),
+                           (self.top / "tools/arm64/command.py", FOR_ARM64),
                            (self.top / "examples/libc/build.py", LIBC),
                            (self.top / "examples/rust/build.sh", RUST)):
+            path.parent.mkdir(exist_ok=True)
             path.write_text(text, encoding="utf-8")
             path.chmod(0o755)
         source = folder / "sysroot/lib/rustlib/src/rust/library/core/src/lib.rs"
         source.parent.mkdir(parents=True)
         source.touch()
+        make_stub(folder / "stub", "aarch64-linux-gnu-gcc", "exit 1")
         self.path = make_stub(folder / "stub", "rt", TOOLCHAIN)["PATH"]
 
     def build(self, *words: str, refused: str = "") -> tuple[Ran, list[str]]:
@@ -237,13 +247,37 @@ def test_for_tenants(clone: Clone) -> None:
         "without core and alloc of tenants in Rust: they need rustc and rust-src (Debian)\n")
 
 
+def test_for_arm64(clone: Clone) -> None:
+    """Programs and library are built in a folder of their own, marked as without proof, with of
+    which build they are, and stay; what is built for this machine is not touched."""
+    names = (*PROGRAMS, LIBRARY)
+    crates = {it: it.removeprefix("lib").removesuffix(".a") for it in names}
+    ran, tried = clone.build("--arm64")
+    assert (ran.status, ran.output) == (0, "")
+    assert tried == sorted([*(f"arm64 {it}.new {crate}" for it, crate in crates.items()),
+                            *(f"mark.py --unproved {it}.new" for it in names)])
+    for name in names:
+        made = clone.built(name).parent / "arm64" / name
+        assert made.read_text() == "arm64" and not clone.built(name).exists()
+        first = made.with_name(f"{name}.unproved").read_text().splitlines()[0]
+        assert first == ("# For arm64, by a step without proof, of the LLVM module of the proved "
+                         "build.")
+    for words in (["--arm64"], ["--arm64", "--unproved", "--only", "mte_host"]):
+        ran, tried = clone.build(*words)
+        assert (ran.status, tried) == (0, [])
+    (clone.top / "crates" / "mte_host" / "src" / "main.rt").write_text("other")
+    ran, tried = clone.build("--arm64", "--unproved", "--only", "mte_host")
+    assert tried == ["arm64 mte_host.new mte_host --unproved", "mark.py --unproved mte_host.new"]
+
+
 def test_words(clone: Clone) -> None:
     """Words that mean nothing are refused, and --help prints the script's comment."""
     wrong = {("--proved",): "--proved is no option (--help)",
              ("--only", "mte_walk"): "mte_walk is nothing to build",
+             ("--arm64", "/a"): "--arm64 has no PREFIX and no tenants",
              ("--jobs", "no"): "--jobs takes a number", ("/a", "/b"): "there is one PREFIX"}
     for words, said in wrong.items():
         ran, tried = clone.build(*words)
         assert (ran.status, ran.output, ran.errors, tried) == (2, "", f"build.sh: {said}\n", [])
     ran, _ = clone.build("--help")
-    assert ran.status == 0 and "    tools/build.sh [--unproved] [--only NAME]" in ran.output
+    assert ran.status == 0 and "    tools/build.sh [--unproved] [--arm64]" in ran.output

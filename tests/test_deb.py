@@ -1,5 +1,5 @@
-"""tools/deb.sh: the packages have what is installed, are what Debian asks, have the same bytes each
-time, and are of use in a root from which they go away without a trace."""
+"""tools/deb.sh: the packages have what is installed, are what Debian asks, and are of use in a root
+from which they go away without a trace. tests/test_release.py has that they are the same again."""
 
 import hashlib
 import json
@@ -11,9 +11,7 @@ import pytest
 
 from packing.parts import Place, place_of
 from tests.support import debian, debugger, installed, rust_tenants
-from tests.support.cache import cache_folder
-from tests.support.checkout import copy_files
-from tests.support.debian import Root, files_of
+from tests.support.debian import NAMES, Root, files_of
 from tests.support.host_sessions import HI_REPORT
 from tests.support.notes import noted
 from tests.support.pages import named_code
@@ -23,8 +21,6 @@ from tests.support.tools import need
 
 PACKER = ROOT / "tools" / "deb.sh"
 VERSION = (ROOT / "VERSION").read_text(encoding="utf-8").strip()
-NAMES = {"tombolopan", "libtombolopan2", "libtombolopan-dev", "python3-tombolopan",
-         "tombolopan-doc"}
 # Some files of each package, by patterns of their names.
 FILES = {
     "tombolopan": ("usr/bin/(mte_host|mte_split|mte_run|mte_why|tenant-cc)",
@@ -47,17 +43,9 @@ FILES = {
 
 
 @pytest.fixture
-def built(host: pathlib.Path, alone: pathlib.Path, shared: pathlib.Path) -> pathlib.Path:
-    """A folder with what is packed."""
-    need("rt", "cc", "ar")
-    assert host.exists() and alone.exists()
-    return installed.prefix(shared).parent / "built"
-
-
-@pytest.fixture
-def packages(built: pathlib.Path, shared: pathlib.Path) -> dict[str, pathlib.Path]:
+def packages(to_pack: pathlib.Path, shared: pathlib.Path) -> dict[str, pathlib.Path]:
     """The packages."""
-    return debian.packages(shared, built)
+    return debian.packages(shared, to_pack)
 
 
 def test_names(packages: dict[str, pathlib.Path]) -> None:
@@ -72,7 +60,7 @@ def test_names(packages: dict[str, pathlib.Path]) -> None:
         assert re.fullmatch(number, version)
 
 
-def test_files(packages: dict[str, pathlib.Path], built: pathlib.Path) -> None:
+def test_files(packages: dict[str, pathlib.Path], to_pack: pathlib.Path) -> None:
     """Each installed file is in one package, but the installer's list; no file is in two; and each
     package has its licence and its changes."""
     found = {name: files_of(path) for name, path in packages.items()}
@@ -83,9 +71,9 @@ def test_files(packages: dict[str, pathlib.Path], built: pathlib.Path) -> None:
                 f"usr/share/doc/{name}/changelog.gz"} <= set(found[name])
     every = [it for names in found.values() for it in names]
     assert len(every) == len(set(every))
-    prefix = built.parent / "prefix"
+    prefix = to_pack.parent / "prefix"
     wanted = sorted(it.name for it in prefix.rglob("*") if it.is_file() or it.is_symlink())
-    more = {"copyright", "changelog.gz", "tombolopan.spdx.json", "THEOREMS.md"}
+    more = {"copyright", "changelog.gz", "tombolopan.spdx.json", "THEOREMS.md", "unproved"}
     there = [pathlib.PurePath(it).name.removesuffix(".gz") for it in every
              if pathlib.PurePath(it).name not in more and "/lintian/" not in it]
     # The folder of the C library, and the first image, have a link where a checkout has them.
@@ -95,13 +83,13 @@ def test_files(packages: dict[str, pathlib.Path], built: pathlib.Path) -> None:
 @pytest.mark.parametrize("made, tool", [
     ("lib/libc.a", "clang"), ("lib/libc++.a", "aarch64-linux-gnu-as"),
     ("rust/lib/rustlib/aarch64-unknown-none-softfloat/lib/liballoc.rlib", "/usr/bin/rustc")])
-def test_libraries_of_tenants(packages: dict[str, pathlib.Path], built: pathlib.Path, made: str,
+def test_libraries_of_tenants(packages: dict[str, pathlib.Path], to_pack: pathlib.Path, made: str,
                               tool: str) -> None:
     """Each file that is built for tenants is installed, and in the package of the programs."""
     need(tool)
-    files = installed.files_below(built / "libc")
+    files = installed.files_below(to_pack / "libc")
     assert made in files
-    place = built.parent / "prefix" / "share/tombolopan/examples/libc/out"
+    place = to_pack.parent / "prefix" / "share/tombolopan/examples/libc/out"
     top = "usr/lib/tombolopan/libc/"
     assert installed.files_below(place) == files == {
         it.removeprefix(top) for it in files_of(packages["tombolopan"]) if it.startswith(top)}
@@ -114,24 +102,6 @@ def test_headers() -> None:
     for path in headers:
         found = place_of(f"include/{path.name}", "arch", "libtombolopan2")
         assert found == Place("libtombolopan-dev", f"include/{path.name}")
-
-
-def test_same_bytes(packages: dict[str, pathlib.Path], built: pathlib.Path,
-                    tmp_path: pathlib.Path) -> None:
-    """Packed by the same files in a deeper folder they are the same, and name neither folder."""
-    copy = copy_files(tmp_path / "a" / "deeper" / "folder")
-    again = debian.pack(tmp_path / "out", built, copy)
-    sums = [{it.name: hashlib.sha256(it.read_bytes()).hexdigest() for it in paths}
-            for paths in (packages.values(), again)]
-    assert sums[0] == sums[1]
-    for path in again:
-        folder = tmp_path / path.name.partition("_")[0]
-        succeed(["dpkg-deb", "--raw-extract", path, folder])
-        files = [it for it in folder.rglob("*") if it.is_file()]
-        places = [str(it).encode() for it in (ROOT, copy, cache_folder())]
-        wrong = [it for it in files if not it.is_symlink()
-                 for place in places if place in it.read_bytes()]
-        assert not wrong
 
 
 def test_sums(packages: dict[str, pathlib.Path], tmp_path: pathlib.Path) -> None:
@@ -257,8 +227,8 @@ def test_unproved(alone: pathlib.Path, tmp_path: pathlib.Path) -> None:
 
 def test_words(tmp_path: pathlib.Path) -> None:
     """A folder to write into is wanted; --help prints the script's comment."""
-    usage = "usage: deb.sh OUT [FOLDER] (--help)\n"
+    usage = "usage: deb.sh [--arm64] OUT [FOLDER] (--help)\n"
     for words in ((), ("--out",), (str(tmp_path), "a", "b")):
         assert run([PACKER, *words]) == Ran(2, b"", usage.encode())
     ran = run([PACKER, "--help"])
-    assert ran.status == 0 and "    tools/deb.sh OUT [FOLDER]\n" in ran.output
+    assert ran.status == 0 and "    tools/deb.sh [--arm64] OUT [FOLDER]\n" in ran.output

@@ -81,7 +81,7 @@ def test_wrong_option(moved: pathlib.Path, tmp_path: pathlib.Path, name: str) ->
 
 def make_folder(moved: pathlib.Path, folder: pathlib.Path) -> None:
     """Fills a folder as README.md says, so that commands of pages run in it."""
-    made = re.search(r"`(cp -rs PREFIX[^`]*)`", read_page("README.md"))
+    made = re.search(r"`(cp -rs PREFIX[^`]*)`", read_page("docs/C.md"))
     assert made
     command = made[1].replace("PREFIX", f"'{moved}'")
     assert bare(moved, ["bash", "-c", command], folder) == Ran(0, b"", b"")

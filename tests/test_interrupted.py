@@ -1,5 +1,6 @@
 """The gate's script: what was built stays where it fails or is interrupted, and which cases run."""
 
+import hashlib
 import os
 import pathlib
 import re
@@ -9,9 +10,10 @@ import time
 
 import pytest
 
-from tests.support.checkout import copy_files, make_stub
+from packing.gate_log import complaints, read_gate
+from tests.support.checkout import commit_all, copy_files, make_stub
 from tests.support.places import ROOT
-from tests.support.running import HANG, succeed
+from tests.support.running import HANG, run, succeed
 from tests.support.tools import need
 
 # Moves all that was built away, as the toolchain does before it proves; builds one program anew.
@@ -24,8 +26,8 @@ mkdir -p crates/mte_host/out
 echo anew >crates/mte_host/out/mte_host
 touch moved
 sleep "$SECONDS_OF_PROOF"
-echo '0 passed, 1 failed'
-exit 1
+echo "3 passed, ${FAILED:-1} failed"
+exit "${FAILED:-1}"
 """
 # What comes before the proofs.
 FIRST = re.findall(r"tests/test_(\w+)\.py", re.findall(
@@ -93,6 +95,26 @@ def test_a_gate_that_is_interrupted(clone: pathlib.Path, number: int) -> None:
     os.killpg(running.pid, number)
     assert running.wait(HANG) != 0
     assert contents(clone) == WANTED
+
+
+@pytest.mark.parametrize("is_changed", [False, True])
+def test_the_log_of_a_gate(clone: pathlib.Path, is_changed: bool) -> None:
+    """It has what tools/release.sh reads: the commit at its beginning and its end, whether files
+    differ from it, the sums of what was proved, and the counts of all parts."""
+    (clone / "tests" / "test_other.py").write_text("def test(): pass\n", encoding="utf-8")
+    (clone / ".gitignore").write_text("out/\n__pycache__/\n.pytest_cache/\nmoved\n")
+    commit = commit_all(clone)
+    if is_changed:
+        (clone / "new").touch()
+    stub = make_stub(clone.parent / "stub", "rt", TOOLCHAIN)
+    ran = run([clone / "tests" / "run.sh"],
+              extra={**stub, "SECONDS_OF_PROOF": "0", "FAILED": "0"})
+    assert ran.status == 0, ran.output + ran.errors
+    gate = read_gate(ran.output)
+    assert gate.counts == {"passed": len(FIRST) + 3 + 1, "failed": 0, "skipped": 0}
+    assert gate.commits == (commit, commit) and gate.is_changed == is_changed
+    assert gate.sums == {"mte_host": hashlib.sha256(b"anew\n").hexdigest()}
+    assert len(complaints(gate, commit)) == is_changed
 
 
 SKIPS = """import pytest

@@ -1,7 +1,7 @@
 #!/usr/bin/env bash
 # Builds mte_host, mte_split, mte_run, the library for C, and the libraries of tenants: those of C
 # and C++, and core and alloc of Rust.
-#     tools/build.sh [--unproved] [--only NAME] [--jobs N] [PREFIX]
+#     tools/build.sh [--unproved] [--arm64] [--only NAME] [--jobs N] [PREFIX]
 #
 # What is built from the sources that are there stays: their sum is kept (sources.sh). Programs and
 # the library are in crates/*/out, the libraries of tenants in examples/libc/out. Programs and the
@@ -9,6 +9,9 @@
 # (tools/install.sh). It says of how many crates or steps how many are done.
 #     --unproved   builds without proof, in minutes. Beside each such file is NAME.unproved, with
 #                  its sum. What is proved of these sources stays as it is.
+#     --arm64      programs and the library for Linux on arm64, in crates/*/out/arm64, compiled from
+#                  the LLVM module of the proved build where mte_run is proved here, else of one
+#                  without proof. That step is not proved, so these are marked as without proof.
 #     --only NAME  this one alone: a program, libtombolopan_c.a, programs for these four, or tenants
 #                  for the libraries of tenants
 #     --jobs N     how many are built at a time without proof (as processors and memory allow)
@@ -26,11 +29,12 @@ leave() {
     exit 2
 }
 
-only='' proof=yes jobs='' prefix=''
+only='' proof=yes jobs='' prefix='' machine=''
 while [[ $# -gt 0 ]]; do
     case $1 in
         --help | -h) sed -n '2,/^set/s/^# \{0,1\}//p' "$0"; exit ;;
         --unproved) proof=no ;;
+        --arm64) machine=arm64/ ;;
         --only) only=${2:-}; shift ;;
         --jobs) jobs=${2:-}; shift ;;
         -*) leave "$1 is no option (--help)" ;;
@@ -41,12 +45,17 @@ done
 [[ -z $only || " ${every[*]} programs tenants " == *" $only "* ]] ||
     leave "$only is nothing to build"
 [[ -z $jobs || $jobs =~ ^[1-9][0-9]?$ ]] || leave "--jobs takes a number"
+if [[ -n $machine ]]; then
+    [[ -z $prefix && $only != tenants ]] || leave "--arm64 has no PREFIX and no tenants"
+    [[ -n $only ]] || only=programs
+    command -v aarch64-linux-gnu-gcc >/dev/null || leave "missing: gcc-aarch64-linux-gnu (Debian)"
+fi
 command -v rt >/dev/null || [[ $only == tenants ]] || leave "rt, the toolchain, is not there"
 
 # The place of a program or of the library.
 place() {
     local crate=${1#lib}
-    echo "$crates/${crate%.a}/out/$1"
+    echo "$crates/${crate%.a}/out/$machine$1"
 }
 
 # Whether it is marked as built without proof.
@@ -54,10 +63,18 @@ is_unproved() {
     has_sum "$(place "$1").unproved"
 }
 
-# Whether it is there, of these sources, and proved where that is wanted.
+# Whether it is there, of these sources, and proved where that is wanted; for arm64, whether it is
+# of the proved build where that is there.
 is_built() {
-    is_current "$top" "$(place "$1")" || return 1
-    [[ $proof == no ]] || ! is_unproved "$1"
+    local file
+    file=$(place "$1")
+    is_current "$top" "$file" || return 1
+    [[ $proof == yes ]] || return 0
+    if [[ -z $machine ]]; then
+        if is_unproved "$1"; then return 1; fi
+    elif [[ ! -e $crates/mte_run/out/mte_run.unproved ]]; then
+        grep -q 'the proved build' "$file.unproved"
+    fi
 }
 
 say() {
@@ -131,13 +148,22 @@ prove() {
 
 # Builds it without proof beside its place, marks it, and puts it there.
 unproved() {
-    local file crate=${1#lib}
+    local file crate=${1#lib} words=() said
     file=$(place "$1")
     mkdir -p "${file%/*}"
-    "$here/unproved.py" "$top" "$file.new" "${crate%.a}"
+    said="Built by tools/build.sh --unproved: nothing is proved of the file with this sum."
+    if [[ -z $machine ]]; then
+        "$here/unproved.py" "$top" "$file.new" "${crate%.a}"
+    else
+        [[ $proof == yes ]] || words=(--unproved)
+        PYTHONPATH=$here python3 -m arm64.command "${words[@]}" "$top" "$file.new" "${crate%.a}" |
+            tee "$file.said"
+        said="For arm64, by a step without proof, $(tail -n 1 "$file.said")."
+        rm "$file.said"
+    fi
     "$here/mark.py" --unproved "$file.new"
     {
-        echo "# Built by tools/build.sh --unproved: nothing is proved of the file with this sum."
+        echo "# $said"
         (cd "${file%/*}" && sha256sum "$1.new") | sed "s/$1\.new\$/$1/"
     } >"$file.unproved"
     mv "$file.new" "$file"
@@ -152,7 +178,7 @@ build() {
         say "$1: $how"
         return
     fi
-    [[ $proof == yes ]] || { way=unproved; how='built without proof'; }
+    [[ $proof == yes && -z $machine ]] || { way=unproved; how='built without proof'; }
     watched "$1" "$way" "$1"
     say "$1: $how"
 }
@@ -208,13 +234,13 @@ if [[ -z $jobs ]]; then
 fi
 wanted=("${every[@]}")
 [[ -z $only || $only == programs ]] || wanted=("$only")
-if [[ $proof == yes && $only != tenants ]]; then
+if [[ $proof == yes && -z $machine && $only != tenants ]]; then
     say "proves what is not built yet: README.md, \"Build and check\", has the time"
 fi
 if [[ $only != tenants ]]; then
     sources=$(sum_of_sources "$top")
     # Proofs take turns, since each uses what those before it have proved.
-    [[ $proof == no ]] || jobs=1
+    [[ $proof == no || -n $machine ]] || jobs=1
     # shellcheck disable=SC2046
     trap 'kill $(jobs -p) 2>/dev/null || true' EXIT
     running=0

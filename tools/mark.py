@@ -22,6 +22,8 @@ import tempfile
 from packing.release import ROOT, is_changed, read_version
 
 SECTION, OWNER, KIND = ".note.tombolopan", b"tombolopan\0", 1
+# The machine of an ELF file whose processor is Arm's.
+ARM64 = (183).to_bytes(2, "little")
 # What gives the lines.
 SAYING = ("mte_run", "mte_split", "libtombolopan")
 LINES = """\
@@ -78,7 +80,9 @@ def add_note(path: pathlib.Path, text: bytes) -> None:
     with tempfile.NamedTemporaryFile() as file:
         file.write(note(text))
         file.flush()
-        subprocess.run(["objcopy", "--add-section", f"{SECTION}={file.name}", path], check=True)
+        is_arm64 = path.read_bytes()[18:20] == ARM64
+        words = ["aarch64-linux-gnu-objcopy" if is_arm64 else "objcopy", "--add-section"]
+        subprocess.run([*words, f"{SECTION}={file.name}", path], check=True)
 
 
 def mark(path: pathlib.Path, text: bytes) -> None:

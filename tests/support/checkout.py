@@ -6,6 +6,7 @@ import pathlib
 import shutil
 
 from tests.support.places import ROOT
+from tests.support.running import succeed
 from tests.support.tools import git
 
 
@@ -24,6 +25,16 @@ def copy_files(target: pathlib.Path, *folders: str) -> pathlib.Path:
             (target / name).parent.mkdir(parents=True, exist_ok=True)
             shutil.copy2(ROOT / name, target / name)
     return target
+
+
+def commit_all(folder: pathlib.Path) -> str:
+    """Makes a repository of a folder with one commit, always of the same day; its name."""
+    day = "2026-11-11T11:11:11Z"
+    extra = {"GIT_AUTHOR_DATE": day, "GIT_COMMITTER_DATE": day, "GIT_CONFIG_GLOBAL": "/dev/null"}
+    who = ["-c", "user.name=Nobody", "-c", "user.email=nobody@example.org"]
+    for words in (["init", "--quiet"], ["add", "--all"], [*who, "commit", "--quiet", "-m", "All"]):
+        succeed(["git", *words], cwd=folder, extra=extra)
+    return succeed(["git", "rev-parse", "HEAD"], cwd=folder).output.strip()
 
 
 def link_built(target: pathlib.Path, built: pathlib.Path) -> None:

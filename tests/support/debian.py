@@ -2,15 +2,17 @@
 
 import os
 import pathlib
-import shutil
 import subprocess
 from collections.abc import Mapping, Sequence
 
+from tests.support import installed
 from tests.support.once import make_once
 from tests.support.places import ROOT
-from tests.support.running import Ran, run, succeed
+from tests.support.running import Ran, Word, run, succeed
 from tests.support.tools import git, need
 
+NAMES = {"tombolopan", "libtombolopan2", "libtombolopan-dev", "python3-tombolopan",
+         "tombolopan-doc"}
 # What the packages need of the system, which a root has at its beginning.
 SYSTEM = ("libc6", "python3")
 LEFT_OUT = ("Depends", "Pre-Depends", "Recommends", "Suggests", "Conflicts", "Breaks", "Replaces",
@@ -22,26 +24,49 @@ def git_folder() -> str:
     return git("rev-parse", "--absolute-git-dir").strip()
 
 
-def pack(out: pathlib.Path, built: pathlib.Path, top: pathlib.Path = ROOT) -> list[pathlib.Path]:
-    """Packs what was built, by a checkout or a copy of its files."""
-    need("dpkg-deb", "dpkg-shlibdeps", "strip", "git")
-    ran = run([top / "tools" / "deb.sh", out, built],
-              extra={"GIT_DIR": git_folder()})
-    assert (ran.status, ran.errors) == (0, "")
-    return [pathlib.Path(line) for line in ran.output.splitlines()]
+def to_pack(shared: pathlib.Path) -> pathlib.Path:
+    """A folder with what is packed, after it was installed."""
+    need("rt", "cc", "ar")
+    return installed.prefix(shared).parent / "built"
+
+
+def release(out: pathlib.Path, built: pathlib.Path, top: pathlib.Path = ROOT) -> str:
+    """Makes a release of what was built, as a trial, by a checkout or a copy of its files; what it
+    prints."""
+    need("dpkg-deb", "dpkg-shlibdeps", "strip", "git", "objcopy")
+    words: list[Word] = [top / "tools" / "release.sh", "--dry-run", "--built", built, out]
+    return succeed(words, extra={"GIT_DIR": git_folder()}).output
+
+
+def released(shared: pathlib.Path, built: pathlib.Path) -> tuple[pathlib.Path, str]:
+    """The files of a release, made once, and what was printed."""
+
+    def make(table: pathlib.Path) -> None:
+        table.write_text(release(table.parent / "files", built), encoding="utf-8")
+
+    table = make_once(shared / "released" / "table", make)
+    return table.parent / "files", table.read_text(encoding="utf-8")
 
 
 def packages(shared: pathlib.Path, built: pathlib.Path) -> dict[str, pathlib.Path]:
-    """The packages by their names, made once."""
+    """The packages by their names."""
+    folder, _ = released(shared, built)
+    return {path.name.partition("_")[0]: path for path in sorted(folder.glob("*.deb"))
+            if not path.name.endswith("_arm64.deb")}
 
-    def make(folder: pathlib.Path) -> None:
-        part = folder.with_name("packing")
-        shutil.rmtree(part, ignore_errors=True)
-        pack(part, built)
-        part.rename(folder)
 
-    folder = make_once(shared / "packages", make)
-    return {path.name.partition("_")[0]: path for path in sorted(folder.iterdir())}
+def older(package: pathlib.Path, folder: pathlib.Path) -> pathlib.Path:
+    """A package of an earlier version, with a file that the later one has not."""
+    name, version, _ = package.name.split("_")
+    content, made = folder / name, folder / f"{name}.deb"
+    folder.mkdir(exist_ok=True)
+    succeed(["dpkg-deb", "--raw-extract", package, content])
+    control = content / "DEBIAN" / "control"
+    control.write_text(control.read_text(encoding="utf-8").replace(version, "0.1"),
+                       encoding="utf-8")
+    (content / "usr/share/doc" / name / "gone").touch()
+    succeed(["dpkg-deb", "--root-owner-group", "-Znone", "--build", content, made])
+    return made
 
 
 def stanza(name: str) -> str:

@@ -36,8 +36,8 @@ SIGNS = (
     "below it = in a live chunk, x in a freed one, ^ what was refused"
 )
 KEYS = (
-    "image", "seed", "exit_status", "steps", "output_cut", "statistics", "status", "stack",
-    "cause", "chunks", "last_store", "registers", "tags", "pages",
+    "format", "image", "seed", "exit_status", "steps", "output_cut", "statistics", "status",
+    "stack", "cause", "chunks", "last_store", "registers", "tags", "pages",
 )
 TITLE = re.compile(r"(\S+\.elf|tenant \d+ of \S+): .*, step \d+(, seed [0-9a-f]{16})?$")
 

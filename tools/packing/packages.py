@@ -10,6 +10,7 @@ import re
 import shutil
 import subprocess
 from collections.abc import Iterator
+from dataclasses import dataclass
 
 from packing import fields, spdx
 from packing.fields import Package, all_packages
@@ -39,12 +40,33 @@ def packed(data: bytes) -> bytes:
     return gzip.compress(data, compresslevel=9, mtime=0)
 
 
+@dataclass(frozen=True)
+class Machine:
+    """The machine of packages: Debian's name of it, the folder of its libraries, the program that
+    strips its files, and whether it is this one."""
+
+    name: str
+    libraries: str
+    strip: str
+    is_own: bool
+
+
+def this_machine() -> Machine:
+    """This one."""
+    return Machine(output("dpkg", "--print-architecture"),
+                   output("dpkg-architecture", "-qDEB_HOST_MULTIARCH"), "strip", True)
+
+
+ARM64 = Machine("arm64", "aarch64-linux-gnu", "aarch64-linux-gnu-strip", False)
+
+
 class Packer:
     """An installed tree on its way into packages, each in a folder of its own."""
 
-    def __init__(self, prefix: pathlib.Path, work: pathlib.Path, release: Release) -> None:
-        self.prefix, self.work, self.release = prefix, work, release
-        self.arch = output("dpkg-architecture", "-qDEB_HOST_MULTIARCH")
+    def __init__(self, prefix: pathlib.Path, work: pathlib.Path, release: Release,
+                 machine: Machine) -> None:
+        self.prefix, self.work, self.release, self.machine = prefix, work, release, machine
+        self.arch = machine.libraries
         library = next(prefix.glob("lib/libtombolopan.so.[0-9]*"))
         self.number = library.name.rpartition(".")[2]
         self.shared = f"libtombolopan{self.number}"
@@ -99,9 +121,9 @@ class Packer:
         """Takes away what only a linker or a debugger reads of what runs on this machine."""
         if place.name.startswith(("bin/", f"lib/{self.arch}/libtombolopan.so")):
             if path.read_bytes()[:4] == b"\x7fELF":
-                output("strip", "--strip-unneeded", path)
+                output(self.machine.strip, "--strip-unneeded", path)
         elif path.suffix == ".a" and place.name.startswith(f"lib/{self.arch}/"):
-            output("strip", "--strip-debug", "--enable-deterministic-archives", path)
+            output(self.machine.strip, "--strip-debug", "--enable-deterministic-archives", path)
 
     def add_links(self) -> None:
         """Links to what is not where a checkout has it."""
@@ -131,6 +153,11 @@ class Packer:
         there = [f"-e{it}" for it in files if it.exists()]
         if not there or "{libraries}" not in package.depends:
             return ""
+        if not self.machine.is_own:
+            # This system does not have the packages of that machine's libraries.
+            data = b"".join(it.read_bytes() for it in files if it.exists())
+            newest = max(int(it) for it in re.findall(rb"\0GLIBC_2\.(\d+)", data))
+            return f"libc6 (>= 2.{newest})"
         stub = f"Source: {PROGRAMS}\n\nPackage: {package.name}\nArchitecture: any\n"
         (self.work / "debian" / "control").write_text(stub, encoding="utf-8")
         told = output("dpkg-shlibdeps", "-O", *there, cwd=self.work)
@@ -165,7 +192,7 @@ class Packer:
         top = self.top(package.name)
         values = {"version": self.release.version, "shared": self.shared,
                   "libraries": self.needed(package),
-                  "architecture": output("dpkg", "--print-architecture")}
+                  "architecture": self.machine.name}
         files = sorted(it for it in top.rglob("*") if it.is_file() and not it.is_symlink())
         kilobytes = sum((it.stat().st_size + 1023) // 1024 for it in files) + len(files)
         yield "control", fields.control(package, values, kilobytes)
@@ -186,9 +213,12 @@ class Packer:
             os.utime(path, (self.release.seconds,) * 2, follow_symlinks=False)
 
     def write_packages(self, out: pathlib.Path) -> Iterator[pathlib.Path]:
-        """Packs each package into a folder, and gives its path."""
+        """Packs each package into a folder, and gives its path. Those of all machines are packed
+        with this machine's."""
         os.environ["SOURCE_DATE_EPOCH"] = str(self.release.seconds)
         for package in all_packages(self.shared):
+            if package.architecture == fields.ALL and not self.machine.is_own:
+                continue
             top = self.top(package.name)
             self.add_documents(package)
             (top / "DEBIAN").mkdir()

@@ -32,8 +32,8 @@ def sum_of_sources() -> str:
     held = hashlib.sha256(ran.stdout.encode() + str(mark.toolchain()).encode())
     tools = ROOT / "tools"
     own = sorted((tools / "wasm" / lowered.SESSION).glob("*.txt"))
-    made_by = [tools / it for it in ("unproved.py", "unchecked.py", "wasm/lowered.py",
-                                     "wasm/module.py")]
+    made_by = [tools / it for it in ("unproved.py", "unchecked.py", "retarget.py",
+                                     "wasm/lowered.py", "wasm/module.py")]
     for path in (*made_by, *own):
         held.update(path.read_bytes())
     return held.hexdigest()[:32]

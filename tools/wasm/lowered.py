@@ -44,7 +44,7 @@ def dependencies(checkout: pathlib.Path, name: str) -> list[str]:
     if name in OWN:
         return ["core", "std", *OWN[name]]
     text = (checkout / "crates.txt").read_text(encoding="utf-8")
-    found = re.search(rf"^{name}: *(.*)$", text, re.M)
+    found = re.search(rf"^{name}(?: staticlib)?: *(.*)$", text, re.M)
     assert found, name
     return ["core", "std", *found[1].split()]
 
@@ -70,9 +70,12 @@ def library(checkout: pathlib.Path, kit: pathlib.Path, crate: str) -> pathlib.Pa
 
 def build_words(checkout: pathlib.Path, kit: pathlib.Path, work: pathlib.Path,
                 name: str) -> list[str]:
-    """The command that proves a program over proved libraries and compiles it."""
-    words = ["rattle", "build", "--crate-name", name, "src/main.rt", "-L",
-             f"dependency={kit}/rlibs"]
+    """The command that proves a program, or a library for C, over proved libraries and compiles
+    it."""
+    kind = ["src/main.rt"]
+    if name in unproved.LIBRARY:
+        kind = ["src/lib.rt", "--crate-type", "staticlib"]
+    words = ["rattle", "build", "--crate-name", name, *kind, "-L", f"dependency={kit}/rlibs"]
     for crate in dependencies(checkout, name):
         words += ["--extern", f"{crate}={library(checkout, kit, crate)}"]
     for folder in sorted((checkout / "crates").glob("*/out/rlib")):

@@ -5,6 +5,7 @@ import re
 import subprocess
 from collections.abc import Sequence
 
+import retarget
 import unproved
 
 SYSTEM = pathlib.Path(__file__).resolve().parent / "system"
@@ -15,11 +16,10 @@ FROM_IR = ["-O3", "-Wno-override-module", "-ffunction-sections", "-fdata-section
 STACK, MOST_MEMORY = 8 << 20, 1 << 30
 # Words of functions for x86-64, and what they are for the other processor.
 WORDS = {
-    ' "probe-stack"="inline-asm" "stack-probe-size"="3072"': "",
-    ' "target-cpu"="x86-64-v2"': (
+    retarget.PROBED: "",
+    retarget.PROCESSOR: (
         ' "target-features"="+bulk-memory,+sign-ext,+nontrapping-fptoint,+mutable-globals"'),
-    # A group has one word at least.
-    ' "frame-pointer"="all"': " nounwind",
+    **retarget.FRAMES,
 }
 # Where a slice begins, with its steps.
 SLICE = re.compile(r'(^define [^\n]*@"tenant_run::slices::run_slice::[^\n]*i32 noundef (%\w+)'
@@ -42,40 +42,20 @@ def run(words: Sequence[object]) -> str:
     return ran.stdout
 
 
-def data_layout(clang: pathlib.Path, work: pathlib.Path) -> str:
-    """How LLVM lays out data for the target."""
-    empty = work / "empty.c"
-    empty.write_text("int empty;\n", encoding="utf-8")
-    text = run([clang, *TARGET, "-S", "-emit-llvm", empty, "-o", "-"])
-    return next(it for it in text.splitlines() if it.startswith("target datalayout"))
-
-
 def for_the_target(text: str, layout: str) -> str:
     """The same module with the layout, the name and the features of the target, which says the
     steps of each slice."""
-    text = re.sub(r"^target datalayout.*$", lambda _: layout, text, count=1, flags=re.M)
-    text = re.sub(r"^target triple.*$", 'target triple = "wasm64-unknown-unknown"', text, count=1,
-                  flags=re.M)
     text = SLICE.sub(rf"\1  call void @{COUNTED}(i32 \2)\n", text)
     text = IS_SMALL.sub(r"\1 minsize optsize {", text)
-    lines = text.split("\n")
-    for at, line in enumerate(lines):
-        if line.startswith("attributes #"):
-            lines[at] = with_words(line)
-    return "\n".join([*lines, f"declare void @{COUNTED}(i32)", ""])
-
-
-def with_words(line: str) -> str:
-    """A group of attributes for the target."""
-    for old, new in WORDS.items():
-        line = line.replace(old, new)
-    return line
+    text = retarget.retargeted(text, layout, "wasm64-unknown-unknown", WORDS)
+    return f"{text}\ndeclare void @{COUNTED}(i32)\n"
 
 
 def compile_module(lowered: pathlib.Path, out: pathlib.Path, work: pathlib.Path) -> None:
     """Compiles it, as an object."""
     clang = unproved.find_kit() / "toolchain/bin/clang"
-    text = for_the_target(lowered.read_text(encoding="utf-8"), data_layout(clang, work))
+    layout = retarget.data_layout(clang, TARGET, work)
+    text = for_the_target(lowered.read_text(encoding="utf-8"), layout)
     (work / "module.ll").write_text(text, encoding="utf-8")
     run([clang, *TARGET, *FEATURES, "-c", *FROM_IR, work / "module.ll", "-o", out])
 

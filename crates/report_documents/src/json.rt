@@ -27,7 +27,8 @@ impl<'a> Document<'a> {
 /// Writes what was run.
 fn write_run<W: Write>(out: &mut W, report: &Report<'_>, exit_status: u8) -> io::Result<()> {
     let (image, steps) = (Quoted(report.image), report.step());
-    writeln!(out, "{{\"image\":{image},")?;
+    writeln!(out, "{{\"format\":\"tombolopan run 1\",")?;
+    writeln!(out, "\"image\":{image},")?;
     if let Some(seed) = report.seed {
         writeln!(out, "\"seed\":\"{seed:016x}\",")?;
     }
