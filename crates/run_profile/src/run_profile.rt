@@ -63,14 +63,16 @@ impl<'a> RunProfile<'a> {
         })
     }
 
-    /// Begins a slice at an instruction, and the run, unless it has begun.
+    /// Begins a slice of a tenant that has not ended, and the run, unless it has begun.
     pub fn begin_slice(&mut self, parts: &TenantParts) {
         let first = parts.regs.pc;
         if self.first.is_none() {
             self.first = Some(first);
             self.start = first;
         }
-        self.events.begin_slice(parts.history.steps);
+        if parts.is_running() {
+            self.events.begin_slice(parts.history.steps);
+        }
     }
 
     /// Whether the run has begun.
