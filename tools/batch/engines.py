@@ -25,11 +25,12 @@ class Bundle:
     losses: int = 0
 
 
-Outcome = tuple[Bundle, Replies | Lost]
+Outcome = tuple[Bundle, Replies | Lost, float]
 
 
 class Engine(Protocol):
-    """What runs bundles, several at a time. A bundle comes back with its replies, or lost."""
+    """What runs bundles, several at a time. A bundle comes back with its replies, or lost, and with
+    how many seconds a processor worked on it."""
 
     # How many sessions a bundle has at most.
     bundle: int
@@ -55,13 +56,20 @@ class Engine(Protocol):
 def serve(pipe: multiprocessing.connection.Connection,
           other: multiprocessing.connection.Connection, run: Runner) -> None:
     """What a worker does: it runs what comes through its pipe, until nothing more comes. It closes
-    its copy of the other end, or it would never learn that whoever has that end is gone."""
+    its copy of the other end, or it would never learn that whoever has that end is gone. With
+    nothing to run a runner loads what it needs, which is no work of the first bundle."""
     other.close()
     signal.signal(signal.SIGINT, signal.SIG_IGN)
+    is_loaded = False
     while True:
         try:
             jobs: Sequence[Job] = pipe.recv()
-            pipe.send(run_safely(run, jobs))
+            if not is_loaded:
+                run_safely(run, ())
+                is_loaded = True
+            began = time.process_time()
+            replies = run_safely(run, jobs)
+            pipe.send((replies, time.process_time() - began))
         except (EOFError, OSError):  # whoever asked is gone
             return
 
@@ -78,11 +86,12 @@ class Worker:
         self.bundle: Bundle | None = None
         self.until = 0.0
 
-    def take(self) -> Replies | Lost:
-        """What it answers of its bundle; that it is lost where the process ended."""
+    def take(self) -> tuple[Replies, float] | Lost:
+        """What it answers of its bundle, and how long it worked; that it is lost where the process
+        ended."""
         try:
-            replies: Replies = self.pipe.recv()
-            return replies
+            came: tuple[Replies, float] = self.pipe.recv()
+            return came
         except Exception:  # the pipe ended, or has what cannot be read
             return self.end()
 
@@ -133,7 +142,7 @@ class LocalEngine:
         """Puts a new worker in the place of one that ended, whose bundle is lost."""
         worker = self.workers[place]
         assert worker.bundle is not None
-        self.ready.append((worker.bundle, lost))
+        self.ready.append((worker.bundle, lost, 0.0))
         self.workers[place] = Worker(worker.run)
 
     def _left(self) -> float | None:
@@ -155,11 +164,11 @@ class LocalEngine:
     def _take(self, place: int) -> None:
         worker = self.workers[place]
         assert worker.bundle is not None
-        replies = worker.take()
-        if isinstance(replies, Lost):
-            self._replace(place, replies)
+        came = worker.take()
+        if isinstance(came, Lost):
+            self._replace(place, came)
         else:
-            self.ready.append((worker.bundle, replies))
+            self.ready.append((worker.bundle, *came))
             worker.bundle = None
 
     def _end_late_ones(self) -> None:
