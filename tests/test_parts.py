@@ -18,12 +18,12 @@ import pytest
 from tests.support.batches import BATCH, Batch, script, summary
 from tests.support.drawn_sessions import MOST_STEPS, write_sessions, write_wanted
 from tests.support.embedding import folders
-from tests.support.host_sessions import admission, with_hi
+from tests.support.host_sessions import admission
 from tests.support.instructions import move, program, subtract_with_flags
 from tests.support.library import shared_object
 from tests.support.once import make_once
 from tests.support.places import EXAMPLES
-from tests.support.running import HANG, Ran, run, succeed
+from tests.support.running import HANG, run, succeed
 from tests.support.tools import give_up
 
 DRAWN = int(os.environ.get("TOMBOLOPAN_DRAWN", "200")) // 10
@@ -108,10 +108,9 @@ def test_parts(made: Batch) -> None:
     """Each tenant of many steps is a part, and those of few steps are one together; what was put
     together is kept as a run without parts keeps it, and the other way round."""
     first = made.sessions / "session-000000"
+    many = [f"slice {number} {MOST_STEPS}" for number in (1, 2) for _ in range(SLICES)]
     (first / "script").write_text("".join(f"{it}\n" for it in (
-        *(admission(number) for number in range(1, TENANTS + 1)), f"slice 3 {MOST_STEPS}",
-        *(f"slice {number} {MOST_STEPS}" for number in (1, 2) for _ in range(SLICES)))))
-    (first / "script").write_text((first / "script").read_text().replace("slice 3", "stop 9\nslice 3"))
+        *(admission(number) for number in range(1, 4)), "stop 9", f"slice 3 {MOST_STEPS}", *many)))
     (first / "want.out").unlink()
     told = made.told("--jobs", "1")
     assert (told["work"]["parts_run"], told["verdicts"]) == (
@@ -200,11 +199,10 @@ def test_a_part_that_never_comes(made: Batch, split: pathlib.Path,
                                  tmp_path: pathlib.Path) -> None:
     """It is named with its session, and takes no other with it; the next run makes what was
     not made of that session."""
-    act = f"*'--tenant 1 '*) [[ ! -e {tmp_path}/well ]] && grep -q 'session-000002' \"$5\" && exit 1 ;;"
-    marked = made.sessions / "session-000002"
-    (marked / "image").write_bytes((marked / "image").read_bytes() + b"# session-000002\n")
-    act = act.replace('"$5"', '"$6"')
-    ill = faulty(made, split, tmp_path, act)
+    with open(made.sessions / "session-000002" / "image", "ab") as file:
+        file.write(b"marked")
+    ill = faulty(made, split, tmp_path, f"*'--tenant 1 '*) [[ ! -e {tmp_path}/well ]] "
+                 "&& grep -q marked \"$6\" && exit 1 ;;")
     ran = ill.run("--tries", "1")
     assert ran.status == 1 and summary(ran)[0] == f"{COUNT - 1} as wanted, 0 different, 1 lost"
     assert ran.output.splitlines()[0] == (

@@ -18,7 +18,7 @@ from tests.support.instructions import move, program, subtract_with_flags
 from tests.support.once import make_once
 from tests.support.refused_memory import preload, refuse_each
 from tests.support.running import Ran, Word, run, succeed
-from tests.support.split_sessions import LEDGER, SplitSession, admitted, resealed
+from tests.support.split_sessions import LEDGER, SplitSession, resealed
 
 USAGE_WORDS = [
     "", "--help", "--list", "--list hi.script hi.elf", "--list --frames 11",

@@ -24,7 +24,8 @@ from tests.support.places import ROOT
 from tests.support.running import Ran, run
 
 sys.path.insert(0, str(ROOT / "tools"))
-from batch.further import Run, count_of, lead, slices_of  # noqa: E402
+from batch.answers import after_further  # noqa: E402
+from batch.further import Run, count_of, lead, lines_of, runs_of, slices_of  # noqa: E402
 from batch.reports import refused_of, tenants_of  # noqa: E402
 
 DRAWN = int(os.environ.get("TOMBOLOPAN_DRAWN", "300"))
@@ -175,6 +176,41 @@ def test_many_yields(host: pathlib.Path, library: dict[str, str], tmp_path: path
         check_script(host, folder, tmp_path / "reports", told, total)
 
 
+# Runs the search for the only tenant of each script of a folder, over its files, by the library.
+SEARCH = """import pathlib, sys
+sys.path[:0] = sys.argv[2:]
+from batch.further import found_for
+for at in sorted(pathlib.Path(sys.argv[1]).iterdir()):
+    files = [it.read_bytes() for it in sorted(at.glob("image-*"))]
+    (at / "found").write_bytes(found_for((at / "script").read_bytes(), files, 30_000))
+"""
+
+
+def test_reports_of_tenants_alone(host: pathlib.Path, library: dict[str, str],
+                                  tmp_path: pathlib.Path) -> None:
+    """What is put together of a tenant alone is what mte_host writes of it, byte for byte, however
+    it ended."""
+    sessions = tmp_path / "sessions"
+    write_sessions(sessions, range(max(40, DRAWN // 4)))
+    for number, at in enumerate(sorted(sessions.iterdir())):
+        mode = " async" if number % 3 == 0 else ""
+        line = f"admit 7 image {number % 4 + 1} input 1 seed 00000000000000{number % 256:02x}"
+        (at / "script").write_text(f"{line} frames 9 out 64{mode}\nslice 7 11\n")
+    places = [str(ROOT / "tools"), str(ROOT / "examples" / "embed")]
+    ran = run([sys.executable, "-c", SEARCH, sessions, *places], extra=library)
+    assert (ran.status, ran.errors) == (0, "")
+    kinds = set()
+    for at in sessions.iterdir():
+        found = (at / "found").read_bytes()
+        slices = lines_of(runs_of(found))
+        if slices.count(b"\n") < MOST_EVENTS - 1:
+            (at / "longer").write_bytes((at / "script").read_bytes() + slices)
+            ran = run_over(host, at, at / "longer")
+            assert (ran.status, ran.out) == (0, after_further(found))
+            kinds |= {it["status"]["kind"] for it in tenants_of(ran.out)}
+    assert kinds >= {"running", "exit", "fault", "illegal", "breakpoint"}, kinds
+
+
 def test_a_faulty_script(host: pathlib.Path, library: dict[str, str],
                          tmp_path: pathlib.Path) -> None:
     """It has its line; a session that cannot be read, and words that are none, are as ever; those
@@ -198,7 +234,8 @@ def test_a_faulty_script(host: pathlib.Path, library: dict[str, str],
 def test_what_is_lost(library: dict[str, str], tmp_path: pathlib.Path) -> None:
     """A session that never answers is lost, at each of its runs, and the others are not."""
     write_sessions(tmp_path / "sessions", range(6))
-    batch = Batch(tmp_path / "sessions", library, ("--steps", "5000", "--jobs", "2", "--tries", "0"))
+    options = ("--steps", "5000", "--jobs", "2", "--tries", "0")
+    batch = Batch(tmp_path / "sessions", library, options)
     marked = (batch.sessions / "drawn-000003" / "image-0").read_bytes()
     act = f"if {marked!r} in files: raise MemoryError"
     ran = batch.going_wrong(act).run()

@@ -13,11 +13,12 @@ from batch.sessions import Job, Session
 SHARE = 0.05
 
 
-class Plan(Protocol):
+class Plan:
     """What leads some sessions to their answers by other sessions, which it enters."""
 
     def takes(self, session: Session) -> bool:
         """Whether it leads a session that is to run. Then it has begun to."""
+        raise NotImplementedError
 
     def sent(self, bundle: Bundle, seconds: float) -> None:
         """Learns that a bundle is under way, and what it took here to send it."""

@@ -11,7 +11,7 @@ from dataclasses import dataclass, field, replace
 from batch.answers import OK, Answer, Lost, Reply
 from batch.driver import BUNDLE_STEPS, FIRST, Batch
 from batch.engines import Bundle
-from batch.planning import Budget
+from batch.planning import Budget, Plan
 from batch.reports import blocks_of, refused_lines_of, refused_of
 from batch.scripts import Own, allowed_steps, part_of, tenants_of, without_steps
 from batch.sessions import Job, Session, make_key
@@ -38,7 +38,7 @@ def groups_of(tenants: dict[int, Own]) -> list[list[int]]:
 
 
 @dataclass
-class Split:
+class Split(Plan):
     """Runs of sessions in parts. `program` is the sum of what runs parts elsewhere. Of several
     shares each has some of the short sessions and some of the parts, which it puts not together;
     `share` is which of how many this is."""
@@ -90,7 +90,7 @@ class Split:
 
 @dataclass
 class Whole:
-    """A session that is split: its tenants, the parts that are left, and what came of the others."""
+    """A session in parts: its tenants, the parts that are left, and what came of the others."""
 
     split: Split
     name: str
@@ -139,8 +139,9 @@ class Whole:
 
     def next_job(self) -> Job | None:
         """The next part, the longest first; where parts do not pay any more, all that is left."""
-        budget = self.split.budget
-        group = self.left.pop()
+        if not self.left:
+            return None
+        budget, group = self.split.budget, self.left.pop()
         if self.left and not budget.pays(self._steps(group) + sum(map(self._steps, self.left))):
             group, self.left = sum(self.left, group), []
         with budget.paying():

@@ -8,8 +8,8 @@ from dataclasses import dataclass, field, replace
 
 from batch.answers import OK, Answer, Lost, Reply, after_further
 from batch.driver import Batch
-from batch.engines import Bundle
 from batch.further import Run, count_of, filling, lines_of, runs_of, text_of
+from batch.planning import Plan
 from batch.reports import blocks_of, refused_lines_of, refused_of, tenants_of
 from batch.scripts import MOST_EVENTS, Own, count_events, part_of, without_steps
 from batch.scripts import tenants_of as owns_of
@@ -17,7 +17,7 @@ from batch.sessions import Job, Place, Session, make_key, read_session
 
 
 @dataclass
-class Totals:
+class Totals(Plan):
     """Runs of sessions of which each tenant may take so many steps in all."""
 
     batch: Batch
@@ -42,12 +42,6 @@ class Totals:
             return False
         Journey(self, session.name, job).begin()
         return True
-
-    def sent(self, bundle: Bundle, seconds: float) -> None:
-        """Nothing is counted."""
-
-    def came(self, bundle: Bundle, seconds: float) -> None:
-        """Nothing is counted."""
 
     def _judge(self, session: Session, key: str, reply: Reply, source: str) -> None:
         """Judges a session whose further slices are known: by the report that was made on the way,
