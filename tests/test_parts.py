@@ -110,11 +110,11 @@ def test_parts(made: Batch) -> None:
     first = made.sessions / "session-000000"
     many = [f"slice {number} {MOST_STEPS}" for number in (1, 2) for _ in range(SLICES)]
     (first / "script").write_text("".join(f"{it}\n" for it in (
-        *(admission(number) for number in range(1, 4)), "stop 9", f"slice 3 {MOST_STEPS}", *many)))
+        *map(admission, range(1, 5)), "stop 9", f"slice 3 {MOST_STEPS}", "slice 4 7", *many)))
+    (first / "args").write_text("--frames\n44\nscript\nimage\n")
     (first / "want.out").unlink()
     told = made.told("--jobs", "1")
-    assert (told["work"]["parts_run"], told["verdicts"]) == (
-        PARTS, {"answered": 1, "as wanted": COUNT - 1})
+    assert (told["work"]["parts_run"], told["verdicts"]) == (PARTS, {"as wanted": COUNT})
     whole = Batch(made.sessions, made.extra)
     assert summary(whole.run())[1] == line(0, COUNT)
     assert summary(made.run())[1] == line(0, COUNT)

@@ -7,6 +7,9 @@ import pathlib
 import random
 import re
 import shutil
+import subprocess
+import sys
+import time
 from collections import Counter
 from collections.abc import Iterator
 
@@ -15,6 +18,7 @@ import pytest
 from tests.support.batches import BATCH, Batch, summary
 from tests.support.drawn_sessions import write_sessions
 from tests.support.library import shared_object
+from tests.support.places import EXAMPLES
 from tests.support.running import run, succeed
 from tests.support.tools import give_up
 
@@ -138,18 +142,17 @@ def test_a_bound_is_said(made: Batch) -> None:
 
 
 def test_another_run_is_under_way(made: Batch, tmp_path: pathlib.Path) -> None:
-    """The file of a run that is under way is left alone."""
-    other = made.going_wrong("time.sleep(0.05)")
-    import subprocess
-    import time
-    with subprocess.Popen([str(it) for it in other.words("--jobs", "1")],
-                          env={**os.environ, **other.extra}, stdout=subprocess.DEVNULL) as begun:
-        while not made.store.exists() or not any(it.stat().st_size for it in made.store.iterdir()):
+    """The file of a run that is under way is left alone: it has its first bundle."""
+    succeed([sys.executable, EXAMPLES / "many" / "make_sessions.py", made.sessions / "more", "70"])
+    slow = made.going_wrong("time.sleep(0.05)")
+    words = [str(it) for it in slow.words("--jobs", "1")]
+    with subprocess.Popen(words, env={**os.environ, **slow.extra},
+                          stdout=subprocess.DEVNULL) as begun:
+        while not (made.store.exists() and any(it.stat().st_size for it in made.store.iterdir())):
             assert begun.poll() is None
             time.sleep(0.01)
-        one = tmp_path / "one"
-        shutil.copytree(made.sessions / "drawn-000001", one / "drawn-000001")
-        assert Batch(one, made.extra, ("--store", str(made.store), "--store-bytes", "0")).run(
-            ).status == 0
-        assert begun.wait() == 0
-    assert summary(made.run())[1] == f"0 run, {COUNT} kept"
+        shutil.copytree(made.sessions / "drawn-000001", tmp_path / "one" / "drawn-000001")
+        one = Batch(tmp_path / "one", made.extra, ("--store", made.store, "--store-bytes", "0"))
+        assert one.run().status == 0 and begun.poll() is None
+    assert begun.returncode == 0
+    assert summary(made.run())[1] == f"0 run, {COUNT + 70} kept"

@@ -236,9 +236,9 @@ def test_what_is_lost(library: dict[str, str], tmp_path: pathlib.Path) -> None:
     write_sessions(tmp_path / "sessions", range(6))
     options = ("--steps", "5000", "--jobs", "2", "--tries", "0")
     batch = Batch(tmp_path / "sessions", library, options)
-    marked = (batch.sessions / "drawn-000003" / "image-0").read_bytes()
-    act = f"if {marked!r} in files: raise MemoryError"
-    ran = batch.going_wrong(act).run()
+    with open(batch.sessions / "drawn-000003" / "script", "a", encoding="utf-8") as file:
+        file.write("\n# marked\n")
+    ran = batch.going_wrong("if b'# marked' in script: raise MemoryError").run()
     assert ran.status == 1 and "lost: drawn-000003: ledger: out of memory" in ran.output
     assert ", 1 lost" in summary(ran)[0]
 
