@@ -3,7 +3,6 @@
 import collections
 import heapq
 import itertools
-import time
 from collections.abc import Callable, Iterable, Iterator
 from dataclasses import dataclass, field, replace
 
@@ -50,10 +49,9 @@ class Batch:
         self._places = iter(listed)
         while True:
             while (given := self._next(engine)) is not None:
-                began = time.process_time()
-                engine.submit(given)
+                sending = engine.submit(given)
                 for plan in self.plans:
-                    plan.sent(given, time.process_time() - began)
+                    plan.sent(given, sending)
             if not engine.is_busy():
                 break
             bundle, replies, seconds = engine.wait()

@@ -43,8 +43,8 @@ class Engine(Protocol):
     def is_busy(self) -> bool:
         """Whether a bundle is under way."""
 
-    def submit(self, bundle: Bundle) -> None:
-        """Takes a bundle."""
+    def submit(self, bundle: Bundle) -> float:
+        """Takes a bundle, and returns how many seconds a processor worked to send it."""
 
     def wait(self) -> Outcome:
         """Waits for a bundle that is under way."""
@@ -56,17 +56,12 @@ class Engine(Protocol):
 def serve(pipe: multiprocessing.connection.Connection,
           other: multiprocessing.connection.Connection, run: Runner) -> None:
     """What a worker does: it runs what comes through its pipe, until nothing more comes. It closes
-    its copy of the other end, or it would never learn that whoever has that end is gone. With
-    nothing to run a runner loads what it needs, which is no work of the first bundle."""
+    its copy of the other end, or it would never learn that whoever has that end is gone."""
     other.close()
     signal.signal(signal.SIGINT, signal.SIG_IGN)
-    is_loaded = False
     while True:
         try:
             jobs: Sequence[Job] = pipe.recv()
-            if not is_loaded:
-                run_safely(run, ())
-                is_loaded = True
             began = time.process_time()
             replies = run_safely(run, jobs)
             pipe.send((replies, time.process_time() - began))
@@ -108,35 +103,50 @@ class Worker:
 
 
 class LocalEngine:
-    """Processes of this machine, one for each runner; each has one bundle at a time. One that ends,
-    or takes longer than so many seconds a session, is replaced."""
+    """Processes of this machine, at most one for each runner, that begin as they are needed; each
+    has one bundle at a time. One that ends, or takes longer than so many seconds a session, is
+    replaced."""
 
     bundle = 50
     retries_itself = False
 
     def __init__(self, runners: Sequence[Runner], seconds: float | None = None) -> None:
-        self.seconds = seconds
-        self.workers = [Worker(it) for it in runners]
+        self.seconds, self.runners = seconds, runners
+        self.workers: list[Worker] = []
         self.ready: collections.deque[Outcome] = collections.deque()
 
     def has_room(self) -> bool:
-        """Whether a worker is idle."""
-        return any(it.bundle is None for it in self.workers)
+        """Whether a worker is idle, or one more may begin."""
+        is_idle = any(it.bundle is None for it in self.workers)
+        return is_idle or len(self.workers) < len(self.runners)
 
     def is_busy(self) -> bool:
         """Whether a bundle is under way."""
         return bool(self.ready) or any(it.bundle for it in self.workers)
 
-    def submit(self, bundle: Bundle) -> None:
-        """Gives a bundle to an idle worker."""
-        place = next(at for at, it in enumerate(self.workers) if it.bundle is None)
+    def submit(self, bundle: Bundle) -> float:
+        """Gives a bundle to an idle worker, which may have to begin first."""
+        place = self._idle()
         worker = self.workers[place]
         worker.bundle = bundle
         worker.until = time.monotonic() + (self.seconds or 0) * len(bundle.jobs)
+        began = time.process_time()
         try:
             worker.pipe.send(bundle.jobs)
         except OSError:
             self._replace(place, worker.end())
+        return time.process_time() - began
+
+    def _idle(self) -> int:
+        """The place of a worker that is idle, or has just begun. What a runner needs is loaded here
+        with the first, and so only once: by running nothing."""
+        for place, worker in enumerate(self.workers):
+            if worker.bundle is None:
+                return place
+        if not self.workers:
+            run_safely(self.runners[0], ())
+        self.workers.append(Worker(self.runners[len(self.workers)]))
+        return len(self.workers) - 1
 
     def _replace(self, place: int, lost: Lost) -> None:
         """Puts a new worker in the place of one that ended, whose bundle is lost."""

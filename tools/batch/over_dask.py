@@ -58,12 +58,14 @@ class DaskEngine:
         """Whether a bundle is under way."""
         return bool(self.bundles)
 
-    def submit(self, bundle: Bundle) -> None:
-        """Takes a bundle."""
+    def submit(self, bundle: Bundle) -> float:
+        """Takes a bundle, and returns how many seconds a processor worked to send it."""
+        began = time.thread_time()
         future = self.client.submit(run_packed, self.runner, pickle.dumps(bundle.jobs),
                                     retries=self.tries, pure=False)
         self.bundles[future.key] = bundle
         self.done.add(future)
+        return time.thread_time() - began
 
     def wait(self) -> Outcome:
         """Waits for a bundle that is under way."""

@@ -55,6 +55,10 @@ class Budget:
         yield
         self.cost += 2 * (time.process_time() - began)
 
+    def expected(self, steps: int) -> float:
+        """How many seconds the parts took of which the slices allowed so many steps."""
+        return steps * self.taken / max(self.steps, 1)
+
     def pays(self, steps: int) -> bool:
         """Whether one more part pays, of a session whose parts that are left allow so many steps.
         Programs that end early take no time for the steps that they are allowed, so it is by what
@@ -62,6 +66,5 @@ class Budget:
         are under way than there are workers."""
         if not self.is_bound or not self.steps:
             return True
-        to_come = steps * self.taken / self.steps
-        spent = time.process_time() + self.worked + to_come
+        spent = time.process_time() + self.worked + self.expected(steps)
         return self.cost * (1 + 1 / max(self.count, 1)) <= SHARE * spent

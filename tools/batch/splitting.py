@@ -20,6 +20,8 @@ from batch.verdicts import KEPT, MENDED, RAN
 # The steps of a part, or more. It is the same everywhere, so that an interrupted run and another
 # share find the parts again. Whether parts are made is measured.
 STEPS_OF_PART = BUNDLE_STEPS
+# What runs whole and takes more seconds is a bundle of its own.
+LONG = 0.01
 
 
 def groups_of(tenants: dict[int, Own]) -> list[list[int]]:
@@ -64,9 +66,11 @@ class Split(Plan):
             return is_others and self.batch.leave(job)
         if self.budget.pays(steps):
             Whole(self, session.name, job).begin()
-        else:
+            return True
+        if self.budget.expected(steps) > LONG:
             self.batch.push(steps, job)
-        return True
+            return True
+        return False
 
     def is_mine(self, key: str, number: int = 0) -> bool:
         """Whether a session, or a part of one, is of this share."""
