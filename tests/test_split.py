@@ -1,5 +1,5 @@
 """Sessions in parts by mte_split: they make the report of mte_host, byte for byte, and a part that
-is missing, there twice, damaged or of another session is refused (test_parts.py has tools/batch)."""
+is missing, there twice, damaged or of another session is refused. test_parts.py has tools/batch."""
 
 import hashlib
 import pathlib

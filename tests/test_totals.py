@@ -79,7 +79,8 @@ def test_slices_of_a_model(seed: int) -> None:
 
     found, tenant = lead(ran, total)
     assert runs <= MOST_RUNS and most <= max(total, 7)
-    assert tenant == model_run(yields, end, [7, *slices_of(found)])
+    again = model_run(yields, end, [7, *slices_of(found)])
+    assert (tenant.status, tenant.steps) == (again.status, again.steps)
     assert tenant.steps == max(total, min(yields[:1] + [7, end])) or tenant.status == "exit"
     if tenant.status == "exit" and found:
         (*first, (length, count)) = found

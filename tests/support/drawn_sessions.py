@@ -6,7 +6,7 @@ import random
 
 from tests.support.embedding.folders import run_host
 from tests.support.instructions import (
-    breakpoint_instruction, call, copy, move, program, store, subtract_with_flags,
+    breakpoint_instruction, call, move, program, store, subtract_with_flags,
 )
 
 EXIT, WRITE, MALLOC, YIELD, LEFT = 0, 1, 3, 9, 10
@@ -43,12 +43,19 @@ def ending(draw: random.Random) -> list[int]:
         [*call(MALLOC, draw.randrange(99)), store(9, 0, 128), 0x17FFFFFF], [0x17FFFFFF]])
 
 
+def part(draw: random.Random) -> list[int]:
+    """What a program does before it ends: it yields, counts or calls its heap."""
+    kind = draw.randrange(3)
+    if kind == 0:
+        return yielding(draw)
+    if kind == 1:
+        return waiting(draw.choice([3, 800, 70_000]))
+    return call(MALLOC, draw.randrange(300))
+
+
 def image(draw: random.Random) -> bytes:
-    """A program of some of these parts."""
-    parts: list[int] = []
-    for _ in range(draw.randint(0, 3)):
-        parts += draw.choice([yielding, lambda it: waiting(it.choice([3, 800, 70_000])),
-                              lambda it: [*call(MALLOC, it.randrange(300)), copy(22, 0)]])(draw)
+    """A program of some parts."""
+    parts = [word for _ in range(draw.randint(0, 3)) for word in part(draw)]
     return program([*parts, *ending(draw)])
 
 

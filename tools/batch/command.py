@@ -87,8 +87,8 @@ class Parser(argparse.ArgumentParser):
         sys.exit(2)
 
 
-def parse(words: Sequence[str] | None) -> argparse.Namespace:
-    """The command line."""
+def parser_of_all() -> Parser:
+    """What reads the command line."""
     form = argparse.RawDescriptionHelpFormatter
     parser = Parser(prog="batch", description=__doc__, formatter_class=form)
     add = parser.add_argument
@@ -121,6 +121,12 @@ def parse(words: Sequence[str] | None) -> argparse.Namespace:
         help="write them there, as NAME.out, NAME.err and NAME.status; with --steps NAME.script")
     add("--json", type=pathlib.Path, metavar="FILE", help="write what came of each as JSON")
     add("--junit", type=pathlib.Path, metavar="FILE", help="write it as JUnit's XML")
+    return parser
+
+
+def parse(words: Sequence[str] | None) -> argparse.Namespace:
+    """The command line."""
+    parser = parser_of_all()
     given = parser.parse_args(words)
     if given.sample and not given.elsewhere:
         parser.error("--sample needs --elsewhere COMMAND")

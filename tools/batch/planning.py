@@ -9,8 +9,9 @@ from typing import Protocol
 from batch.engines import Bundle
 from batch.sessions import Job, Session
 
-# Of all processor time so much may go into parts: half of what a run in parts may take more.
-SHARE = 0.05
+# Of all processor time so much may go into parts: less than half of what a run in parts may take
+# more, as further workers cost something too.
+SHARE = 0.04
 
 
 class Plan:

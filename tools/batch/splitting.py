@@ -13,7 +13,7 @@ from batch.driver import BUNDLE_STEPS, FIRST, Batch
 from batch.engines import Bundle
 from batch.planning import Budget, Plan
 from batch.reports import blocks_of, refused_lines_of, refused_of
-from batch.scripts import Own, allowed_steps, part_of, tenants_of, without_steps
+from batch.scripts import MOST_STEPS, Own, allowed_steps, part_of, tenants_of, without_steps
 from batch.sessions import Job, Session, make_key
 from batch.verdicts import KEPT, MENDED, RAN
 
@@ -59,9 +59,8 @@ class Split(Plan):
         assert job is not None
         if job.tenants:
             return False
-        steps = allowed_steps(job.script)
-        is_long = steps >= 2 * STEPS_OF_PART and job.script.count(b"admit ") > 1
-        if not is_long:
+        steps = self._steps_if_long(job)
+        if not steps:
             is_others = session.taken is None and not self.is_mine(job.key)
             return is_others and self.batch.leave(job)
         if self.budget.pays(steps):
@@ -71,6 +70,17 @@ class Split(Plan):
             self.batch.push(steps, job)
             return True
         return False
+
+    def _steps_if_long(self, job: Job) -> int:
+        """How many steps the slices of a long session allow; 0 of another one. Where as many steps
+        as so many slices may have are not worth it, they are not even added up."""
+        most = job.script.count(b"slice ") * MOST_STEPS
+        is_worth = self.budget.pays(most) or self.budget.expected(most) > LONG
+        if most < 2 * STEPS_OF_PART or not is_worth or job.script.count(b"admit ") < 2:
+            return 0
+        with self.budget.paying():
+            steps = allowed_steps(job.script)
+        return steps if steps >= 2 * STEPS_OF_PART else 0
 
     def is_mine(self, key: str, number: int = 0) -> bool:
         """Whether a session, or a part of one, is of this share."""
