@@ -69,7 +69,7 @@ def test_the_schema_has_all(host: pathlib.Path, shared: pathlib.Path) -> None:
     """Sessions of every kind are as the schema says, and each refused event and tenant is told."""
     need_schemas()
     told = told_of_all(host, shared)
-    assert told["format"] == "tombolopan results 1"
+    assert told["format"] == "tombolopan results 2"
     tenants = [tenant for it in told["sessions"] for tenant in it.get("tenants", ())]
     kinds = {tenant["status"]["kind"] for tenant in tenants}
     assert {"exit", "fault", "running", "stopped"} <= kinds, kinds

@@ -1,31 +1,24 @@
-"""Sessions in parts by mte_split, and by tools/batch with it: they make the report of mte_host,
-byte for byte, and a part that is missing, there twice, damaged or of another session is refused."""
+"""Sessions in parts by mte_split: they make the report of mte_host, byte for byte, and a part that
+is missing, there twice, damaged or of another session is refused. test_parts.py has tools/batch."""
 
 import hashlib
-import os
 import pathlib
 import re
 import resource
 import shlex
 import shutil
-import subprocess
-import sys
-import time
 
 import pytest
 
-from tests.support.batches import BATCH, Batch, script, summary
 from tests.support.callgrind import instructions
 from tests.support.embedding import folders
 from tests.support.expected import compare
 from tests.support.host_sessions import admission, with_hi
 from tests.support.instructions import move, program, subtract_with_flags
 from tests.support.once import make_once
-from tests.support.places import EXAMPLES
 from tests.support.refused_memory import preload, refuse_each
-from tests.support.running import HANG, Ran, Word, run, succeed
-from tests.support.split_sessions import LEDGER, SplitSession, admitted, resealed
-from tests.support.tools import give_up
+from tests.support.running import Ran, Word, run, succeed
+from tests.support.split_sessions import LEDGER, SplitSession, resealed
 
 USAGE_WORDS = [
     "", "--help", "--list", "--list hi.script hi.elf", "--list --frames 11",
@@ -38,9 +31,6 @@ USAGE_WORDS = [
 # Of a script with tenants of more than ten million steps each, and the most events of one.
 LONG_SLICES, TENANTS = 10, 4
 MOST_EVENTS = 10_000
-# Sessions of the generator.
-COUNT = 12
-RIGHT = f"{COUNT} as wanted, 0 different"
 
 
 @pytest.fixture
@@ -303,161 +293,3 @@ def test_processor_time(split: pathlib.Path, host: pathlib.Path, tmp_path: pathl
     one, two = costs(session, host, 1), costs(session, host, 2)
     whole, parts = (it + (LONG_SLICES - 1) * (other - it) for it, other in zip(one, two))
     assert parts <= 1.1 * whole, (one, two)
-
-
-# By tools/batch
-
-@pytest.fixture
-def made(split: pathlib.Path, tmp_path: pathlib.Path) -> Batch:
-    """Sessions of the generator, run in parts."""
-    folder = tmp_path / "sessions"
-    succeed([sys.executable, EXAMPLES / "many" / "make_sessions.py", folder, str(COUNT)])
-    return Batch(folder, {"TOMBOLOPAN_SPLIT": str(split)}, ("--split", "--jobs", "2"))
-
-
-def count_parts(batch: Batch, split: pathlib.Path) -> int:
-    """How many parts all sessions have."""
-    folders_of = sorted(batch.sessions.iterdir())
-    return sum(1 + len(admitted(SplitSession(split, it, it).make("--list"))) for it in folders_of)
-
-
-def faulty(batch: Batch, split: pathlib.Path, folder: pathlib.Path, act: str) -> Batch:
-    """The same by a program that goes wrong: `act` may change what mte_split does."""
-    program = script(folder, "faulty", f"""
-        once() {{ mkdir "{folder}/$1" 2> /dev/null; }}
-        split() {{ "{split}" "$@"; }}
-        case "$*" in {act} esac
-        split "$@"
-        """)
-    return Batch(batch.sessions, batch.extra, (*batch.options, "--program", str(program)))
-
-
-@pytest.mark.parametrize("jobs", ["1", "2", "4", "8"])
-def test_batch(odd: pathlib.Path, split: pathlib.Path, tmp_path: pathlib.Path, jobs: str) -> None:
-    """Sessions of every kind, in parts by any number of processes, have the reports, faulty lines
-    and statuses of mte_host."""
-    count = len(list(odd.iterdir()))
-    batch = Batch(odd, {"TOMBOLOPAN_SPLIT": str(split)}, ("--split", "--jobs", jobs))
-    ran = batch.run("--store", tmp_path / "store")
-    assert (ran.status, summary(ran)[0]) == (0, f"{count} as wanted, 0 different"), ran.output
-
-
-def test_batch_again(made: Batch, split: pathlib.Path) -> None:
-    """What was run is not run again; a part that was changed in the store is made anew, and so is
-    one that is there under the key of another."""
-    parts = count_parts(made, split)
-    ran = made.run("--got")
-    assert ran.output == f"{RIGHT}\n{COUNT} run, 0 kept, in {parts} parts run, 0 parts kept\n"
-    got = made.sessions / "session-000003" / "got.out"
-    assert got.read_bytes() == got.with_name("want.out").read_bytes()
-    kept = f"{RIGHT}\n0 run, {COUNT} kept, in 0 parts run, {parts} parts kept\n"
-    assert made.run().output == kept
-    path = next(made.store.glob("*.answers"))
-    sound = path.read_bytes()
-    path.write_bytes(sound.replace(b"\nsteps ", b"\nsteps 9", 1))
-    again = f"in 1 parts run, {parts - 1} parts kept, 1 mended"
-    assert summary(made.run())[1] == f"1 run, {COUNT - 1} kept, {again}"
-    assert made.run().output == kept
-    (made.sessions / "session-000003" / "script").write_text("# nothing\n")
-    assert summary(made.run())[0] == f"{COUNT - 1} as wanted, 1 different"
-
-
-def test_batch_is_broken_off(made: Batch, split: pathlib.Path, tmp_path: pathlib.Path) -> None:
-    """It goes on with the parts that are left."""
-    slow = faulty(made, split, tmp_path, "*) sleep 0.05 ;;")
-    with subprocess.Popen([str(it) for it in slow.words()], env={**os.environ, **slow.extra},
-                          stdout=subprocess.DEVNULL) as begun:
-        until = time.monotonic() + HANG
-        while sum(it.stat().st_size for it in made.store.glob("*.answers")) < 3000:
-            assert time.monotonic() < until and begun.poll() is None
-            time.sleep(0.01)
-        begun.kill()
-    ran = slow.run()
-    found = re.search(r"in (\d+) parts run, (\d+) parts kept", summary(ran)[1])
-    assert (ran.status, summary(ran)[0]) == (0, RIGHT) and found
-    assert int(found[2]) > 0 and int(found[1]) + int(found[2]) == count_parts(made, split)
-
-
-@pytest.mark.parametrize("act", [
-    "*--tenant*) once lost && exit 1 ;;", "*--tenant*) once lost && kill -9 $$ ;;",
-    "*--list*) once lost && exit 4 ;;",
-    "*--tenant*) once lost && { split \"$@\" | sed 's/^steps ./steps 9/'; exit; } ;;",
-    "*--tenant*) once lost && { split \"$@\" | head -n 3; exit; } ;;",
-    "*--tenant*) once lost && { split --list \"${@:3}\"; exit; } ;;",
-    "*--tenant*) once lost && { split --tenant 1 --frames 9999 \"${@:5}\"; exit; } ;;",
-])
-def test_batch_mends(made: Batch, split: pathlib.Path, tmp_path: pathlib.Path, act: str) -> None:
-    """A part that is lost, damaged, cut, or of another session is made again, and the report is
-    right."""
-    parts = count_parts(made, split)
-    ran = faulty(made, split, tmp_path, act).run()
-    assert (ran.status, summary(ran)) == (
-        0, [RIGHT, f"{COUNT} run, 0 kept, in {parts} parts run, 0 parts kept, 1 tried again"])
-
-
-def test_batch_names_what_is_lost(made: Batch, split: pathlib.Path,
-                                  tmp_path: pathlib.Path) -> None:
-    """A part that never comes is named with its session, and takes no other with it; the next run
-    makes it alone."""
-    marked = made.sessions / "session-000002" / "script"
-    marked.write_bytes(marked.read_bytes() + b"# marked\n")
-    act = f"*'--tenant 1 '*) [[ ! -e {tmp_path}/well ]] && grep -q marked \"$5\" && exit 1 ;;"
-    ill = faulty(made, split, tmp_path, act)
-    ran = ill.run("--tries", "1")
-    assert ran.status == 1 and summary(ran)[0] == f"{COUNT - 1} as wanted, 0 different, 1 lost"
-    assert ran.output.splitlines()[0] == (
-        "lost: session-000002: tenant 1: status 1: nothing is said")
-    (tmp_path / "well").touch()
-    ran = ill.run()
-    assert ran.status == 0 and " in 1 parts run, " in summary(ran)[1]
-
-
-def test_batch_on_a_full_disk(made: Batch, tmp_path: pathlib.Path) -> None:
-    """What cannot be stored is said; the reports are right."""
-    ran = made.run("--store", tmp_path / "store", before=["prlimit", "--fsize=20000"])
-    assert ran.status == 1 and summary(ran)[0] == RIGHT
-    assert re.search(r"\d+ not stored: File too large$", summary(ran)[1])
-
-
-def test_batch_by_shares(made: Batch, split: pathlib.Path) -> None:
-    """Shares of the parts may run anywhere, into one store; then nothing is left to run."""
-    for number in (2, 3, 1):
-        ran = made.run("--share", f"{number}/3")
-        assert ran.status == 0 and " answered" in summary(ran)[0]
-    parts = count_parts(made, split)
-    assert made.run().output == (
-        f"{RIGHT}\n0 run, {COUNT} kept, in 0 parts run, {parts} parts kept\n")
-
-
-def test_batch_over_dask(made: Batch, split: pathlib.Path) -> None:
-    """Parts run over Dask too."""
-    if run([sys.executable, "-c", "import distributed"]).status:
-        give_up("missing: distributed (Debian: python3-distributed)")
-    ran = made.run("--dask")
-    parts = count_parts(made, split)
-    assert (ran.status, ran.output) == (
-        0, f"{RIGHT}\n{COUNT} run, 0 kept, in {parts} parts run, 0 parts kept\n"), ran.errors
-
-
-def test_batch_usage(made: Batch) -> None:
-    """Without mte_split nothing is run."""
-    for options, path, said in (
-            (("--sample", "3", "--elsewhere", "true"), "", "--split takes no --sample"),
-            ((), "/absent", "mte_split is not found")):
-        extra = {"TOMBOLOPAN_SPLIT": path or made.extra["TOMBOLOPAN_SPLIT"]}
-        ran = Batch(made.sessions, extra, made.options).run(*options)
-        assert (ran.status, ran.output) == (2, "") and said in ran.errors
-
-
-def test_batch_by_slurm(made: Batch, split: pathlib.Path, tmp_path: pathlib.Path) -> None:
-    """An array job of Slurm runs shares of the parts into one store."""
-    if shutil.which("sbatch") is None:
-        pytest.skip("Slurm is not installed (Debian: slurm-wlm)")
-    if "idle" not in run(["sinfo", "--noheader", "--format=%t"]).output:
-        pytest.skip("no node of Slurm is idle")
-    words = shlex.join([sys.executable, str(BATCH), str(made.sessions), "--split", "--jobs", "1"])
-    succeed(["sbatch", "--wait", "--array=1-3", f"--output={tmp_path}/slurm-%a",
-             f"--wrap={words} --share $SLURM_ARRAY_TASK_ID/3"], extra=made.extra)
-    parts = count_parts(made, split)
-    assert made.run().output == (
-        f"{RIGHT}\n0 run, {COUNT} kept, in 0 parts run, {parts} parts kept\n")

@@ -20,7 +20,8 @@ sys.path.insert(0, {real!r})
 import tombolopan as _real
 del sys.path[0]
 sys.modules["tombolopan"] = _faulty
-ScriptError = _real.ScriptError
+ScriptError, alone = _real.ScriptError, _real.alone
+heap_abort_name = _real.heap_abort_name
 
 def once(name):
     try:

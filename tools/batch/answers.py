@@ -1,17 +1,14 @@
-"""What came of a session, or of a part of one: an answer, as `mte_host` or `mte_split` gives it, or
-that it was lost."""
+"""What came of a session: an answer, as `mte_host` gives it, or that it was lost."""
 
-import hashlib
 import re
 from dataclasses import dataclass
 
 OK, SCRIPT, MEMORY, READ, WRITE = 0, 3, 4, 5, 6
-FAULTY = re.compile(rb"mte_(?:host|split): script line [0-9]+: [A-Za-z]+\n")
+FAULTY = re.compile(rb"mte_host: script line [0-9]+: [A-Za-z]+\n")
 REPORT = re.compile(rb"(?:refused [0-9]+(?: [A-Za-z0-9]+)+\n)*(?:tenant [0-9]+\n(?s:.*)\nend\n)?")
-# A part by mte_split: a head with the sum of its session, lines, and the sum of all before that.
-PART = re.compile(rb"mte_split [0-9.]+ part [0-9a-f]{64} (?:ledger|tenant [0-9]+)\n"
-                  rb"(?s:.*)sum ([0-9a-f]{64})\n")
-LAST_LINE = len("sum ") + 64 + 1
+# Slices that lead tenants on to a total of steps (further.py): tenant, steps, how many. A report
+# that no script has comes after them.
+FURTHER = re.compile(rb"(?:total [0-9]+\n(?:further [0-9]+ [0-9]+ [0-9]+\n)*)?")
 
 
 @dataclass(frozen=True)
@@ -44,22 +41,20 @@ def output_of(answer: Answer) -> bytes:
     return bytes.fromhex(b"".join(lines).decode())
 
 
-def is_part(text: bytes) -> bool:
-    """Whether a text is a part of a session as it was made: its last line has the sum of it."""
-    found = PART.fullmatch(text)
-    total = hashlib.sha256(text[:-LAST_LINE]).hexdigest()
-    return found is not None and total.encode() == found[1]
-
-
 def is_of_bytes(answer: Answer) -> bool:
-    """Whether a session that is read, or a part of one, may be answered so: a report or a part
-    without a word on standard error, or a faulty line without a report. All else, as want of
-    memory, a full disk, a signal or the status of a program that is not mte_host, says something of
-    a machine and nothing of a session."""
+    """Whether a session that is read may be answered so: a report without a word on standard error,
+    or a faulty line without a report. All else, as want of memory, a full disk, a signal or the
+    status of a program that is not mte_host, says something of a machine and nothing of a
+    session."""
     if answer.status == OK:
-        is_report = REPORT.fullmatch(answer.out) is not None
-        return not answer.err and (is_report or is_part(answer.out))
+        return not answer.err and REPORT.fullmatch(after_further(answer.out)) is not None
     return answer.status == SCRIPT and not answer.out and FAULTY.fullmatch(answer.err) is not None
+
+
+def after_further(text: bytes) -> bytes:
+    """What comes after the slices that lead tenants on."""
+    found = FURTHER.match(text)
+    return text[found.end():] if found else text
 
 
 def checked(answer: Answer) -> Reply:

@@ -1,6 +1,7 @@
 """Runs many sessions, and says which are not as wanted.
 
     batch SESSIONS [OPTIONS]
+    batch metrics STORE         what is in a store, in the text format of Prometheus
 
 SESSIONS is a folder or a table. In a folder each session is a folder with a file `args`: the words
 of mte_host, one a line (--frames N SCRIPT FILE...), which are read there, and files with what is
@@ -26,14 +27,21 @@ from typing import NoReturn
 
 from batch import runs
 from batch.answers import Answer
+from batch.bound_store import bound_store
 from batch.driver import Batch
 from batch.engines import Engine, LocalEngine
+from batch.metrics import metrics_of
+from batch.planning import Budget
 from batch.sample import Sample
 from batch.sessions import BadList, Place, Session, places_of, share_of
 from batch.splitting import Split
 from batch.store import Store
 from batch.summaries import json_of, junit_of, write_whole
+from batch.totals import Totals
 from batch.verdicts import Verdict, Work, is_right, lines_of, shown
+
+# The first word of another command than one over sessions.
+METRICS = "metrics"
 
 
 class Usage(Exception):
@@ -79,14 +87,16 @@ class Parser(argparse.ArgumentParser):
         sys.exit(2)
 
 
-def parse(words: Sequence[str] | None) -> argparse.Namespace:
-    """The command line."""
+def parser_of_all() -> Parser:
+    """What reads the command line."""
     form = argparse.RawDescriptionHelpFormatter
     parser = Parser(prog="batch", description=__doc__, formatter_class=form)
     add = parser.add_argument
     add("sessions", type=pathlib.Path, help="a folder or a table")
     add("--jobs", type=positive, default=os.cpu_count() or 1, help="how many run at once")
     add("--store", type=pathlib.Path, help="the folder of what was answered")
+    add("--store-bytes", type=natural, metavar="N",
+        help="drop the oldest answers that this run does not need from a store of more bytes")
     add("--tries", type=natural, default=3, help="how often what was lost is tried again (3)")
     add("--timeout", type=between(0, 1e6), metavar="SECONDS",
         help="what takes longer for a session is lost; not over Dask")
@@ -96,7 +106,10 @@ def parse(words: Sequence[str] | None) -> argparse.Namespace:
     add("--dask", nargs="?", const="", metavar="ADDRESS",
         help="run over the scheduler of Dask at ADDRESS; without it over one on this machine")
     add("--split", action="store_true",
-        help="run each session by its tenants, with mte_split, which --program then names too")
+        help="run long sessions in parts of their tenants, where that pays; --program then names "
+        "commands like mte_split for these")
+    add("--steps", type=positive, metavar="N",
+        help="lead each tenant on to N steps in all, over its yields")
     add("--share", type=share, metavar="I/N",
         help="take the Ith of N shares of the sessions alone; with --split, of their parts")
     add("--sample", type=between(0, 100), metavar="PERCENT",
@@ -105,14 +118,22 @@ def parse(words: Sequence[str] | None) -> argparse.Namespace:
         help="a command like mte_host, as `ssh other mte_host`")
     add("--got", action="store_true", help="write got.out, got.err and got.status beside `args`")
     add("--reports", type=pathlib.Path, metavar="FOLDER",
-        help="write them there, as NAME.out, NAME.err and NAME.status")
+        help="write them there, as NAME.out, NAME.err and NAME.status; with --steps NAME.script")
     add("--json", type=pathlib.Path, metavar="FILE", help="write what came of each as JSON")
     add("--junit", type=pathlib.Path, metavar="FILE", help="write it as JUnit's XML")
+    return parser
+
+
+def parse(words: Sequence[str] | None) -> argparse.Namespace:
+    """The command line."""
+    parser = parser_of_all()
     given = parser.parse_args(words)
     if given.sample and not given.elsewhere:
         parser.error("--sample needs --elsewhere COMMAND")
-    if given.split and given.sample:
-        parser.error("--split takes no --sample")
+    if given.steps and (given.sample or given.share and given.split):
+        parser.error("--steps takes neither --sample nor --split with --share")
+    if given.steps and given.program and not given.split:
+        parser.error("--steps takes no --program without --split")
     if given.dask is not None and (given.program or given.timeout):
         parser.error("--dask takes neither --program nor --timeout")
     if given.store is None:
@@ -153,22 +174,22 @@ def library_runner() -> tuple[runs.Runner, str]:
     return functools.partial(runs.run_by_library, wanted=program), program
 
 
-def split_runner(given: argparse.Namespace) -> tuple[runs.Runner, str]:
-    """What runs parts of sessions by mte_split, and its sum."""
-    program = runs.split_sum()
-    return functools.partial(runs.run_by_split, wanted=program, seconds=given.timeout), program
+def runners_of(given: argparse.Namespace, run: Callable[..., runs.Replies]) -> list[runs.Runner]:
+    """What runs sessions by the commands that are given, which share the jobs."""
+    commands = [functools.partial(run, command=it, seconds=given.timeout) for it in given.program]
+    return [commands[at % len(commands)] for at in range(given.jobs)]
 
 
 def engine_of(given: argparse.Namespace) -> tuple[Engine, str]:
     """What runs the sessions, and the sum of the program."""
     if missing := missing_command([*given.program, *given.elsewhere]):
         raise Usage(f"cannot run {missing}")
+    if given.program and not given.split:
+        return LocalEngine(runners_of(given, runs.run_by_command)), runs.command_sum(given.program)
+    runner, program = library_runner()
     if given.program:
-        commands = [functools.partial(runs.run_by_command, command=it, seconds=given.timeout)
-                    for it in given.program]
-        runners = [commands[at % len(commands)] for at in range(given.jobs)]
-        return LocalEngine(runners), runs.command_sum(given.program)
-    runner, program = split_runner(given) if given.split else library_runner()
+        by_split = functools.partial(runs.run_by_split, wanted=program)
+        return LocalEngine(runners_of(given, by_split)), program
     if given.dask is None:
         return LocalEngine([runner] * given.jobs, given.timeout), program
     try:
@@ -178,13 +199,19 @@ def engine_of(given: argparse.Namespace) -> tuple[Engine, str]:
     return DaskEngine(runner, given.dask, given.jobs, given.tries), program
 
 
-def write_parts(begins: Sequence[pathlib.Path], answer: Answer) -> None:
+def write_parts(begins: Sequence[pathlib.Path], session: Session, answer: Answer,
+                has_script: bool) -> None:
     """Writes what came of a session into files that begin so, where it is not there."""
-    parts = {"out": answer.out, "err": answer.err, "status": f"{answer.status}\n".encode()}
+    parts = {"out": answer.out, "err": answer.err, "status": f"{answer.status}\n".encode(),
+             **({"script": session.script} if has_script else {})}
     for begin in begins:
         for part, text in parts.items():
-            begin.parent.mkdir(parents=True, exist_ok=True)
-            write_whole(begin.with_name(f"{begin.name}.{part}"), text)
+            path = begin.with_name(f"{begin.name}.{part}")
+            path.parent.mkdir(parents=True, exist_ok=True)
+            if part == "script" and session.beyond:
+                path.unlink(missing_ok=True)
+            else:
+                write_whole(path, text)
 
 
 def writer(given: argparse.Namespace,
@@ -200,7 +227,8 @@ def writer(given: argparse.Namespace,
         raise Usage(f"--reports: the name {it!r} leads out of the folder")
     if not given.got and not given.reports:
         return None
-    return lambda session, answer: write_parts(begins(session.name), answer)
+    has_script = given.steps is not None
+    return lambda session, answer: write_parts(begins(session.name), session, answer, has_script)
 
 
 def is_below(name: str) -> bool:
@@ -209,28 +237,36 @@ def is_below(name: str) -> bool:
     return not path.is_absolute() and bool(path.name) and ".." not in path.parts
 
 
+def batch_of(given: argparse.Namespace, program: str, store: Store, total: int) -> Batch:
+    """Sessions on their way, by the plans that are asked for."""
+    batch = Batch(program, store, given.tries, progress(total))
+    batch.work.program = program
+    if given.steps:
+        totals = Totals(batch, given.steps)
+        batch.read = totals.read
+        batch.plans.append(totals)
+    if given.split:
+        # What works elsewhere is not measured, and shares have to find the same parts.
+        budget = Budget(is_bound=not given.program and not given.share)
+        elsewhere = runs.command_sum(given.program) if given.program else ""
+        batch.plans.append(Split(batch, budget, elsewhere, given.share or (1, 1)))
+    return batch
+
+
 def run(given: argparse.Namespace) -> tuple[list[Verdict], Work]:
     """Runs the sessions."""
     found = places_of(given.sessions)
     if given.share and not given.split:
         found = share_of(found, *given.share)
     places = {it.name: it for it in found}
-    if given.split and not runs.find_split():
-        raise Usage("mte_split is not found: tools/build.sh makes it, and the variable "
-                    f"{runs.SPLIT} may name it")
     each = writer(given, places)
     engine, program = engine_of(given)
     try:
         store = Store(given.store)
-        batch = Batch(program, store, given.tries, progress(len(places)))
+        batch = batch_of(given, program, store, len(places))
         if each is not None:
             batch.each = each
-        batch.work.program = program
-        if given.split:
-            split = Split(batch, engine, runs.find_split(), progress)
-            verdicts = split.run(places.values(), given.share)
-        else:
-            verdicts = batch.run(places.values(), engine)
+        verdicts = batch.run(places.values(), engine)
     finally:
         engine.close()
     if given.sample:
@@ -238,13 +274,26 @@ def run(given: argparse.Namespace) -> tuple[list[Verdict], Work]:
                         given.timeout)
         verdicts = sample.check(verdicts, places, store, program, batch.work)
     store.close()
+    if given.store_bytes is not None:
+        batch.work.dropped = bound_store(given.store, given.store_bytes, store.used)
     return verdicts, batch.work
+
+
+def show_metrics(store: pathlib.Path) -> None:
+    """Writes what is in a store."""
+    if not store.is_dir():
+        raise Usage(f"{store} is no store")
+    print(metrics_of(store), end="", flush=True)
 
 
 def main(words: Sequence[str] | None = None) -> int:
     """The command."""
-    given = parse(words)
+    words = sys.argv[1:] if words is None else words
     try:
+        if len(words) == 2 and words[0] == METRICS and not words[1].startswith("-"):
+            show_metrics(pathlib.Path(words[1]))
+            return 0
+        given = parse(words)
         verdicts, work = run(given)
         for path, text in ((given.json, json_of), (given.junit, junit_of)):
             if path is not None:

@@ -25,11 +25,12 @@ class Bundle:
     losses: int = 0
 
 
-Outcome = tuple[Bundle, Replies | Lost]
+Outcome = tuple[Bundle, Replies | Lost, float]
 
 
 class Engine(Protocol):
-    """What runs bundles, several at a time. A bundle comes back with its replies, or lost."""
+    """What runs bundles, several at a time. A bundle comes back with its replies, or lost, and with
+    how many seconds a processor worked on it."""
 
     # How many sessions a bundle has at most.
     bundle: int
@@ -42,8 +43,8 @@ class Engine(Protocol):
     def is_busy(self) -> bool:
         """Whether a bundle is under way."""
 
-    def submit(self, bundle: Bundle) -> None:
-        """Takes a bundle."""
+    def submit(self, bundle: Bundle) -> float:
+        """Takes a bundle, and returns how many seconds a processor worked to send it."""
 
     def wait(self) -> Outcome:
         """Waits for a bundle that is under way."""
@@ -61,7 +62,9 @@ def serve(pipe: multiprocessing.connection.Connection,
     while True:
         try:
             jobs: Sequence[Job] = pipe.recv()
-            pipe.send(run_safely(run, jobs))
+            began = time.process_time()
+            replies = run_safely(run, jobs)
+            pipe.send((replies, time.process_time() - began))
         except (EOFError, OSError):  # whoever asked is gone
             return
 
@@ -78,11 +81,12 @@ class Worker:
         self.bundle: Bundle | None = None
         self.until = 0.0
 
-    def take(self) -> Replies | Lost:
-        """What it answers of its bundle; that it is lost where the process ended."""
+    def take(self) -> tuple[Replies, float] | Lost:
+        """What it answers of its bundle, and how long it worked; that it is lost where the process
+        ended."""
         try:
-            replies: Replies = self.pipe.recv()
-            return replies
+            came: tuple[Replies, float] = self.pipe.recv()
+            return came
         except Exception:  # the pipe ended, or has what cannot be read
             return self.end()
 
@@ -99,41 +103,56 @@ class Worker:
 
 
 class LocalEngine:
-    """Processes of this machine, one for each runner; each has one bundle at a time. One that ends,
-    or takes longer than so many seconds a session, is replaced."""
+    """Processes of this machine, at most one for each runner, that begin as they are needed; each
+    has one bundle at a time. One that ends, or takes longer than so many seconds a session, is
+    replaced."""
 
     bundle = 50
     retries_itself = False
 
     def __init__(self, runners: Sequence[Runner], seconds: float | None = None) -> None:
-        self.seconds = seconds
-        self.workers = [Worker(it) for it in runners]
+        self.seconds, self.runners = seconds, runners
+        self.workers: list[Worker] = []
         self.ready: collections.deque[Outcome] = collections.deque()
 
     def has_room(self) -> bool:
-        """Whether a worker is idle."""
-        return any(it.bundle is None for it in self.workers)
+        """Whether a worker is idle, or one more may begin."""
+        is_idle = any(it.bundle is None for it in self.workers)
+        return is_idle or len(self.workers) < len(self.runners)
 
     def is_busy(self) -> bool:
         """Whether a bundle is under way."""
         return bool(self.ready) or any(it.bundle for it in self.workers)
 
-    def submit(self, bundle: Bundle) -> None:
-        """Gives a bundle to an idle worker."""
-        place = next(at for at, it in enumerate(self.workers) if it.bundle is None)
+    def submit(self, bundle: Bundle) -> float:
+        """Gives a bundle to an idle worker, which may have to begin first."""
+        place = self._idle()
         worker = self.workers[place]
         worker.bundle = bundle
         worker.until = time.monotonic() + (self.seconds or 0) * len(bundle.jobs)
+        began = time.process_time()
         try:
             worker.pipe.send(bundle.jobs)
         except OSError:
             self._replace(place, worker.end())
+        return time.process_time() - began
+
+    def _idle(self) -> int:
+        """The place of a worker that is idle, or has just begun. What a runner needs is loaded here
+        with the first, and so only once: by running nothing."""
+        for place, worker in enumerate(self.workers):
+            if worker.bundle is None:
+                return place
+        if not self.workers:
+            run_safely(self.runners[0], ())
+        self.workers.append(Worker(self.runners[len(self.workers)]))
+        return len(self.workers) - 1
 
     def _replace(self, place: int, lost: Lost) -> None:
         """Puts a new worker in the place of one that ended, whose bundle is lost."""
         worker = self.workers[place]
         assert worker.bundle is not None
-        self.ready.append((worker.bundle, lost))
+        self.ready.append((worker.bundle, lost, 0.0))
         self.workers[place] = Worker(worker.run)
 
     def _left(self) -> float | None:
@@ -155,11 +174,11 @@ class LocalEngine:
     def _take(self, place: int) -> None:
         worker = self.workers[place]
         assert worker.bundle is not None
-        replies = worker.take()
-        if isinstance(replies, Lost):
-            self._replace(place, replies)
+        came = worker.take()
+        if isinstance(came, Lost):
+            self._replace(place, came)
         else:
-            self.ready.append((worker.bundle, replies))
+            self.ready.append((worker.bundle, *came))
             worker.bundle = None
 
     def _end_late_ones(self) -> None:

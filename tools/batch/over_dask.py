@@ -20,7 +20,9 @@ RECOUNT = 2.0
 
 def run_packed(runner: Runner, jobs: bytes) -> bytes:
     """Runs sessions. Dask would look into each of them where they are no bytes."""
-    return pickle.dumps(run_safely(runner, pickle.loads(jobs)))
+    began = time.thread_time()
+    replies = run_safely(runner, pickle.loads(jobs))
+    return pickle.dumps((replies, time.thread_time() - began))
 
 
 class DaskEngine:
@@ -56,12 +58,14 @@ class DaskEngine:
         """Whether a bundle is under way."""
         return bool(self.bundles)
 
-    def submit(self, bundle: Bundle) -> None:
-        """Takes a bundle."""
+    def submit(self, bundle: Bundle) -> float:
+        """Takes a bundle, and returns how many seconds a processor worked to send it."""
+        began = time.thread_time()
         future = self.client.submit(run_packed, self.runner, pickle.dumps(bundle.jobs),
                                     retries=self.tries, pure=False)
         self.bundles[future.key] = bundle
         self.done.add(future)
+        return time.thread_time() - began
 
     def wait(self) -> Outcome:
         """Waits for a bundle that is under way."""
@@ -69,9 +73,10 @@ class DaskEngine:
         bundle = self.bundles.pop(future.key)
         if future.status != "finished":
             error = came[1] if isinstance(came, tuple) else came
-            return bundle, Lost(f"Dask: {type(error).__name__}: {error}")
-        replies: Replies = pickle.loads(came)
-        return bundle, replies
+            return bundle, Lost(f"Dask: {type(error).__name__}: {error}"), 0.0
+        replies: Replies
+        replies, seconds = pickle.loads(came)
+        return bundle, replies, seconds
 
     def close(self) -> None:
         """Leaves the scheduler; ends it where it was started here."""

@@ -6,6 +6,8 @@ from typing import Any
 
 TENANT = re.compile(rb"^tenant (\d+)\nstatus (.+)\nsteps (\d+)\noutput (\d+) ?([0-9a-f]*)\n", re.M)
 REFUSED = re.compile(rb"^refused (\d+) (.+)$", re.M)
+REFUSED_LINES = re.compile(rb"(?:refused .+\n)*")
+BLOCK = re.compile(rb"^tenant (\d+)\n(?s:.*?)\nend\n", re.M)
 # The words of a status: its kind, and the names of what follows.
 FORMS = {
     "running": re.compile(r"running"),
@@ -52,3 +54,14 @@ def refused_of(report: bytes) -> list[dict[str, Any]]:
     """The refused events of a report: their numbers and why."""
     return [{"event": int(number), "reason": reason.decode()}
             for number, reason in REFUSED.findall(report)]
+
+
+def refused_lines_of(report: bytes) -> bytes:
+    """The lines of a report that have its refused events."""
+    found = REFUSED_LINES.match(report)
+    return found[0] if found else b""
+
+
+def blocks_of(report: bytes) -> dict[int, bytes]:
+    """The lines of each tenant of a report, in the order of their admissions."""
+    return {int(found[1]): found[0] for found in BLOCK.finditer(report)}

@@ -10,13 +10,16 @@ import hashlib
 import importlib
 import os
 import pathlib
+import re
 import shlex
 import shutil
 import subprocess
 import sys
 import tempfile
 from collections.abc import Callable, Sequence
+from dataclasses import replace
 
+from batch import further
 from batch.answers import OK, SCRIPT, Answer, Lost, Reply, checked
 from batch.sessions import Job
 
@@ -24,8 +27,10 @@ Replies = list[tuple[str, Reply]]
 Runner = Callable[[Sequence[Job]], Replies]
 # Where the library is, as the package tombolopan reads it.
 LIBRARY = "TOMBOLOPAN"
-# Where mte_split is, in place of that of this checkout or prefix.
-SPLIT = "TOMBOLOPAN_SPLIT"
+# A part of one tenant by mte_split: a head, the tenant's lines, and the sum of all before that.
+PART = re.compile(rb"(mte_split [0-9.]+ part )([0-9a-f]{64}) tenant ([0-9]+)\n"
+                  rb"((?s:.*))sum ([0-9a-f]{64})\n")
+LAST_LINE = len("sum ") + 64 + 1
 
 
 def find_library() -> str:
@@ -81,9 +86,11 @@ def command_sum(commands: Sequence[str]) -> str:
 
 
 def run_one(job: Job) -> Reply:
-    """The answer of a session by the library."""
+    """The answer of a session by the library, or the slices that lead its tenant on."""
     import tombolopan  # loads the library, which only a process that runs sessions needs
     try:
+        if job.total:
+            return checked(Answer(OK, further.found_for(job.script, job.files, job.total), b""))
         return checked(Answer(OK, tombolopan.session(job.frames, job.script, job.files), b""))
     except tombolopan.ScriptError as error:
         return checked(Answer(SCRIPT, b"", f"mte_host: {error}\n".encode()))
@@ -109,50 +116,61 @@ def run_safely(run: Runner, jobs: Sequence[Job]) -> Replies:
 
 
 def run_by_command(jobs: Sequence[Job], command: str, seconds: float | None = None) -> Replies:
-    """The answers of sessions, each by a process of a program like mte_host, over copies of what
-    they read."""
+    """The answers of sessions, each by a process of a program like mte_host."""
     return [(job.key, process_answer(job, shlex.split(command), seconds)) for job in jobs]
 
 
 def process_answer(job: Job, command: Sequence[str], seconds: float | None) -> Reply:
-    """The answer of a session by a process."""
+    """The answer of a session by a process, over copies of what it reads."""
     with contextlib.ExitStack() as held:
         try:
             folder = pathlib.Path(held.enter_context(tempfile.TemporaryDirectory()))
             names = [str(folder / f"file-{number}") for number in range(len(job.files) + 1)]
             for name, content in zip(names, (job.script, *job.files)):
                 pathlib.Path(name).write_bytes(content)
-            words = [*command, *job.words, "--frames", str(job.frames), *names]
+            words = [*command, "--frames", str(job.frames), *names]
             ran = subprocess.run(words, check=False, stdin=subprocess.DEVNULL,
                                  capture_output=True, timeout=seconds)
         except subprocess.TimeoutExpired:
             return Lost(f"it took longer than {seconds:g} seconds")
         except OSError as error:
             return Lost(f"cannot be run: {error}")
-    return checked(Answer(ran.returncode, ran.stdout, ran.stderr))
+    answer = Answer(ran.returncode, ran.stdout, ran.stderr)
+    return part_of(job, answer) if job.tenants else checked(answer)
 
 
-def find_split() -> str:
-    """The path of mte_split: what the variable names, or that of this checkout, or of the prefix in
-    which this is installed, or of the PATH; empty where there is none."""
-    top = pathlib.Path(__file__).resolve().parents[2]
-    near = top / "crates" / "mte_split" / "out" / "mte_split"
-    there = str(near) if near.is_file() else shutil.which("mte_split") or ""
-    named = os.environ.get(SPLIT) or there
-    return str(pathlib.Path(named).resolve()) if os.path.isfile(named) else ""
+def run_by_split(jobs: Sequence[Job], wanted: str, command: str,
+                 seconds: float | None = None) -> Replies:
+    """The answers of parts, each tenant by a process of a program like mte_split, and of others by
+    the library."""
+    return [reply for job in jobs for reply in (
+        [(job.key, split_answer(job, shlex.split(command), seconds))] if job.tenants
+        else run_by_library([job], wanted))]
 
 
-@functools.cache
-def split_sum() -> str:
-    """The sum of this machine's mte_split; empty where there is none."""
-    path = find_split()
-    return sum_of_file(path) if path else ""
+def split_answer(job: Job, command: Sequence[str], seconds: float | None) -> Reply:
+    """The answer of a part: what its tenants' parts have between head and sum."""
+    found = b""
+    for tenant in job.tenants:
+        one = replace(job, tenants=(tenant,))
+        reply = process_answer(one, [*command, "--tenant", str(tenant)], seconds)
+        if isinstance(reply, Lost):
+            return reply
+        found += reply.out
+    return checked(Answer(OK, found, b""))
 
 
-def run_by_split(jobs: Sequence[Job], wanted: str, seconds: float | None = None) -> Replies:
-    """Parts of sessions, each by a process of this machine's mte_split, where its sum is the one
-    that is wanted."""
-    if split_sum() != wanted:
-        lost = Lost("another mte_split, or none, is on the machine that was to run it")
-        return [(job.key, lost) for job in jobs]
-    return run_by_command(jobs, shlex.quote(find_split()), seconds)
+def part_of(job: Job, answer: Answer) -> Reply:
+    """The lines of a tenant that mte_split made a part of: of this session, and as it was made."""
+    found = PART.fullmatch(answer.out)
+    if answer.status != OK or found is None:
+        return checked(replace(answer, status=answer.status or -1))
+    begin, session, tenant, lines, total = found.groups()
+    own = hashlib.sha256(begin + job.frames.to_bytes(8, "big"))
+    for part in (job.script, *job.files):
+        own.update(len(part).to_bytes(8, "big") + part)
+    if hashlib.sha256(answer.out[:-LAST_LINE]).hexdigest().encode() != total:
+        return Lost("the part is damaged")
+    if (session, (int(tenant),)) != (own.hexdigest().encode(), job.tenants):
+        return Lost("the part is of another session")
+    return Answer(OK, lines, b"")

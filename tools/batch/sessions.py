@@ -4,10 +4,11 @@ import hashlib
 import os
 import pathlib
 import re
-from collections.abc import Iterator
+from collections.abc import Callable, Iterator
 from dataclasses import dataclass, field
 
-from batch.answers import OK, READ, Answer, is_of_bytes, is_part
+from batch.answers import READ, Answer, Reply, is_of_bytes
+from batch.reports import blocks_of
 
 WANTED = ("out", "err", "status", "output")
 # What a table has before a file with output, not a report.
@@ -34,34 +35,40 @@ class Place:
 
 @dataclass(frozen=True)
 class Job:
-    """What decides a report, and its sum. Of a part of a session, words of mte_split before those
-    of mte_host, and what its head has to be."""
+    """What decides a report, and its sum. A part of a session has the tenants whose lines these
+    are. With a total of steps it asks for the slices that lead the only tenant on to these
+    (further.py). What is passing is no session of the user's, so it is not kept."""
 
     key: str
     frames: int
     script: bytes
     files: tuple[bytes, ...]
-    words: tuple[str, ...] = ()
-    head: bytes = b""
+    tenants: tuple[int, ...] = ()
+    total: int = 0
+    is_passing: bool = False
 
     def is_answered_by(self, answer: Answer) -> bool:
         """Whether an answer may be that of this job."""
         if not is_of_bytes(answer):
             return False
-        return answer.status != OK or (is_part(answer.out) == bool(self.words)
-                                       and answer.out.startswith(self.head))
+        return not self.tenants or tuple(blocks_of(answer.out)) == self.tenants
 
 
 @dataclass
 class Session:
     """A session that was read: a job; or an answer without one, where a file cannot be read; or
-    what is wrong with its words."""
+    what is wrong with its words. One that was made of another gives its answer to `taken`, with how
+    that came. `script` is that of tenants
+    which were led on, and `beyond` why none has room for that."""
 
     name: str
     job: Job | None = None
     answer: Answer | None = None
     wrong: str = ""
     wanted: dict[str, bytes] = field(default_factory=dict)
+    taken: Callable[[Reply, str], None] | None = None
+    script: bytes = b""
+    beyond: str = ""
 
 
 def read_bytes(folder: str, name: str) -> bytes:

@@ -1,138 +1,200 @@
-"""Runs sessions by their tenants, with mte_split: first who is admitted and what is refused, then
-each tenant alone, then the report that these parts make."""
+"""Runs long sessions by their tenants, where that pays: first who is admitted, by the session
+without a step; then parts of tenants, each a session of its own; then the report that these make.
 
-import hashlib
-import pathlib
-import re
-import subprocess
-import tempfile
-from collections.abc import Callable, Iterable, Sequence
-from dataclasses import dataclass, field
+That a report is the refused lines and the tenants' own reports, and that no step decides who is
+admitted, is proved (`report_in_parts`, `decisions_need_no_steps`)."""
 
-from batch.answers import OK, Answer, Lost, Reply, checked
-from batch.driver import Batch
-from batch.engines import Engine
-from batch.sessions import Job, Place, Session, make_key, read_session
-from batch.verdicts import KEPT, LOST, MENDED, RAN, Verdict
+import functools
+from collections.abc import Sequence
+from dataclasses import dataclass, field, replace
 
-ADMITTED = re.compile(rb"^admitted ([0-9]+) ([0-9]+)$", re.M)
-LEDGER = "ledger"
+from batch.answers import OK, Answer, Lost, Reply
+from batch.driver import BUNDLE_STEPS, FIRST, Batch
+from batch.engines import Bundle
+from batch.planning import Budget, Plan
+from batch.reports import blocks_of, refused_lines_of, refused_of
+from batch.scripts import MOST_STEPS, Own, allowed_steps, part_of, tenants_of, without_steps
+from batch.sessions import Job, Session, make_key
+from batch.verdicts import KEPT, MENDED, RAN
 
-
-def begin_of_heads(program: str) -> bytes:
-    """What the parts of a program begin with, which has its version."""
-    ran = subprocess.run([program, "--version"], capture_output=True, check=False)
-    # Behind the version is which build it is.
-    return ran.stdout.partition(b"\n")[0] + b" part "
+# The steps of a part, or more. It is the same everywhere, so that an interrupted run and another
+# share find the parts again. Whether parts are made is measured.
+STEPS_OF_PART = BUNDLE_STEPS
+# What runs whole and takes more seconds is a bundle of its own.
+LONG = 0.01
 
 
-def session_sum(begin: bytes, job: Job) -> bytes:
-    """The sum of a session, as its parts have it."""
-    total = hashlib.sha256(begin + job.frames.to_bytes(8, "big"))
-    for part in (job.script, *job.files):
-        total.update(len(part).to_bytes(8, "big"))
-        total.update(part)
-    return total.hexdigest().encode()
+def groups_of(tenants: dict[int, Own]) -> list[list[int]]:
+    """The tenants of each part: those with few steps together, in their order."""
+    groups: list[list[int]] = []
+    few: list[int] = []
+    for tenant, own in tenants.items():
+        if own.steps >= STEPS_OF_PART:
+            groups.append([tenant])
+            continue
+        few.append(tenant)
+        if sum(tenants[it].steps for it in few) >= STEPS_OF_PART:
+            groups.append(few)
+            few = []
+    return groups + [few] if few else groups
+
+
+@dataclass
+class Split(Plan):
+    """Runs of sessions in parts. `program` is the sum of what runs parts elsewhere. Of several
+    shares each has some of the short sessions and some of the parts, which it puts not together;
+    `share` is which of how many this is."""
+
+    batch: Batch
+    budget: Budget
+    program: str = ""
+    share: tuple[int, int] = (1, 1)
+    ledgers: set[str] = field(default_factory=set)
+    under_way: dict[str, int] = field(default_factory=dict)
+
+    def takes(self, session: Session) -> bool:
+        """Whether a session is split: it is so long that parts of it pay, by its script's slices
+        and what is known so far. A short one of another share is left to that."""
+        job = session.job
+        assert job is not None
+        if job.tenants:
+            return False
+        steps = self._steps_if_long(job)
+        if not steps:
+            is_others = session.taken is None and not self.is_mine(job.key)
+            return is_others and self.batch.leave(job)
+        if self.budget.pays(steps):
+            Whole(self, session.name, job).begin()
+            return True
+        if self.budget.expected(steps) > LONG:
+            self.batch.push(steps, job)
+            return True
+        return False
+
+    def _steps_if_long(self, job: Job) -> int:
+        """How many steps the slices of a long session allow; 0 of another one. Where as many steps
+        as so many slices may have are not worth it, they are not even added up."""
+        most = job.script.count(b"slice ") * MOST_STEPS
+        is_worth = self.budget.pays(most) or self.budget.expected(most) > LONG
+        if most < 2 * STEPS_OF_PART or not is_worth or job.script.count(b"admit ") < 2:
+            return 0
+        with self.budget.paying():
+            steps = allowed_steps(job.script)
+        return steps if steps >= 2 * STEPS_OF_PART else 0
+
+    def is_mine(self, key: str, number: int = 0) -> bool:
+        """Whether a session, or a part of one, is of this share."""
+        return (int(key[:8], 16) + number) % self.share[1] == self.share[0] - 1
+
+    def sent(self, bundle: Bundle, seconds: float) -> None:
+        """Counts what it takes to send a part."""
+        if any(it.key in self.under_way or it.key in self.ledgers for it in bundle.jobs):
+            self.budget.cost += 2 * seconds
+
+    def came(self, bundle: Bundle, seconds: float) -> None:
+        """Learns what a ledger cost, or how long a part took for the steps that it allowed."""
+        self.budget.worked += seconds
+        key = bundle.jobs[0].key
+        if key in self.ledgers:
+            self.budget.cost += seconds
+        elif key in self.under_way:
+            self.budget.taken += seconds
+            self.budget.steps += self.under_way.pop(key)
 
 
 @dataclass
 class Whole:
-    """A session, the head of its parts, and these: the ledger first."""
+    """A session in parts: its tenants, the parts that are left, and what came of the others."""
 
-    session: Session
-    head: bytes
-    parts: list[Session] = field(default_factory=list)
+    split: Split
+    name: str
+    job: Job
+    refused: bytes = b""
+    tenants: dict[int, Own] = field(default_factory=dict)
+    left: list[list[int]] = field(default_factory=list)
+    blocks: dict[int, bytes] = field(default_factory=dict)
+    sources: dict[str, str] = field(default_factory=dict)
+    is_lost: bool = False
 
-    def add(self, name: str, words: tuple[str, ...]) -> Session:
-        """One more part, by the words of mte_split that make it."""
-        job = self.session.job
-        assert job is not None
-        key = make_key(job.key, words, [])
-        head = self.head + name.encode() + b"\n"
-        made = Job(key, job.frames, job.script, job.files, words, head)
-        part = Session(f"{self.session.name}: {name}", made)
-        self.parts.append(part)
-        return part
+    def begin(self) -> None:
+        """Enters the session without its steps."""
+        with self.split.budget.paying():
+            key = make_key(self.job.key, ("ledger",), [])
+            self.split.ledgers.add(key)
+            ledger = replace(self.job, key=key, script=without_steps(self.job.script),
+                             is_passing=True)
+        self.split.batch.enter(Session(f"{self.name}: ledger", ledger, taken=self.learn), FIRST)
 
-
-@dataclass
-class Split:
-    """Runs of sessions in parts: what runs the parts, this machine's mte_split, and what says how
-    far it is."""
-
-    batch: Batch
-    engine: Engine
-    program: str
-    progress: Callable[[int], Callable[[int], None]]
-    answers: dict[str, Answer] = field(default_factory=dict)
-
-    def run(self, places: Iterable[Place], share: tuple[int, int] | None) -> list[Verdict]:
-        """The verdicts of sessions; of a share of their parts, those of the parts."""
-        begin, each = begin_of_heads(self.program), self.batch.each
-        sessions = [read_session(it, self.batch.program) for it in places]
-        wholes = [Whole(it, begin + session_sum(begin, it.job) + b" ")
-                  for it in sessions if it.job is not None]
-        self.batch.each = lambda part, answer: self.answers.update({part.name: answer})
-        self.engine.bundle = 1
-        told = self._run([it.add(LEDGER, ("--list",)) for it in wholes])
-        found = [it for whole in wholes for it in self._tenants(whole)]
-        tenants = [part for _, part in sorted(found, key=lambda it: it[0], reverse=True)]
-        number, count = share or (1, 1)
-        told += self._run(tenants[number - 1::count])
-        if share:
-            return told
-        self.batch.each = each
-        by_name = {it.name: it for it in told}
-        merged = {it.session.name: self._judge(it, by_name) for it in wholes}
-        for it in sessions:
-            if it.job is None:
-                self.batch.begin(it)
-        return [merged.get(it.name) or self.batch.verdicts[it.name] for it in sessions]
-
-    def _run(self, parts: Sequence[Session]) -> list[Verdict]:
-        """Runs parts, and counts them."""
-        by_name = {it.name: it for it in parts}
-        self.batch.read = lambda place, program: by_name[place.name]
-        self.batch.tell = self.progress(len(self.batch.verdicts) + len(parts))
-        told = self.batch.run([Place(it, "") for it in by_name], self.engine)
-        self.batch.work.parts_kept += sum(it.source == KEPT for it in told)
-        self.batch.work.parts_run += sum(it.source in (RAN, MENDED) for it in told)
-        return told
-
-    def _tenants(self, whole: Whole) -> list[tuple[int, Session]]:
-        """The parts of the tenants that are admitted, each with the steps that its slices allow:
-        the longest are to begin first."""
-        ledger = self.answers.get(whole.parts[0].name)
-        if ledger is None or ledger.status != OK:
-            return []
-        return [(int(steps), whole.add(f"tenant {int(number)}", ("--tenant", str(int(number)))))
-                for number, steps in ADMITTED.findall(ledger.out)]
-
-    def _judge(self, whole: Whole, told: dict[str, Verdict]) -> Verdict:
-        """The verdict of a session by those of its parts."""
-        name, parts = whole.session.name, [told[it.name] for it in whole.parts]
-        lost = next((it for it in parts if it.name not in self.answers), None)
-        if lost is not None:
-            return Verdict(name, LOST, f"{lost.name.removeprefix(f'{name}: ')}: {lost.why}")
-        reply = self._merge([self.answers[it.name] for it in whole.parts])
+    def learn(self, reply: Reply, source: str) -> None:
+        """Learns who is admitted, and enters the parts; of a faulty script this is the answer."""
         if isinstance(reply, Lost):
-            return Verdict(name, LOST, reply.why)
-        sources = [it.source for it in parts]
-        source = next((it for it in (MENDED, RAN) if it in sources), KEPT)
-        self.batch.judge(whole.session, reply, source)
-        return self.batch.verdicts[name]
+            self.split.batch.lose(self.job, f"ledger: {reply.why}")
+            return
+        if reply.status != OK:
+            self.split.batch.answer({self.job.key: reply})
+            return
+        with self.split.budget.paying():
+            self.refused = refused_lines_of(reply.out)
+            refused = [it["event"] for it in refused_of(self.refused)]
+            self.tenants = tenants_of(self.job.script, refused)
+            self.left = [it for at, it in enumerate(groups_of(self.tenants))
+                         if self.split.is_mine(self.job.key, at)]
+            self.left.sort(key=self._steps)
+        self._push()
+        self._join()
 
-    def _merge(self, parts: Sequence[Answer]) -> Reply:
-        """The answer that the parts of a session make, the ledger being the first."""
-        if parts[0].status != OK:
-            return Answer(parts[0].status, b"", parts[0].err.replace(b"mte_split", b"mte_host", 1))
-        try:
-            with tempfile.TemporaryDirectory() as folder:
-                names = [f"part-{number}" for number in range(len(parts))]
-                for name, part in zip(names, parts):
-                    (pathlib.Path(folder) / name).write_bytes(part.out)
-                ran = subprocess.run([self.program, "--merge", *names], capture_output=True,
-                                     cwd=folder, check=False)
-        except OSError as error:
-            return Lost(f"its parts cannot be put together: {error}")
-        return checked(Answer(ran.returncode, ran.stdout, ran.stderr))
+    def _steps(self, group: Sequence[int]) -> int:
+        return sum(self.tenants[it].steps for it in group)
+
+    def _push(self) -> None:
+        """Waits for the turn of its longest part, if one is left."""
+        if self.left:
+            self.split.batch.push(self._steps(self.left[-1]), self)
+
+    def next_job(self) -> Job | None:
+        """The next part, the longest first; where parts do not pay any more, all that is left."""
+        if not self.left:
+            return None
+        budget, group = self.split.budget, self.left.pop()
+        if self.left and not budget.pays(self._steps(group) + sum(map(self._steps, self.left))):
+            group, self.left = sum(self.left, group), []
+        with budget.paying():
+            budget.count += 1
+            part = self._part(group)
+            job = self.split.batch.begin(part)
+        if job is not None:
+            self.split.under_way[job.key] = self._steps(group)
+        self._push()
+        return job
+
+    def _part(self, group: list[int]) -> Session:
+        """The session of some of the tenants."""
+        part = part_of([self.tenants[it] for it in group], self.job.frames, self.job.files)
+        key = make_key(self.job.key, (self.split.program, *map(str, group)), [])
+        job = Job(key, part.frames, part.script, part.files, tenants=tuple(group))
+        name = f"tenant{'s' * (len(group) > 1)} {', '.join(map(str, group))}"
+        if self.split.share != (1, 1):
+            return Session(f"{self.name}: {name}", job)
+        return Session(name, job, taken=functools.partial(self.take, name, key))
+
+    def take(self, name: str, key: str, reply: Reply, source: str) -> None:
+        """Takes the answer of a part, or what it was lost by."""
+        if self.is_lost:
+            return
+        if isinstance(reply, Lost):
+            self.is_lost, self.left = True, []
+            self.split.batch.lose(self.job, f"{name}: {reply.why}")
+            return
+        self.sources[key] = source
+        with self.split.budget.paying():
+            self.blocks.update(blocks_of(reply.out))
+        self._join()
+
+    def _join(self) -> None:
+        """Answers the session where all of its tenants' reports are there."""
+        if len(self.blocks) < len(self.tenants) or self.split.share != (1, 1):
+            return
+        report = self.refused + b"".join(self.blocks[it] for it in self.tenants)
+        source = next((it for it in (MENDED, RAN) if it in self.sources.values()), KEPT)
+        self.split.batch.answer({self.job.key: Answer(OK, report, b"")}, source)
+        self.split.batch.store.drop(self.sources)

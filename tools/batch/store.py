@@ -5,13 +5,15 @@ on any machines that share the folder, may use it at once. A record has the key,
 sum of both, so that one that was changed, cut short or put under another key is not taken.
 """
 
+import contextlib
+import fcntl
 import hashlib
 import mmap
 import os
 import pathlib
 import re
 import secrets
-from collections.abc import Iterator, Sequence
+from collections.abc import Iterable, Iterator, Sequence
 from dataclasses import dataclass
 
 from batch.answers import Answer, is_of_bytes
@@ -70,11 +72,13 @@ def records_of(data: bytes | mmap.mmap) -> Iterator[Found]:
 
 class Store:
     """The answers of a folder. `damaged` has the keys that have no answer, though they had one: it
-    is not what was written, or there are two sound ones that differ."""
+    is not what was written, or there are two sound ones that differ. `used` has the keys of the
+    answers that were taken from it or put into it."""
 
     def __init__(self, folder: pathlib.Path) -> None:
         self.folder = folder
         self.damaged: set[str] = set()
+        self.used: set[str] = set()
         self._places: dict[str, tuple[pathlib.Path, int, int]] = {}
         self._sums: dict[str, bytes] = {}
         self._read: dict[pathlib.Path, int] = {}
@@ -90,6 +94,14 @@ class Store:
 
     def _files(self) -> list[pathlib.Path]:
         return sorted(self.folder.glob(f"*{SUFFIX}"))
+
+    def keys(self) -> list[str]:
+        """The keys of the answers that may be taken."""
+        return list(self._places)
+
+    def size(self) -> int:
+        """How many bytes its files have."""
+        return sum(it.stat().st_size for it in self._files())
 
     def _take(self, path: pathlib.Path) -> set[str]:
         """Enters the records of a file, and returns the keys of which others differ."""
@@ -120,6 +132,7 @@ class Store:
             del self._places[key]
             self.damaged.add(key)
             return None
+        self.used.add(key)
         return found.answer
 
     def _part(self, path: pathlib.Path, start: int, end: int) -> bytes:
@@ -139,6 +152,8 @@ class Store:
             self._own = self.folder / f"{os.getpid()}-{secrets.token_hex(8)}{SUFFIX}"
             flags = os.O_WRONLY | os.O_CREAT | os.O_EXCL | os.O_APPEND
             self._written = os.open(self._own, flags, 0o666)
+            # So nobody rewrites it meanwhile (bound_store.py).
+            fcntl.flock(self._written, fcntl.LOCK_EX)
         records = [record_of(key, answer) for key, answer in answers]
         start = os.fstat(self._written).st_size
         left = memoryview(b"".join(records))
@@ -146,7 +161,16 @@ class Store:
             left = left[os.write(self._written, left):]
         for (key, _), record in zip(answers, records):
             self._places[key] = (self._own, start, start + len(record))
+            self.used.add(key)
             start += len(record)
+
+    def drop(self, keys: Iterable[str]) -> None:
+        """Marks the records of answers that are of no use any more, where that can be written."""
+        for key in keys:
+            self.used.discard(key)
+            path, start, _ = self._places.pop(key, (self.folder, 0, 0))
+            with contextlib.suppress(OSError), open(path, "r+b") as file:
+                os.pwrite(file.fileno(), FORGOTTEN, start)
 
     def forget(self, keys: set[str]) -> None:
         """Marks all records of these keys in their places, which needs no room and leaves what

@@ -10,7 +10,7 @@ from dataclasses import asdict
 from batch.verdicts import DIFFERENT, VERDICTS, Verdict, Work, is_right
 
 SHOWN = {10, *range(32, 127)}
-FORMAT = "tombolopan results 1"
+FORMAT = "tombolopan results 2"
 
 
 def plain(text: str) -> str:

@@ -7,6 +7,7 @@ from typing import Any
 
 from batch.answers import Answer, ends_of, output_of
 from batch.reports import refused_of, tenants_of
+from batch.sessions import Session
 
 WANTED = "as wanted"
 DIFFERENT = "different"
@@ -14,9 +15,10 @@ ANSWERED = "answered"
 LOST = "lost"
 DISPUTED = "disputed"
 NO_SESSION = "no session"
+NO_SCRIPT = "no script"
 # Each verdict, and whether a session that has it is right.
 VERDICTS = {WANTED: True, DIFFERENT: False, ANSWERED: True, LOST: False, DISPUTED: False,
-            NO_SESSION: False}
+            NO_SESSION: False, NO_SCRIPT: False}
 # How the answer came: from the store, by a run, by a run in place of what was damaged in the store.
 KEPT, RAN, MENDED = "kept", "run", "mended"
 
@@ -40,7 +42,8 @@ class Verdict:
 class Work:
     """What a run did beside its verdicts: the sum of its program, how often sessions were lost and
     tried again, how many parts of sessions were run and kept, how many answers could not be kept
-    and why, how many were run elsewhere too, and how many of these were lost there."""
+    and why, how many the store was rid of, how many were run elsewhere too, and how many of these
+    were lost there."""
 
     program: str = ""
     retries: int = 0
@@ -48,6 +51,7 @@ class Work:
     parts_kept: int = 0
     unkept: int = 0
     why_unkept: str = ""
+    dropped: int = 0
     checked: int = 0
     unchecked: int = 0
     why_unchecked: str = ""
@@ -66,11 +70,14 @@ def different_parts(answer: Answer, wanted: dict[str, bytes]) -> list[str]:
     return different
 
 
-def judge(name: str, answer: Answer, wanted: dict[str, bytes], source: str, key: str) -> Verdict:
+def judge(session: Session, answer: Answer, source: str) -> Verdict:
     """The verdict of a session that is answered."""
-    different = ", ".join(different_parts(answer, wanted))
-    verdict = DIFFERENT if different else WANTED if wanted else ANSWERED
-    return Verdict(name, verdict, different, source, answer.status, key,
+    different = ", ".join(different_parts(answer, session.wanted))
+    verdict = DIFFERENT if different else WANTED if session.wanted else ANSWERED
+    if session.beyond:
+        verdict, different = NO_SCRIPT, session.beyond
+    key = "" if session.job is None else session.job.key
+    return Verdict(session.name, verdict, different, source, answer.status, key,
                    tuple(tenants_of(answer.out)), tuple(refused_of(answer.out)))
 
 
@@ -98,6 +105,7 @@ def lines_of(verdicts: list[Verdict], work: Work) -> list[str]:
         told.append(f"in {work.parts_run} parts run, {work.parts_kept} parts kept")
     for count, text in ((sources[MENDED], "mended"), (work.retries, "tried again"),
                         (work.unkept, f"not stored: {shown(work.why_unkept)}"),
+                        (work.dropped, "dropped from the store"),
                         (work.checked, "run elsewhere too"),
                         (work.unchecked, f"lost elsewhere: {shown(work.why_unchecked)}")):
         if count:

@@ -1,0 +1,111 @@
+"""A script of mte_host as events, and the scripts of some of its tenants alone."""
+
+import re
+from collections.abc import Iterable, Iterator, Sequence
+from dataclasses import dataclass, field
+
+MOST_EVENTS = 10_000
+MOST_STEPS = 1 << 20
+STEPS = re.compile(rb"^ *slice +[0-9]+ +([0-9]{1,10}) *$", re.M)
+SLICE = re.compile(rb"^( *slice +[0-9]+ +)([0-9]{1,10}) *$", re.M)
+
+
+def words_of(line: bytes) -> list[bytes]:
+    """The words of a line; none where it is no event."""
+    return [] if line.startswith(b"#") else [it for it in line.split(b" ") if it]
+
+
+def events_of(script: bytes) -> Iterator[tuple[int, list[bytes]]]:
+    """The events of a script without faulty lines: their numbers, from 1, and their words."""
+    return enumerate(filter(None, map(words_of, script.split(b"\n"))), 1)
+
+
+def count_events(script: bytes) -> int:
+    """How many events a script has."""
+    return sum(1 for _ in events_of(script))
+
+
+def allowed_steps(script: bytes) -> int:
+    """How many steps the slices of a script allow, the refused ones too."""
+    return sum(map(int, STEPS.findall(script)))
+
+
+def without_steps(script: bytes) -> bytes:
+    """A script of which no slice has a step. It has the same faulty line, and the host refuses the
+    same events: no step decides what is refused (`decisions_need_no_steps`)."""
+    return SLICE.sub(without_its_steps, script)
+
+
+def without_its_steps(found: re.Match[bytes]) -> bytes:
+    """A slice without a step; one that allows too many, and so is faulty, as it is."""
+    return found[0] if int(found[2]) > MOST_STEPS else found[1] + b"0"
+
+
+@dataclass
+class Own:
+    """The events of a tenant that the host accepts: the words of its admission, the steps of its
+    slices, and whether it is stopped."""
+
+    admission: list[bytes]
+    slices: list[int] = field(default_factory=list)
+    is_stopped: bool = False
+
+    @property
+    def steps(self) -> int:
+        """How many steps its slices allow."""
+        return sum(self.slices)
+
+    @property
+    def files(self) -> list[int]:
+        """The numbers of its image and its input, from 1; 0 for none."""
+        return [int(self.admission[3]), int(self.admission[5])]
+
+    @property
+    def charge(self) -> int:
+        """How many frames its reservation takes."""
+        return 2 * int(self.admission[9]) + 1
+
+    def lines(self, image: int, given: int) -> list[bytes]:
+        """Its lines of a script whose files have these numbers."""
+        words = list(self.admission)
+        words[3], words[5] = b"%d" % image, b"%d" % given
+        number = self.admission[1]
+        return [b" ".join(words), *(b"slice %s %d" % (number, it) for it in self.slices),
+                *([b"stop " + number] if self.is_stopped else [])]
+
+
+def tenants_of(script: bytes, refused: Iterable[int]) -> dict[int, Own]:
+    """The tenants that a host admits, in their order, by the numbers of the events that it
+    refuses."""
+    found: dict[int, Own] = {}
+    passed = set(refused)
+    for number, words in events_of(script):
+        if number in passed:
+            continue
+        tenant = int(words[1])
+        if words[0] == b"admit":
+            found[tenant] = Own(words)
+        elif words[0] == b"slice":
+            found[tenant].slices.append(int(words[2]))
+        else:
+            found[tenant].is_stopped = True
+    return found
+
+
+@dataclass(frozen=True)
+class Part:
+    """A session of some tenants of another one: its frames, its script and its files."""
+
+    frames: int
+    script: bytes
+    files: tuple[bytes, ...]
+
+
+def part_of(tenants: Sequence[Own], frames: int, files: Sequence[bytes]) -> Part:
+    """The session of some tenants, each after the other. All that are not stopped live at its end,
+    as they do in the whole session, so they have the frames."""
+    numbers = [0, *sorted({number for it in tenants for number in it.files} - {0})]
+    lines = [line for it in tenants for line in it.lines(*map(numbers.index, it.files))]
+    return Part(min(frames, sum(it.charge for it in tenants)),
+                b"".join(b"%s\n" % it for it in lines),
+                tuple(files[number - 1] for number in numbers[1:]))
