@@ -4,6 +4,7 @@ and looked for by other tags."""
 import pathlib
 import re
 import shutil
+import signal
 import sys
 
 import pytest
@@ -12,7 +13,7 @@ from tests.support import fuzzers
 from tests.support.checkout import make_stub
 from tests.support.debugger import asked, target
 from tests.support.fuzzers import ENTER, FUZZ, NAME, PLANTED, card, field
-from tests.support.instructions import call, program
+from tests.support.instructions import NO_INSTRUCTION, call, copy, load, move, program
 from tests.support.running import Ran, Word, run, succeed
 from tests.support.tools import need
 
@@ -88,6 +89,38 @@ def test_nothing_is_run(alone: pathlib.Path, tmp_path: pathlib.Path, words: str)
     assert ran == wanted and ran.status == (2 if options else 5) and ran.err
     ran = run([*replay, "--program", "./none"], cwd=tmp_path)
     assert ran == Ran(2, b"", b"replay.py: ./none is not there (--help)\n")
+
+
+# By its name: what ends a run, and whether that is a crash.
+FREED = [*call(3, 16), copy(9, 0), *call(4)]
+ENDS = {
+    "exit": (call(0, 3), False),
+    "yield": (call(9), False),
+    "no steps left": ([0x14000000], False),
+    "tag": ([*FREED, load(1, 9)], True),
+    "page": ([*move(1, 1 << 40), load(1, 1)], True),
+    "abort of the heap": ([*FREED, copy(0, 9), *call(4)], True),
+    "illegal word": ([NO_INSTRUCTION], True),
+    "breakpoint": ([0xD4200000], True),
+}
+
+
+@pytest.mark.parametrize("fuzzer", ("libfuzzer", "afl"))
+@pytest.mark.parametrize("end", sorted(ENDS))
+def test_which_ends_are_crashes(
+    shared: pathlib.Path, tmp_path: pathlib.Path, fuzzer: str, end: str
+) -> None:
+    """Each end alone, by both fuzzers, whether they are told what is compared or not."""
+    need("clang", "ld.lld", "afl-clang-fast")
+    words, is_crash = ENDS[end]
+    (tmp_path / "tenant.elf").write_bytes(program(*words))
+    (tmp_path / "input").write_bytes(b"A")
+    folder, crashed = fuzzers.fuzzers(shared, fuzzer), {"libfuzzer": 77, "afl": -signal.SIGABRT}
+    given: list[Word] = [folder / fuzzer, *["input"] * (fuzzer == "libfuzzer")]
+    for compare in "01":
+        ran = fuzzers.fuzz(folder, given, cwd=tmp_path, given=b"A", TENANT="tenant.elf", SETUP="0",
+                           STEPS="100", COMPARE=compare)
+        assert ran.status == (crashed[fuzzer] if is_crash else 0), ran.errors
 
 
 def test_a_finding_is_replayed(
