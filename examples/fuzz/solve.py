@@ -20,7 +20,7 @@ from collections.abc import Iterator
 HERE = pathlib.Path(__file__).resolve().parent
 sys.path[:0] = [str(HERE.parent / "embed"), str(HERE.parent)]
 from command_line import Parser  # noqa: E402
-from tombolopan import Comparison, ComparisonKind, Fuzz  # noqa: E402
+from tombolopan import Compared, Comparison, Fuzz  # noqa: E402
 
 # Functions that compare texts of a length, and those that end at a zero.
 SIZED = ("memcmp", "bcmp", "strncmp", "strncasecmp")
@@ -48,9 +48,9 @@ def forms(left: int, right: int, most: int) -> Iterator[Pair]:
 def numbers(it: Comparison) -> Iterator[Pair]:
     """The operands of an instruction. An addition compares with the opposite number."""
     right = it.right
-    if it.kind in (ComparisonKind.ADDS, ComparisonKind.CCMN):
+    if it.kind in (Compared.ADDS, Compared.CCMN):
         right = -right % (1 << 8 * it.width)
-    if it.kind not in (ComparisonKind.ANDS, ComparisonKind.TBZ):
+    if it.kind not in (Compared.ANDS, Compared.TBZ):
         yield from forms(it.left, right, it.width)
         yield from forms(right, it.left, it.width)
 
@@ -73,9 +73,9 @@ class Solver:
 
     def pairs(self, text: bytes) -> Iterator[Pair]:
         """What an input has, and what it was compared with, as bytes."""
-        _, compared = self.fuzz.compare(text, functions=self.addresses, length=16384)
+        _, compared = self.fuzz.compare(text, functions=self.addresses, room=16384)
         for it in compared:
-            is_call = it.kind == ComparisonKind.CALL
+            is_call = it.kind == Compared.CALL
             yield from self.texts(text, it) if is_call else numbers(it)
 
     def texts(self, text: bytes, call: Comparison) -> Iterator[Pair]:
