@@ -3,6 +3,7 @@ and looked for by other tags."""
 
 import pathlib
 import re
+import shlex
 import shutil
 import signal
 import sys
@@ -12,12 +13,15 @@ import pytest
 from tests.support import fuzzers
 from tests.support.checkout import make_stub
 from tests.support.debugger import asked, target
+from tests.support.embedding.built import in_python
 from tests.support.fuzzers import ENTER, FUZZ, NAME, PLANTED, card, field
 from tests.support.instructions import NO_INSTRUCTION, call, copy, load, move, program
 from tests.support.running import Ran, Word, run, succeed
 from tests.support.tools import need
+from tests.test_python_package import PACKAGE
 
-TIMES = 100
+# Replays of a crash, and runs of libFuzzer within which it finds what comparisons guard.
+TIMES, RUNS = 100, 200_000
 
 
 def lines_of(source: str, *wanted: str) -> list[str]:
@@ -151,6 +155,72 @@ def test_a_fuzzer_that_is_missing(tmp_path: pathlib.Path) -> None:
     assert ran == Ran(1, b"", b"campaign.py: afl-fuzz is not there (Debian: afl++)\n")
 
 
+@pytest.mark.parametrize("tenant", ("magic", "commands"))
+def test_libfuzzer_is_told_comparisons(
+    shared: pathlib.Path, tmp_path: pathlib.Path, tenant: str
+) -> None:
+    """It finds a bug that a comparison of numbers or of texts guards, and by as many runs that are
+    not compared it finds none."""
+    need("clang", "ld.lld")
+    folder = fuzzers.fuzzers(shared, "libfuzzer")
+    for compare, status in (("1", 77), ("0", 0)):
+        corpus = tmp_path / compare
+        shutil.copytree(folder / f"{tenant}.corpus", corpus)
+        words: list[Word] = [folder / "libfuzzer", "-seed=1", "-max_len=64", f"-runs={RUNS}",
+                             corpus]
+        ran = fuzzers.fuzz(folder, words, cwd=tmp_path, TENANT=str(folder / f"{tenant}.elf"),
+                           COMPARE=compare)
+        assert ran.status == status, ran.errors[-2000:]
+
+
+@pytest.mark.parametrize("tenant", ("magic", "commands"))
+def test_afl_is_told_comparisons(
+    shared: pathlib.Path, tmp_path: pathlib.Path, tenant: str
+) -> None:
+    """By -c 0 it finds such a bug: what it changes for it is named so."""
+    need("clang", "ld.lld", "afl-fuzz", "afl-clang-fast")
+    folder, found = fuzzers.fuzzers(shared, "afl"), tmp_path / "found"
+    words: list[Word] = ["afl-fuzz", "-i", folder / f"{tenant}.corpus", "-o", found, "-c", "0",
+                         "-V", "60", "-t", "5000", "-s", "1", "--", folder / "afl"]
+    ran = fuzzers.fuzz(folder, words, cwd=tmp_path, AFL_BENCH_UNTIL_CRASH="1",
+                       TENANT=str(folder / f"{tenant}.elf"))
+    kept = [it.name for it in (found / "default").glob("*/id:*")]
+    assert any("op:its" in it for it in kept), ran.output[-2000:] + ran.errors[-2000:]
+    assert list((found / "default" / "crashes").glob("id:*")), kept
+
+
+@pytest.mark.parametrize("tenant", ("magic", "magic_bytes", "commands", "sum", "chunk"))
+def test_comparisons_are_solved(
+    shared: pathlib.Path, tmp_path: pathlib.Path, tenant: str
+) -> None:
+    """Without a fuzzer: from the tenant's seed an input that crashes, and the words for it."""
+    need("llvm-nm")
+    corpus, words = tmp_path / "corpus", tmp_path / "words"
+    shutil.copytree(FUZZ / "corpus" / tenant, corpus)
+    ran = run(["python3", "-B", FUZZ / "solve.py", "--dictionary", words,
+               fuzzers.guarded(shared, tenant), corpus], extra=in_python(shared, PACKAGE).extra)
+    assert (ran.status, ran.errors) == (0, "") and list(corpus.glob("crash-*")), ran.output
+    told = {"magic": r"\x41\x9e\x5d\xb2", "commands": "".join(rf"\x{it:02x}" for it in b"restore")}
+    assert told.get(tenant, "") in words.read_text()
+
+
+def test_a_corpus_is_made_smaller(shared: pathlib.Path, tmp_path: pathlib.Path) -> None:
+    """-merge=1 and afl-cmin, as the page has them: inputs that reach nothing more are left out."""
+    need("clang", "ld.lld", "afl-cmin", "afl-clang-fast")
+    for fuzzer in ("libfuzzer", "afl"):
+        folder, corpus = fuzzers.fuzzers(shared, fuzzer), tmp_path / f"{fuzzer}.corpus"
+        small = tmp_path / f"{fuzzer}.small"
+        small.mkdir()
+        shutil.copytree(folder / "cards.corpus", corpus)
+        for letter in "BCDE":
+            (corpus / letter).write_bytes(card(field("N", f"{letter}da".encode())))
+        words: list[Word] = [folder / fuzzer, "-merge=1", small, corpus]
+        if fuzzer == "afl":
+            words = ["afl-cmin", "-i", corpus, "-o", small, "--", folder / fuzzer]
+        ran = fuzzers.fuzz(folder, words, cwd=tmp_path)
+        assert 0 < len(list(small.iterdir())) < len(list(corpus.iterdir())) - 3, ran.errors
+
+
 def test_a_campaign_by_exact_runs(
     shared: pathlib.Path, alone: pathlib.Path, tmp_path: pathlib.Path
 ) -> None:
@@ -160,7 +230,11 @@ def test_a_campaign_by_exact_runs(
     shutil.copytree(fuzzers.fuzzers(shared, "libfuzzer"), folder)
     ran = succeed([sys.executable, FUZZ / "campaign.py", folder, "labels", "--exact", "--seconds",
                    "600", "--until", "1", "--program", alone])
-    assert re.search(r"\boverflow\b|\bPastSize\b|Buffer Overflow", ran.output), ran.output
+    told, replayed, page = ran.output.splitlines()[1:]
+    assert re.search(r"\boverflow\b|\bPastSize\b|Buffer Overflow", told), ran.output
+    assert re.search(r": \d+ crash(es)?$", told), ran.output
+    assert "Cause: " in run(shlex.split(replayed)).errors
+    assert pathlib.Path(page.strip()).read_text().startswith("<!")
 
 
 # By the bug: what GDB watches behind the fault, what it prints of it, and who freed the chunk.

@@ -1,4 +1,7 @@
 /* To be compiled without AFL++'s instrumentation, so that only the tenant's edges are counted. */
+#include <stdbool.h>
+#include <string.h>
+
 #include "kept_tenant.h"
 
 #ifndef COUNTS
@@ -19,22 +22,35 @@ void __cmplog_rtn_hook_strn(uint8_t *left, uint8_t *right, uint64_t length);
 
 int run_in_map(const uint8_t *input, size_t length);
 
+/* AFL++ takes 31 bytes for those of memcmp, however many these are: of texts only so many. */
+static bool is_text(const compared *it)
+{
+    size_t most = it->length < TEXT ? it->length : TEXT;
+    return strnlen((const char *)it->left_text, most) + 1 >= most ||
+           strnlen((const char *)it->right_text, most) + 1 >= most;
+}
+
+static void *text_hook(const compared *it)
+{
+    if (it->how == TO_ZERO || it->how == WITHIN)
+        return (void *)__cmplog_rtn_hook_str;
+    if (it->how == TO_ZERO_OF_LENGTH || is_text(it))
+        return (void *)__cmplog_rtn_hook_strn;
+    return (void *)__cmplog_rtn_hook_n;
+}
+
 /* An input of the same way has its comparisons at the same steps: so AFL++ pairs them. */
 static void tell(const compared *it)
 {
     static void *const hooks[9] = {
         [1] = (void *)__cmplog_ins_hook1, [2] = (void *)__cmplog_ins_hook2,
         [4] = (void *)__cmplog_ins_hook4, [8] = (void *)__cmplog_ins_hook8};
-    static void *const text_hooks[] = {
-        [OF_LENGTH] = (void *)__cmplog_rtn_hook_n, [TO_ZERO] = (void *)__cmplog_rtn_hook_str,
-        [TO_ZERO_OF_LENGTH] = (void *)__cmplog_rtn_hook_strn,
-        [WITHIN] = (void *)__cmplog_rtn_hook_str};
     uint64_t key = it->pc << 32 ^ it->step;
     if (it->width)
         compared_call(key, hooks[it->width], it->left, it->right, 1);
     else
-        compared_call(key, text_hooks[it->how], (uintptr_t)it->left_text,
-                      (uintptr_t)it->right_text, it->length);
+        compared_call(key, text_hook(it), (uintptr_t)it->left_text, (uintptr_t)it->right_text,
+                      it->length);
 }
 
 int run_in_map(const uint8_t *input, size_t length)

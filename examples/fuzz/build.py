@@ -121,20 +121,25 @@ TENANTS = {"cards": cards, "labels": labels, "expat": expat, "lua": lua, "json":
            **{it: guarded(it) for it in ("magic", "magic_bytes", "chunk", "commands", "sum")}}
 
 
+def plain(folder: pathlib.Path, names: Sequence[str], flags: Words) -> list[pathlib.Path]:
+    """Objects that are not instrumented, so that the tenant alone is counted and compares."""
+    made = [folder / f"{name}.o" for name in names]
+    for path in made:
+        run(["clang", "-O2", "-g", *flags, "-c", "-o", path, HERE / f"{path.stem}.c"])
+    return made
+
+
 def libfuzzer(folder: pathlib.Path, flags: Words, linked: Words) -> None:
     """The tenant's edges are the extra counters of libFuzzer."""
-    run(["clang", "-O2", "-g", "-fsanitize=fuzzer", *flags, "-o", folder / "libfuzzer",
-         *(HERE / f"{it}.c" for it in ("libfuzzer", *SHARED)), *linked])
+    run(["clang", "-fsanitize=fuzzer", "-o", folder / "libfuzzer",
+         *plain(folder, ("libfuzzer", *SHARED), flags), *linked])
 
 
 def afl(folder: pathlib.Path, flags: Words, linked: Words) -> None:
     """The tenant's edges are AFL++'s map: only its own loop is instrumented."""
-    plain = []
-    for name in ("afl_map", *SHARED):
-        plain.append(folder / f"{name}.o")
-        run(["clang", "-O2", *flags, "-c", "-o", plain[-1], HERE / f"{name}.c"])
-    run(["env", "AFL_QUIET=1", "AFL_LLVM_INSTRUMENT=CLASSIC", "afl-clang-fast", "-O2", "-o",
-         folder / "afl", HERE / "afl.c", *plain, *linked])
+    run(["env", "AFL_QUIET=1", "AFL_LLVM_INSTRUMENT=CLASSIC", "afl-clang-fast", "-O2", *flags,
+         "-o", folder / "afl", HERE / "afl.c", *plain(folder, ("afl_map", *SHARED), flags),
+         *linked])
 
 
 def has_libfuzzer() -> bool:

@@ -4,9 +4,7 @@
 #include <stdbool.h>
 #include <string.h>
 
-#ifndef COMPARISONS
-#define COMPARISONS 1024
-#endif
+enum { FEWEST = 256, MOST = 65536 };
 
 /*
  * Calls in a row. AFL++ and libFuzzer know a comparison by the address that their functions return
@@ -51,8 +49,8 @@ enum { KNOWN = sizeof known / sizeof *known };
 
 static uint64_t functions[KNOWN];
 static enum compared_how hows[KNOWN];
-static tb_comparison entries[COMPARISONS];
-static tb_comparisons lent = {functions, 0, entries, COMPARISONS};
+static tb_comparison entries[MOST];
+static tb_comparisons lent = {functions, 0, entries, FEWEST};
 
 static void enter_symbol(const char *name, uint64_t address)
 {
@@ -106,7 +104,7 @@ void compared_load(const uint8_t *image, size_t length)
 
 tb_comparisons *compared_clear(void)
 {
-    memset(entries, 0, sizeof entries);
+    memset(entries, 0, lent.entry_count * sizeof *entries);
     return &lent;
 }
 
@@ -167,15 +165,27 @@ static void tell_numbers(const tb_comparison *it, compared_hook *hook)
     hook(&told);
 }
 
+static void tell(tb_fuzz *fuzz, const tb_fuzz_input *again, const tb_comparison *it,
+                 compared_hook *hook)
+{
+    if (it->kind == TB_COMPARED_CALL) {
+        if (again)
+            go_to(fuzz, again, it->step);
+        tell_call(fuzz, it, hook);
+    } else if (it->kind != TB_COMPARED_ANDS && it->kind != TB_COMPARED_TBZ) {
+        tell_numbers(it, hook);
+    }
+}
+
+/* Few places are cleared and looked at soon; they become more where a quarter is taken. */
 void compared_tell(tb_fuzz *fuzz, const tb_fuzz_input *again, compared_hook *hook)
 {
-    for (const tb_comparison *it = entries; it < entries + COMPARISONS; it++) {
-        if (it->kind == TB_COMPARED_CALL) {
-            if (again)
-                go_to(fuzz, again, it->step);
-            tell_call(fuzz, it, hook);
-        } else if (it->kind && it->kind != TB_COMPARED_ANDS && it->kind != TB_COMPARED_TBZ) {
-            tell_numbers(it, hook);
+    size_t taken = 0;
+    for (size_t at = 0; at < lent.entry_count; at++)
+        if (entries[at].kind) {
+            taken++;
+            tell(fuzz, again, entries + at, hook);
         }
-    }
+    if (taken * 4 > lent.entry_count && lent.entry_count < MOST)
+        lent.entry_count *= 2;
 }

@@ -1,5 +1,6 @@
 /* libFuzzer over a tenant: the edges of the tenant are its extra counters, and what the tenant
    compares is told to it as if an instrumented program did. */
+#define _GNU_SOURCE
 #include <stdbool.h>
 #include <stdlib.h>
 #include <string.h>
@@ -19,26 +20,42 @@ void __sanitizer_weak_hook_memcmp(void *pc, const void *left, const void *right,
 void __sanitizer_weak_hook_strcmp(void *pc, const char *left, const char *right, int result);
 void __sanitizer_weak_hook_strncmp(void *pc, const char *left, const char *right, size_t length,
                                    int result);
-void __sanitizer_weak_hook_strstr(void *pc, const char *text, const char *word, char *result);
+void __sanitizer_weak_hook_memmem(void *pc, const void *text, size_t text_length,
+                                  const void *word, size_t length, void *result);
 
 __attribute__((section("__libfuzzer_extra_counters"))) static uint8_t counts[COUNTS];
 
 /* Whether -use_value_profile=1 is there. */
 static bool is_profiled;
 
+/* The input of the run. */
+static const uint8_t *given;
+static size_t given_length;
+
+/* What the input lacks becomes a word that libFuzzer inserts: hooks of strcmp and its kin hand on
+   only as much as the shorter text has. */
+static void offer(void *pc, const char *word, size_t length)
+{
+    while (length && !word[length - 1])
+        length--;
+    if (length > 2 && !memmem(given, given_length, word, length))
+        __sanitizer_weak_hook_memmem(pc, given, given_length, word, length, NULL);
+}
+
 static void tell_texts(const compared *it)
 {
     void *pc = (void *)(uintptr_t)it->pc;
     const char *left = (const char *)it->left_text, *right = (const char *)it->right_text;
-    size_t length = it->length < TEXT ? it->length : TEXT;
-    if (it->how == WITHIN)
-        __sanitizer_weak_hook_strstr(pc, left, right, NULL);
-    else if (it->how == OF_LENGTH)
+    bool is_sized = it->how == OF_LENGTH || it->how == TO_ZERO_OF_LENGTH;
+    size_t length = is_sized && it->length < TEXT ? it->length : TEXT;
+    if (it->how == OF_LENGTH)
         __sanitizer_weak_hook_memcmp(pc, left, right, length, memcmp(left, right, length));
     else if (it->how == TO_ZERO)
         __sanitizer_weak_hook_strcmp(pc, left, right, strncmp(left, right, TEXT));
-    else
+    else if (it->how == TO_ZERO_OF_LENGTH)
         __sanitizer_weak_hook_strncmp(pc, left, right, length, strncmp(left, right, length));
+    offer(pc, left, it->how == OF_LENGTH ? length : strnlen(left, length));
+    offer(pc, right, it->how == OF_LENGTH ? length : strnlen(right, length));
 }
 
 static void tell(const compared *it)
@@ -63,6 +80,8 @@ int LLVMFuzzerInitialize(int *argc, char ***argv)
 
 int LLVMFuzzerTestOneInput(const uint8_t *data, size_t size)
 {
+    given = data;
+    given_length = size;
     if (tenant_run(data, size, counts, sizeof counts, 1))
         abort();
     return 0;
