@@ -99,30 +99,46 @@ static unsigned crc(const unsigned char *bytes, size_t count)
     return ~sum;
 }
 
-static void enter(unsigned kind, const unsigned char *bytes, size_t length)
+/* Whether the sum after a chunk of so many bytes is that of its kind and its bytes. */
+static int is_whole(const unsigned char *bytes, size_t length)
 {
-    if (kind == HEAD && !row && length)
+    return crc(bytes - 4, length + 4) == word(bytes + length);
+}
+
+static int make_row(const unsigned char *bytes, size_t length)
+{
+    if (!is_whole(bytes, length))
+        return 2;
+    if (!row && length)
         row = tenant_calloc(bytes[0] & 63, 1);
-    for (size_t i = 0; kind == ROWS && row && i < length; i++)
+    return 0;
+}
+
+static int write_row(const unsigned char *bytes, size_t length)
+{
+    if (!is_whole(bytes, length))
+        return 3;
+    for (size_t i = 0; row && i < length; i++)
         row[i] = bytes[i];
+    return 0;
 }
 
 static int parse(const unsigned char *bytes, size_t count)
 {
     size_t at = 0;
-    while (at + 12 <= count) {
+    int bad = 0;
+    while (!bad && at + 12 <= count) {
         size_t length = word(bytes + at);
         unsigned kind = word(bytes + at + 4);
         if (length > count - at - 12)
             return 1;
-        if (kind == HEAD || kind == ROWS) {
-            if (crc(bytes + at + 4, length + 4) != word(bytes + at + 8 + length))
-                return 2;
-            enter(kind, bytes + at + 8, length);
-        }
+        if (kind == HEAD)
+            bad = make_row(bytes + at + 8, length);
+        else if (kind == ROWS)
+            bad = write_row(bytes + at + 8, length);
         at += 12 + length;
     }
-    return 0;
+    return bad;
 }
 #endif
 
