@@ -20,8 +20,9 @@ from tests.support.running import Ran, Word, run, succeed
 from tests.support.tools import need
 from tests.test_python_package import PACKAGE
 
-# Replays of a crash, and runs of libFuzzer within which it finds what comparisons guard.
-TIMES, RUNS = 100, 200_000
+# Replays of a crash; runs of libFuzzer within which it finds what comparisons guard, where it is told
+# them (some 300,000 are enough), and where it is not.
+TIMES, TOLD_RUNS, UNTOLD_RUNS = 100, 5_000_000, 300_000
 
 
 def lines_of(source: str, *wanted: str) -> list[str]:
@@ -159,14 +160,13 @@ def test_a_fuzzer_that_is_missing(tmp_path: pathlib.Path) -> None:
 def test_libfuzzer_is_told_comparisons(
     shared: pathlib.Path, tmp_path: pathlib.Path, tenant: str
 ) -> None:
-    """It finds a bug that a comparison of numbers or of texts guards, and by as many runs that are
-    not compared it finds none."""
+    """It finds a bug that a comparison of numbers or of texts guards; untold it finds none."""
     need("clang", "ld.lld")
     folder = fuzzers.fuzzers(shared, "libfuzzer")
-    for compare, status in (("1", 77), ("0", 0)):
+    for compare, runs, status in (("1", TOLD_RUNS, 77), ("0", UNTOLD_RUNS, 0)):
         corpus = tmp_path / compare
         shutil.copytree(folder / f"{tenant}.corpus", corpus)
-        words: list[Word] = [folder / "libfuzzer", "-seed=1", "-max_len=64", f"-runs={RUNS}",
+        words: list[Word] = [folder / "libfuzzer", "-seed=1", "-max_len=64", f"-runs={runs}",
                              corpus]
         ran = fuzzers.fuzz(folder, words, cwd=tmp_path, TENANT=str(folder / f"{tenant}.elf"),
                            COMPARE=compare)
@@ -189,19 +189,26 @@ def test_afl_is_told_comparisons(
     assert list((found / "default" / "crashes").glob("id:*")), kept
 
 
-@pytest.mark.parametrize("tenant", ("magic", "magic_bytes", "commands", "sum", "chunk"))
+# By the tenant: what the dictionary of its comparisons has.
+SOLVED = {"magic": b"\x41\x9e\x5d\xb2", "magic_bytes": b"", "chunk": b"ROWS"}
+
+
+@pytest.mark.parametrize("tenant", sorted({*SOLVED, "commands"}))
 def test_comparisons_are_solved(
     shared: pathlib.Path, tmp_path: pathlib.Path, tenant: str
 ) -> None:
-    """Without a fuzzer: from the tenant's seed an input that crashes, and the words for it."""
+    """Without a fuzzer: from the tenant's seed an input that crashes, but where it takes several
+    words at once; and a dictionary."""
     need("llvm-nm")
     corpus, words = tmp_path / "corpus", tmp_path / "words"
     shutil.copytree(FUZZ / "corpus" / tenant, corpus)
     ran = run(["python3", "-B", FUZZ / "solve.py", "--dictionary", words,
                fuzzers.guarded(shared, tenant), corpus], extra=in_python(shared, PACKAGE).extra)
-    assert (ran.status, ran.errors) == (0, "") and list(corpus.glob("crash-*")), ran.output
-    told = {"magic": r"\x41\x9e\x5d\xb2", "commands": "".join(rf"\x{it:02x}" for it in b"restore")}
-    assert told.get(tenant, "") in words.read_text()
+    assert (ran.status, ran.errors) == (0, "")
+    assert bool(list(corpus.glob("crash-*"))) == (tenant in SOLVED), ran.output
+    wanted = [SOLVED[tenant]] if tenant in SOLVED else [b"session", b"release", b"restore"]
+    for word in wanted:
+        assert "".join(f"\\x{it:02x}" for it in word) in words.read_text()
 
 
 def test_a_corpus_is_made_smaller(shared: pathlib.Path, tmp_path: pathlib.Path) -> None:
@@ -218,7 +225,7 @@ def test_a_corpus_is_made_smaller(shared: pathlib.Path, tmp_path: pathlib.Path) 
         if fuzzer == "afl":
             words = ["afl-cmin", "-i", corpus, "-o", small, "--", folder / fuzzer]
         ran = fuzzers.fuzz(folder, words, cwd=tmp_path)
-        assert 0 < len(list(small.iterdir())) < len(list(corpus.iterdir())) - 3, ran.errors
+        assert 2 <= len(list(small.iterdir())) <= len(list(corpus.iterdir())) - 3, ran.errors
 
 
 def test_a_campaign_by_exact_runs(

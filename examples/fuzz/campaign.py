@@ -126,7 +126,7 @@ def libfuzzer(campaign: Campaign) -> tuple[float, str]:
 def afl(campaign: Campaign) -> tuple[float, str]:
     """Runs AFL++."""
     found = campaign.out / "default"
-    compared = [] if os.environ.get("COMPARE") == "0" else ["-c", "0"]
+    compared = [] if os.environ.get("COMPARE") == "0" else ["-c", "0", "-l", "3"]
     left = max(int(campaign.end - time.time()), 1)
     run = campaign.start([
         "afl-fuzz", "-i", str(campaign.folder / f"{campaign.tenant}.corpus"), "-o",

@@ -84,8 +84,10 @@ class Solver:
         left, right = self.read(call.left), self.read(call.right)
         if self.names[call.width] in SIZED:
             left, right = left[:call.length], right[:call.length]
-        if self.names[call.width] not in ("memcmp", "bcmp"):
-            left, right = left.split(b"\0")[0], right.split(b"\0")[0]
+        if self.names[call.width] in ("memcmp", "bcmp"):
+            yield left, right
+            yield right, left
+        left, right = left.split(b"\0")[0], right.split(b"\0")[0]
         yield left, right
         yield right, left
 
