@@ -224,7 +224,7 @@ def test_a_corpus_is_made_smaller(shared: pathlib.Path, tmp_path: pathlib.Path) 
         words: list[Word] = [folder / fuzzer, "-merge=1", small, corpus]
         if fuzzer == "afl":
             words = ["afl-cmin", "-i", corpus, "-o", small, "--", folder / fuzzer]
-        ran = fuzzers.fuzz(folder, words, cwd=tmp_path)
+        ran = fuzzers.fuzz(folder, words, cwd=tmp_path, AFL_ALLOW_TMP="1")
         assert 2 <= len(list(small.iterdir())) <= len(list(corpus.iterdir())) - 3, ran.errors
 
 

@@ -114,7 +114,7 @@ def json(folder: pathlib.Path) -> None:
         leave("cJSON.c has no place for its bug")
     planted = folder / "sources/planted_cjson.c"
     planted.write_text(text.replace(*PLANTED), encoding="utf-8")
-    tenant(folder, "json", [f"-I{source_folder}"], [planted])
+    tenant(folder, "json", [f"-I{source_folder}", "--stack=262144"], [planted])
 
 
 TENANTS = {"cards": cards, "labels": labels, "expat": expat, "lua": lua, "json": json,

@@ -42,7 +42,8 @@ class Campaign:
         self.folder, self.tenant = wanted.folder.resolve(), wanted.tenant
         self.until, self.seed = wanted.until, wanted.seed
         self.is_exact = int(wanted.exact)
-        self.program = [wanted.program, *["--exact"] * self.is_exact]
+        self.program = [wanted.program, *["--exact"] * self.is_exact, "--pages",
+                        os.environ.get("PAGES", "256")]
         self.out = self.folder / f"{self.tenant}.{wanted.fuzzer}"
         shutil.rmtree(self.out, ignore_errors=True)
         self.out.mkdir()
