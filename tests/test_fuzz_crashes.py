@@ -20,8 +20,8 @@ from tests.support.running import Ran, Word, run, succeed
 from tests.support.tools import need
 from tests.test_python_package import PACKAGE
 
-# Replays of a crash; runs of libFuzzer within which it finds what comparisons guard, where it is told
-# them (some 300,000 are enough), and where it is not.
+# Replays of a crash; runs of libFuzzer within which it finds what comparisons guard, where it is
+# told them (some 300,000 are enough), and where it is not.
 TIMES, TOLD_RUNS, UNTOLD_RUNS = 100, 5_000_000, 300_000
 
 

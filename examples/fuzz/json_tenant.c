@@ -1,5 +1,5 @@
-/* cJSON as a tenant: it parses the input, and lets a member refer to the definitions. A bug is planted
-   in cJSON, by which the reference frees them too: a double free. */
+/* cJSON as a tenant: it parses the input, and lets a member refer to the definitions. A bug is
+   planted in cJSON, by which the reference frees them too: a use after free. */
 #include <cJSON.h>
 
 #include "../c/tenant.h"
