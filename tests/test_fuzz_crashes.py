@@ -3,7 +3,9 @@ and looked for by other tags."""
 
 import pathlib
 import re
+import shlex
 import shutil
+import signal
 import sys
 
 import pytest
@@ -11,12 +13,16 @@ import pytest
 from tests.support import fuzzers
 from tests.support.checkout import make_stub
 from tests.support.debugger import asked, target
+from tests.support.embedding.built import in_python
 from tests.support.fuzzers import ENTER, FUZZ, NAME, PLANTED, card, field
-from tests.support.instructions import call, program
+from tests.support.instructions import NO_INSTRUCTION, call, copy, load, move, program
 from tests.support.running import Ran, Word, run, succeed
 from tests.support.tools import need
+from tests.test_python_package import PACKAGE
 
-TIMES = 100
+# Replays of a crash; runs of libFuzzer within which it finds what comparisons guard, where it is
+# told them (some 300,000 are enough), and where it is not.
+TIMES, TOLD_RUNS, UNTOLD_RUNS = 100, 5_000_000, 300_000
 
 
 def lines_of(source: str, *wanted: str) -> list[str]:
@@ -90,6 +96,38 @@ def test_nothing_is_run(alone: pathlib.Path, tmp_path: pathlib.Path, words: str)
     assert ran == Ran(2, b"", b"replay.py: ./none is not there (--help)\n")
 
 
+# By its name: what ends a run, and whether that is a crash.
+FREED = [*call(3, 16), copy(9, 0), *call(4)]
+ENDS = {
+    "exit": (call(0, 3), False),
+    "yield": (call(9), False),
+    "no steps left": ([0x14000000], False),
+    "tag": ([*FREED, load(1, 9)], True),
+    "page": ([*move(1, 1 << 40), load(1, 1)], True),
+    "abort of the heap": ([*FREED, copy(0, 9), *call(4)], True),
+    "illegal word": ([NO_INSTRUCTION], True),
+    "breakpoint": ([0xD4200000], True),
+}
+
+
+@pytest.mark.parametrize("fuzzer", ("libfuzzer", "afl"))
+@pytest.mark.parametrize("end", sorted(ENDS))
+def test_which_ends_are_crashes(
+    shared: pathlib.Path, tmp_path: pathlib.Path, fuzzer: str, end: str
+) -> None:
+    """Each end alone, by both fuzzers, whether they are told what is compared or not."""
+    need("clang", "ld.lld", "afl-clang-fast")
+    words, is_crash = ENDS[end]
+    (tmp_path / "tenant.elf").write_bytes(program(*words))
+    (tmp_path / "input").write_bytes(b"A")
+    folder, crashed = fuzzers.fuzzers(shared, fuzzer), {"libfuzzer": 77, "afl": -signal.SIGABRT}
+    given: list[Word] = [folder / fuzzer, *["input"] * (fuzzer == "libfuzzer")]
+    for compare in "01":
+        ran = fuzzers.fuzz(folder, given, cwd=tmp_path, given=b"A", TENANT="tenant.elf", SETUP="0",
+                           STEPS="100", COMPARE=compare)
+        assert ran.status == (crashed[fuzzer] if is_crash else 0), ran.errors
+
+
 def test_a_finding_is_replayed(
     shared: pathlib.Path, alone: pathlib.Path, tmp_path: pathlib.Path
 ) -> None:
@@ -118,6 +156,78 @@ def test_a_fuzzer_that_is_missing(tmp_path: pathlib.Path) -> None:
     assert ran == Ran(1, b"", b"campaign.py: afl-fuzz is not there (Debian: afl++)\n")
 
 
+@pytest.mark.parametrize("tenant", ("magic", "commands"))
+def test_libfuzzer_is_told_comparisons(
+    shared: pathlib.Path, tmp_path: pathlib.Path, tenant: str
+) -> None:
+    """It finds a bug that a comparison of numbers or of texts guards; untold it finds none."""
+    need("clang", "ld.lld")
+    folder = fuzzers.fuzzers(shared, "libfuzzer")
+    for compare, runs, status in (("1", TOLD_RUNS, 77), ("0", UNTOLD_RUNS, 0)):
+        corpus = tmp_path / compare
+        shutil.copytree(folder / f"{tenant}.corpus", corpus)
+        words: list[Word] = [folder / "libfuzzer", "-seed=1", "-max_len=64", f"-runs={runs}",
+                             corpus]
+        ran = fuzzers.fuzz(folder, words, cwd=tmp_path, TENANT=str(folder / f"{tenant}.elf"),
+                           COMPARE=compare)
+        assert ran.status == status, ran.errors[-2000:]
+
+
+@pytest.mark.parametrize("tenant", ("magic", "commands"))
+def test_afl_is_told_comparisons(
+    shared: pathlib.Path, tmp_path: pathlib.Path, tenant: str
+) -> None:
+    """By -c 0 it finds such a bug: what it changes for it is named so."""
+    need("clang", "ld.lld", "afl-fuzz", "afl-clang-fast")
+    folder, found = fuzzers.fuzzers(shared, "afl"), tmp_path / "found"
+    words: list[Word] = ["afl-fuzz", "-i", folder / f"{tenant}.corpus", "-o", found, "-c", "0",
+                         "-V", "60", "-t", "5000", "-s", "1", "--", folder / "afl"]
+    ran = fuzzers.fuzz(folder, words, cwd=tmp_path, AFL_BENCH_UNTIL_CRASH="1",
+                       TENANT=str(folder / f"{tenant}.elf"))
+    kept = [it.name for it in (found / "default").glob("*/id:*")]
+    assert any("op:its" in it for it in kept), ran.output[-2000:] + ran.errors[-2000:]
+    assert list((found / "default" / "crashes").glob("id:*")), kept
+
+
+# By the tenant: what the dictionary of its comparisons has.
+SOLVED = {"magic": b"\x41\x9e\x5d\xb2", "magic_bytes": b"", "chunk": b"ROWS"}
+
+
+@pytest.mark.parametrize("tenant", sorted({*SOLVED, "commands"}))
+def test_comparisons_are_solved(
+    shared: pathlib.Path, tmp_path: pathlib.Path, tenant: str
+) -> None:
+    """Without a fuzzer: from the tenant's seed an input that crashes, but where it takes several
+    words at once; and a dictionary."""
+    need("llvm-nm")
+    corpus, words = tmp_path / "corpus", tmp_path / "words"
+    shutil.copytree(FUZZ / "corpus" / tenant, corpus)
+    ran = run(["python3", "-B", FUZZ / "solve.py", "--dictionary", words,
+               fuzzers.guarded(shared, tenant), corpus], extra=in_python(shared, PACKAGE).extra)
+    assert (ran.status, ran.errors) == (0, "")
+    assert bool(list(corpus.glob("crash-*"))) == (tenant in SOLVED), ran.output
+    wanted = [SOLVED[tenant]] if tenant in SOLVED else [b"session", b"release", b"restore"]
+    for word in wanted:
+        assert "".join(f"\\x{it:02x}" for it in word) in words.read_text()
+
+
+def test_a_corpus_is_made_smaller(shared: pathlib.Path, tmp_path: pathlib.Path) -> None:
+    """-merge=1 and afl-cmin, as the page has them: inputs that reach nothing more are left out."""
+    need("clang", "ld.lld", "afl-cmin", "afl-clang-fast")
+    for fuzzer in ("libfuzzer", "afl"):
+        folder, corpus = fuzzers.fuzzers(shared, fuzzer), tmp_path / f"{fuzzer}.corpus"
+        small = tmp_path / f"{fuzzer}.small"
+        small.mkdir()
+        shutil.copytree(folder / "cards.corpus", corpus)
+        for letter in "BCDE":
+            (corpus / letter).write_bytes(card(field("N", f"{letter}da".encode())))
+        words: list[Word] = [folder / fuzzer, "-merge=1", small, corpus]
+        if fuzzer == "afl":
+            words = ["afl-cmin", "-i", corpus, "-o", small, "--", folder / fuzzer]
+        ran = fuzzers.fuzz(folder, words, cwd=tmp_path, AFL_ALLOW_TMP="1")
+        assert 2 <= len(list(small.iterdir())) <= len(list(corpus.iterdir())) - 3, ran.errors
+
+
 def test_a_campaign_by_exact_runs(
     shared: pathlib.Path, alone: pathlib.Path, tmp_path: pathlib.Path
 ) -> None:
@@ -127,7 +237,11 @@ def test_a_campaign_by_exact_runs(
     shutil.copytree(fuzzers.fuzzers(shared, "libfuzzer"), folder)
     ran = succeed([sys.executable, FUZZ / "campaign.py", folder, "labels", "--exact", "--seconds",
                    "600", "--until", "1", "--program", alone])
-    assert re.search(r"\boverflow\b|\bPastSize\b|Buffer Overflow", ran.output), ran.output
+    told, replayed, page = ran.output.splitlines()[1:]
+    assert re.search(r"\boverflow\b|\bPastSize\b|Buffer Overflow", told), ran.output
+    assert re.search(r": \d+ crash(es)?$", told), ran.output
+    assert "Cause: " in run(shlex.split(replayed)).errors
+    assert pathlib.Path(page.strip()).read_text().startswith("<!")
 
 
 # By the bug: what GDB watches behind the fault, what it prints of it, and who freed the chunk.

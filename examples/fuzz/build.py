@@ -1,22 +1,24 @@
 #!/usr/bin/env python3
 """Builds tenants to be fuzzed, and the fuzzers.
 
-    build.py FOLDER [--library LIBRARY.a] [--tenant cards|labels|expat|lua]...
-             [--fuzzer libfuzzer|afl]... [--counts N]
+    build.py FOLDER [--library LIBRARY.a] [--tenant NAME]... [--fuzzer libfuzzer|afl]...
+             [--counts N]
 
 FOLDER gets NAME.elf of each tenant, the programs libfuzzer and afl, and for each tenant a corpus
-and a dictionary. Without --tenant it is cards, without --fuzzer each one that is there.
+and perhaps a dictionary. NAME is cards (by default), labels, expat or lua, or one whose bug a
+comparison guards: magic, magic_bytes, chunk, commands, sum or json. Without --fuzzer it is each
+one that is there.
 N (4096) is how many counts of edges they have, a power of two up to 65536.
 LIBRARY is crates/tombolopan_c/out/libtombolopan_c.a, which tools/build.sh makes, or that of the
-prefix in which this is installed. expat and lua are built from Debian's sources by
-../libc/tenant-cc. Needed (Debian): clang, lld, libclang-rt-14-dev,
-afl++; for expat and lua llvm, apt and the network too.
+prefix in which this is installed. expat, lua and json are built from Debian's sources by
+../libc/tenant-cc. Needed (Debian): clang, lld, libclang-rt-14-dev, afl++; for these three llvm, apt
+and the network too.
 """
 import pathlib
 import shutil
 import subprocess
 import sys
-from collections.abc import Sequence
+from collections.abc import Callable, Sequence
 from typing import NoReturn
 
 HERE = pathlib.Path(__file__).resolve().parent
@@ -35,7 +37,12 @@ EXPAT = ["xmlparse", "xmlrole", "xmltok"]
 LUA = ("lapi lauxlib lbaselib lcode lcorolib lctype ldblib ldebug ldo ldump lfunc lgc linit liolib "
        "llex lmathlib lmem loadlib lobject lopcodes loslib lparser lstate lstring lstrlib ltable "
        "ltablib ltm lundump lutf8lib lvm lzio").split()
+# What both fuzzers have.
+SHARED = ("kept_tenant", "compared")
+# The bug that is planted in cJSON: who frees a reference frees what it refers to.
+PLANTED = ("item->type = cJSON_Object | cJSON_IsReference;", "item->type = cJSON_Object;")
 Words = Sequence["str | pathlib.Path"]
+Builder = Callable[[pathlib.Path], None]
 
 
 def leave(text: str) -> NoReturn:
@@ -51,20 +58,25 @@ def run(words: Words) -> None:
         leave(f"{' '.join(map(str, words))}\n{ran.stdout[-3000:]}")
 
 
-def bare(folder: pathlib.Path, name: str, sources: Sequence[str]) -> None:
+def bare(folder: pathlib.Path, name: str, *words: str) -> None:
     """A tenant of sources of this folder, without a C library."""
-    files = [HERE.parent / "c/start.c", *(HERE / it for it in sources)]
+    files = [it if it.startswith("-") else HERE / it for it in ("../c/start.c", *words)]
     run([*BARE, "-O2", "-g", "-Wall", "-Wextra", "-o", folder / f"{name}.elf", *files])
 
 
 def cards(folder: pathlib.Path) -> None:
     """The reader of cards."""
-    bare(folder, "cards", ["cards_tenant.c", "cards.c"])
+    bare(folder, "cards", "cards_tenant.c", "cards.c")
 
 
 def labels(folder: pathlib.Path) -> None:
     """The keeper of labels, whose bug no tag shows."""
-    bare(folder, "labels", ["labels.c"])
+    bare(folder, "labels", "labels.c")
+
+
+def guarded(name: str) -> Builder:
+    """One of the readers whose bug a comparison guards."""
+    return lambda folder: bare(folder, name, f"-D{name.upper()}", "guarded.c")
 
 
 def tenant(folder: pathlib.Path, name: str, flags: Words, files: Words) -> None:
@@ -94,23 +106,40 @@ def lua(folder: pathlib.Path) -> None:
     tenant(folder, "lua", [f"-I{src}", "--stack=262144"], [src / f"{it}.c" for it in LUA])
 
 
-TENANTS = {"cards": cards, "labels": labels, "expat": expat, "lua": lua}
+def json(folder: pathlib.Path) -> None:
+    """cJSON, with a bug that is planted."""
+    source_folder = source(folder, "cjson")
+    text = (source_folder / "cJSON.c").read_text(encoding="utf-8")
+    if text.count(PLANTED[0]) != 1:
+        leave("cJSON.c has no place for its bug")
+    planted = folder / "sources/planted_cjson.c"
+    planted.write_text(text.replace(*PLANTED), encoding="utf-8")
+    tenant(folder, "json", [f"-I{source_folder}", "--stack=262144"], [planted])
+
+
+TENANTS = {"cards": cards, "labels": labels, "expat": expat, "lua": lua, "json": json,
+           **{it: guarded(it) for it in ("magic", "magic_bytes", "chunk", "commands", "sum")}}
+
+
+def plain(folder: pathlib.Path, names: Sequence[str], flags: Words) -> list[pathlib.Path]:
+    """Objects that are not instrumented, so that the tenant alone is counted and compares."""
+    made = [folder / f"{name}.o" for name in names]
+    for path in made:
+        run(["clang", "-O2", "-g", *flags, "-c", "-o", path, HERE / f"{path.stem}.c"])
+    return made
 
 
 def libfuzzer(folder: pathlib.Path, flags: Words, linked: Words) -> None:
     """The tenant's edges are the extra counters of libFuzzer."""
-    run(["clang", "-O2", "-g", "-fsanitize=fuzzer", *flags, "-o", folder / "libfuzzer",
-         HERE / "libfuzzer.c", HERE / "kept_tenant.c", *linked])
+    run(["clang", "-fsanitize=fuzzer", "-o", folder / "libfuzzer",
+         *plain(folder, ("libfuzzer", *SHARED), flags), *linked])
 
 
 def afl(folder: pathlib.Path, flags: Words, linked: Words) -> None:
     """The tenant's edges are AFL++'s map: only its own loop is instrumented."""
-    plain = []
-    for name in ("afl_map", "kept_tenant"):
-        plain.append(folder / f"{name}.o")
-        run(["clang", "-O2", *flags, "-c", "-o", plain[-1], HERE / f"{name}.c"])
-    run(["env", "AFL_QUIET=1", "AFL_LLVM_INSTRUMENT=CLASSIC", "afl-clang-fast", "-O2", "-o",
-         folder / "afl", HERE / "afl.c", *plain, *linked])
+    run(["env", "AFL_QUIET=1", "AFL_LLVM_INSTRUMENT=CLASSIC", "afl-clang-fast", "-O2", *flags,
+         "-o", folder / "afl", HERE / "afl.c", *plain(folder, ("afl_map", *SHARED), flags),
+         *linked])
 
 
 def has_libfuzzer() -> bool:
@@ -167,7 +196,8 @@ def main() -> None:
     for name in wanted.tenant or ["cards"]:
         TENANTS[name](folder)
         shutil.copytree(HERE / "corpus" / name, folder / f"{name}.corpus", dirs_exist_ok=True)
-        shutil.copyfile(HERE / f"{name}.dict", folder / f"{name}.dict")
+        if (HERE / f"{name}.dict").exists():
+            shutil.copyfile(HERE / f"{name}.dict", folder / f"{name}.dict")
     flags = [f"-I{over_library.prefix()}/include", f"-DCOUNTS={wanted.counts}"]
     linked = [wanted.library, *heap(wanted.library)]
     for name in fuzzers:

@@ -7,15 +7,18 @@
 FOLDER is one that build.py has filled, TENANT the name of a tenant in it. The fuzzer runs for N
 seconds (60), or until crashes of N kinds are found; SEED is the seed of its own random numbers.
 By --exact accesses are held to the bytes of chunks. FOLDER/TENANT.FUZZER has what it keeps. It
-prints its executions, by the second and by the second of its processor time, what it counts of
-edges, and of each kind of crash the first input, when it was found and by mte_run where: a kind is
-a cause, and the innermost source lines of the tenant where it ended and where the chunk was freed.
+prints its executions, by the second and by the second of its processor time, and what it counts of
+edges. Of each kind of crash it prints when the first was found, how many there are, the command
+that replays the first, and its page by mte_run --html. A kind is a cause, and the innermost source
+lines of the tenant where it ended and where the chunk was freed. By COMPARE=0 in the environment
+the fuzzer is not told what the tenant compares.
 """
 import argparse
 import os
 import pathlib
 import re
 import resource
+import shlex
 import shutil
 import subprocess
 import sys
@@ -39,13 +42,14 @@ class Campaign:
         self.folder, self.tenant = wanted.folder.resolve(), wanted.tenant
         self.until, self.seed = wanted.until, wanted.seed
         self.is_exact = int(wanted.exact)
-        self.program = [wanted.program, *["--exact"] * self.is_exact]
+        self.program = [wanted.program, *["--exact"] * self.is_exact, "--pages",
+                        os.environ.get("PAGES", "256")]
         self.out = self.folder / f"{self.tenant}.{wanted.fuzzer}"
         shutil.rmtree(self.out, ignore_errors=True)
         self.out.mkdir()
         self.image = self.folder / f"{self.tenant}.elf"
         self.began, self.end = time.time(), time.time() + wanted.seconds
-        self.kinds: dict[str, str] = {}
+        self.kinds: dict[str, list[pathlib.Path]] = {}
         self.seen: set[pathlib.Path] = set()
 
     def start(self, words: list[str]) -> subprocess.Popen[str]:
@@ -57,6 +61,11 @@ class Campaign:
             return subprocess.Popen(words, stdout=said, stderr=said, text=True,
                                     env={**os.environ, **extra})
 
+    def words(self, option: str) -> list[str]:
+        """The option for the tenant's dictionary, if it has one."""
+        path = self.folder / f"{self.tenant}.dict"
+        return [option.format(path)] if path.exists() else []
+
     def is_over(self) -> bool:
         """Whether the time is over, or enough is found."""
         return time.time() >= self.end or (self.until > 0 and len(self.kinds) >= self.until)
@@ -65,10 +74,16 @@ class Campaign:
         """Names the kinds of new crashes."""
         for crash in sorted(set(crashes) - self.seen, key=lambda it: it.stat().st_mtime):
             self.seen.add(crash)
-            kind = self.kind(crash)
-            if kind not in self.kinds:
-                when = crash.stat().st_mtime - self.began
-                self.kinds[kind] = f"{when:7.1f} s  {kind}\n           {crash}"
+            self.kinds.setdefault(self.kind(crash), []).append(crash)
+
+    def tell(self, kind: str, page: pathlib.Path) -> str:
+        """The lines of a kind of crash, whose first one gets a page."""
+        first = self.kinds[kind][0]
+        when, count = first.stat().st_mtime - self.began, len(self.kinds[kind])
+        words = [*self.program, "--input", str(first), str(self.image)]
+        replay.told([*words[:-1], "--html", str(page), words[-1]])
+        return (f"{when:7.1f} s  {kind}: {count} {'crash' if count == 1 else 'crashes'}\n"
+                f"           {shlex.join(words)}\n           {page}")
 
     def kind(self, crash: pathlib.Path) -> str:
         """What mte_run says of a crash."""
@@ -97,7 +112,7 @@ def libfuzzer(campaign: Campaign) -> tuple[float, str]:
         left = max(int(campaign.end - time.time()), 1)
         run = campaign.start([
             str(campaign.folder / "libfuzzer"), f"-seed={campaign.seed}", f"-max_len={LONGEST}",
-            f"-dict={campaign.folder}/{campaign.tenant}.dict", f"-max_total_time={left}",
+            *campaign.words("-dict={}"), f"-max_total_time={left}",
             "-print_final_stats=1", f"-artifact_prefix={campaign.out}/", str(kept),
             str(campaign.folder / f"{campaign.tenant}.corpus")])
         run.wait()
@@ -112,11 +127,12 @@ def libfuzzer(campaign: Campaign) -> tuple[float, str]:
 def afl(campaign: Campaign) -> tuple[float, str]:
     """Runs AFL++."""
     found = campaign.out / "default"
+    compared = [] if os.environ.get("COMPARE") == "0" else ["-c", "0", "-l", "3"]
     left = max(int(campaign.end - time.time()), 1)
     run = campaign.start([
         "afl-fuzz", "-i", str(campaign.folder / f"{campaign.tenant}.corpus"), "-o",
-        str(campaign.out), "-x", str(campaign.folder / f"{campaign.tenant}.dict"), "-V", str(left),
-        "-s", str(campaign.seed), "-t", "5000", "--", str(campaign.folder / "afl")])
+        str(campaign.out), *campaign.words("-x{}"), *compared, "-V", str(left), "-s",
+        str(campaign.seed), "-t", "5000", "--", str(campaign.folder / "afl")])
     while run.poll() is None and not campaign.is_over():
         time.sleep(0.5)
         campaign.look((found / "crashes").glob("id:*"))
@@ -158,7 +174,8 @@ def main() -> None:
     print(f"{wanted.tenant}, {wanted.fuzzer}: {done:.0f} executions in {took:.0f} s, {busy:.1f} s "
           f"of a processor: {done / took:.0f} a second, {done / busy:.0f} by its time; {edges}; "
           f"{len(campaign.seen)} crashes of {len(campaign.kinds)} kinds")
-    print("\n".join(campaign.kinds.values()))
+    for number_of, kind in enumerate(campaign.kinds, 1):
+        print(campaign.tell(kind, campaign.out / f"{number_of}.html"))
 
 
 if __name__ == "__main__":

@@ -1,13 +1,13 @@
 #!/usr/bin/env python3
 """Replays the crashes of a fuzzer: each ends the same way each time, and is explained.
 
-    replay.py [--times N] [--seed HEX] [--program MTE_RUN] [--exact] IMAGE CRASH...
+    replay.py [--times N] [--seed HEX] [--pages N] [--program MTE_RUN] [--exact] IMAGE CRASH...
 
 Runs each crash N times (1000) by mte_run, from a start of its own, and compares all that it says,
 byte for byte. A line for each crash: its cause, the source line of the access, of the call that
 made the chunk and of the one that freed it. Exit status 1: a run said something else, or was no
 crash; 2 to 6: that of mte_run, which says why there is no run: 5 where a file cannot be read. SEED
-is that of the fuzzer; --exact is for crashes of one with EXACT=1.
+and pages (256) are those of the fuzzer; --exact is for crashes of one with EXACT=1.
 """
 import pathlib
 import re
@@ -56,12 +56,14 @@ def main() -> None:
     parser.add_argument("crash", nargs="+", type=pathlib.Path)
     parser.add_argument("--times", type=int, default=1000)
     parser.add_argument("--seed", default="1")
+    parser.add_argument("--pages", default="256")
     parser.add_argument("--program", default="mte_run")
     parser.add_argument("--exact", action="store_true")
     wanted = parser.parse_args()
     if not shutil.which(wanted.program):
         parser.error(f"{wanted.program} is not there")
-    program = [wanted.program, *["--exact"] * wanted.exact, "--seed", wanted.seed.rjust(16, "0")]
+    program = [wanted.program, *["--exact"] * wanted.exact, "--seed", wanted.seed.rjust(16, "0"),
+               "--pages", wanted.pages]
     for crash in wanted.crash:
         words = [*program, "--input", str(crash), str(wanted.image)]
         status, said = first = told(words)

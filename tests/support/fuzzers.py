@@ -11,17 +11,18 @@ from tests.support.running import Ran, Word, run, succeed
 from tests.support.tools import need
 
 FUZZ = EXAMPLES / "fuzz"
+BUILT = ("cards", "labels", "magic", "commands")
 START = EXAMPLES / "c" / "start.c"
 CLANG = ("clang", "--target=aarch64-linux-gnu", "-march=armv8.5-a+memtag", "-fuse-ld=lld", "-O2",
          "-g", "-ffreestanding", "-nostdlib", "-static", "-mgeneral-regs-only", "-Wall", "-Wextra")
 
 
-def bare_tenant(shared: pathlib.Path, name: str, *sources: str) -> pathlib.Path:
-    """The image of sources of examples/fuzz."""
+def bare_tenant(shared: pathlib.Path, name: str, source: str, *words: str) -> pathlib.Path:
+    """The image of a source of examples/fuzz, and of another one or with a definition."""
     need("clang", "ld.lld")
 
     def compile_it(path: pathlib.Path) -> None:
-        said = succeed([*CLANG, "-o", path, START, *(FUZZ / it for it in sources)])
+        said = succeed([*CLANG, "-o", path, START, FUZZ / source, *words], cwd=FUZZ)
         assert not said.err, said.errors
 
     return make_once(shared / f"{name}.elf", compile_it)
@@ -40,6 +41,11 @@ def cards(shared: pathlib.Path) -> pathlib.Path:
 def labels(shared: pathlib.Path) -> pathlib.Path:
     """The tenant whose planted bug no tag shows."""
     return bare_tenant(shared, "labels", "labels.c")
+
+
+def guarded(shared: pathlib.Path, name: str) -> pathlib.Path:
+    """A tenant whose planted bug a comparison guards."""
+    return bare_tenant(shared, name, "guarded.c", f"-D{name.upper()}")
 
 
 def field(kind: str, text: bytes = b"") -> bytes:
@@ -62,13 +68,13 @@ PLANTED = {
 
 
 def fuzzers(shared: pathlib.Path, name: str) -> pathlib.Path:
-    """The folder in which build.py has built the cards and one fuzzer."""
+    """The folder in which build.py has built some tenants and one fuzzer."""
     archive = library.static_library(shared)
 
     def fill(path: pathlib.Path) -> None:
         made = path.with_name(f"{path.name}.new")
         succeed([sys.executable, FUZZ / "build.py", made, "--library", archive, "--fuzzer", name,
-                 "--tenant", "cards", "--tenant", "labels"])
+                 *(word for it in BUILT for word in ("--tenant", it))])
         made.rename(path)
 
     return make_once(shared / f"fuzz-{name}", fill)
