@@ -104,12 +104,14 @@ def test_calls_take_few_instructions(host: pathlib.Path, kind: str) -> None:
     assert {name: found[name] for name, most in MOST_OF[kind].items() if found[name] > most} == {}
 
 
-# The most that a fuzzed step may cost, with its edges counted, beside the same step of a run alone.
-MOST_TIMES = 1.3
+# The most that a fuzzed step may cost, with its edges counted, beside the same step of a run alone,
+# and one with its comparisons, beside that.
+MOST_TIMES, MOST_COMPARED = 1.3, 2.2
 
 
 def test_a_fuzzed_step_takes_few_more(shared: pathlib.Path, tmp_path: pathlib.Path) -> None:
-    """A run from a snapshot, with its edges and what restores the machine."""
+    """A run from a snapshot, with its edges and what restores the machine, and with what it
+    compares."""
     need("clang", "ld.lld", "valgrind")
     image = samples.tenant(shared, ROOT / "tests/sources/mixed_bytes.c")
     data = tmp_path / "input"
@@ -119,3 +121,5 @@ def test_a_fuzzed_step_takes_few_more(shared: pathlib.Path, tmp_path: pathlib.Pa
     assert ran.status == 0, ran.errors
     found = re.search(r"([0-9.]+) times that of the library", ran.output)
     assert found and float(found[1]) <= MOST_TIMES, ran.output
+    found = re.search(r"([0-9.]+) times that with edges", ran.output)
+    assert found and float(found[1]) <= MOST_COMPARED, ran.output

@@ -36,6 +36,11 @@ static long peak(void)
     return used.ru_maxrss;
 }
 
+static void ignore(const compared *it)
+{
+    (void)it;
+}
+
 static int compare(const void *first, const void *second)
 {
     const double a = *(const double *)first, b = *(const double *)second;
@@ -65,6 +70,7 @@ int main(int count, char **words)
     int edges = 0;
     fclose(file);
     tenant_load();
+    tenant_compare(0, ignore);
     for (long i = 0; i < turns; i++) {
         rounds[i] = time_round(length, runs);
         first = i ? first : peak();

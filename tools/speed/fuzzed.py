@@ -9,8 +9,8 @@ its first instruction. `--real` takes a program of measure.py and the input of i
 round of `--bytes N`, with its snapshot there. By callgrind, instructions of the machine for each
 step of the tenant behind its snapshot: a run alone by each `--host` (a built mte_host) and by the
 library (tb_alone), and runs from the snapshot (tb_fuzz_run), with their edges counted and with what
-restores the machine. They are counted when the table of instructions, which stays from run to run,
-has grown.
+restores the machine, also with what is compared entered and told (COMPARE=1). They are counted when
+the table of instructions, which stays from run to run, has grown.
 
     --library FILE   libtombolopan_c.a (crates/tombolopan_c/out)
     --host FILE      a built mte_host; may come again
@@ -58,7 +58,8 @@ class Run:
     def __init__(self, options: argparse.Namespace, work: pathlib.Path) -> None:
         self.image, self.data = options.image, options.input
         self.setup, self.pages, self.work = options.setup, options.pages, work
-        self.fuzz = build(options.library, work, "fuzz_runs", FUZZ / "kept_tenant.c")
+        parts = (FUZZ / f"{name}.c" for name in ("kept_tenant", "compared"))
+        self.fuzz = build(options.library, work, "fuzz_runs", *parts)
         self.alone = build(options.library, work, "alone_run")
         # Variables and no command `env`, which callgrind would count in its child's place.
         os.environ.update(TENANT=str(self.image), SETUP=str(self.setup), PAGES=str(self.pages),
@@ -109,11 +110,16 @@ def counts(run: Run, hosts: list[str]) -> None:
     for who, count in plain.items():
         print(f"  alone, {who}: {count / steps:.2f} instructions a step", flush=True)
     before, more = -(-GROWN // steps), max(1, GROWN // steps)
-    few, many = (instructions(run.fuzzed(1, it)) for it in (before, before + more))
-    each = (many - few) / more
-    print(f"  with edges and restores: {each / steps:.2f} instructions a step")
+    each = {}
+    for compared in ("0", "1"):
+        os.environ["COMPARE"] = compared
+        few, many = (instructions(run.fuzzed(1, it)) for it in (before, before + more))
+        each[compared] = (many - few) / more
+    print(f"  with edges and restores: {each['0'] / steps:.2f} instructions a step")
     for who, count in plain.items():
-        print(f"    {each / count:.3f} times that of {who}")
+        print(f"    {each['0'] / count:.3f} times that of {who}")
+    print(f"  with what is compared: {each['1'] / steps:.2f} instructions a step")
+    print(f"    {each['1'] / each['0']:.3f} times that with edges")
 
 
 def real(options: argparse.Namespace, work: pathlib.Path) -> None:
