@@ -182,8 +182,9 @@ def compare(alone: pathlib.Path, folder: pathlib.Path, path: pathlib.Path,
     assert (counts.peak.step, counts.peak.bytes) == heap.peak
     assert heap_by_stack(counts) == {stack: [*row, heap.at_peak[stack]]
                                      for stack, row in heap.sums.items()}
-    assert services_of(counts) == [
-        (step.number, step.service.split("(")[0]) for step in steps[:-1] if step.service]
+    has_ended = any(it.kind == "end" for it in counts.events)
+    assert services_of(counts) == [(step.number, step.service.split("(")[0])
+                                   for step in steps[:len(steps) - has_ended] if step.service]
     assert sum(call.steps for call in counts.calls) == counts.inclusive()[0] == counts.steps
     assert all(0 <= one.first < one.last <= counts.steps for one in counts.long_calls)
     return len(steps)

@@ -12,6 +12,7 @@ import sys
 import time
 from collections import Counter
 from collections.abc import Iterator
+from typing import Any
 
 import pytest
 
@@ -75,7 +76,7 @@ def test_the_format(made: Batch) -> None:
             ran = run(["promtool", "check", "metrics"], stdin=text.encode())
             assert (ran.status, ran.output + ran.errors) == (0, "")
         elif importlib.util.find_spec("prometheus_client"):
-            from prometheus_client import parser
+            parser: Any = importlib.import_module("prometheus_client.parser")
             families = list(parser.text_string_to_metric_families(text))
             assert {it.name for it in families} == {re.split("{", it)[0] for it in names[store]}
         else:
