@@ -99,11 +99,13 @@ NAMES = (
     "NotExec BadHeaders Interpreter SegmentRange Overlap NoEntry",
     "none running exit fault illegal break async abort",
     "none PastSize Freed NoChunk",
+    "none subs adds ands ccmp ccmn cbz tbz sub+cbz eor+cbz call",
 )
 
 
 def texts_of(number: int) -> list[str]:
-    """The seven texts of a number: names of docs/HOST.md and docs/REPORT.md, and of a trespass."""
+    """The eight texts of a number: names of docs/HOST.md and docs/REPORT.md, of a trespass, and of
+    what compares."""
     lists = [names.replace("+", "\0").split(" ") for names in NAMES]
     return [(it[number] if number < len(it) else "unknown").replace("\0", " ") for it in lists]
 
@@ -253,7 +255,7 @@ def test_each_call_is_made() -> None:
     """The lines of this file make every call of the library and of the header."""
     text = (ROOT / "include" / "tombolopan.h").read_text(encoding="utf-8")
     declared = set(re.findall(r"^(?:static inline )?[\w *]*?\b(tb_\w+)\(", text, re.M))
-    assert len(declared) == 27 + 25
+    assert len(declared) == 29 + 26
     source = (DRIVERS / "calls.c").read_text(encoding="utf-8")
     source += (DRIVERS / "fuzzed.c").read_text(encoding="utf-8")
     assert declared <= set(re.findall(r"\b(tb_\w+)\(", source))

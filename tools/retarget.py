@@ -8,6 +8,8 @@ from collections.abc import Mapping, Sequence
 # Words of functions for x86-64 that no other target has.
 PROBED = ' "probe-stack"="inline-asm" "stack-probe-size"="3072"'
 PROCESSOR = ' "target-cpu"="x86-64-v2"'
+# Of what starts a program that is proved.
+OLDEST = ' "target-cpu"="x86-64"'
 # Both targets have frame pointers anyway. A group has one word at least.
 FRAMES = {' "frame-pointer"="all"': " nounwind"}
 

@@ -22,7 +22,9 @@ from wasm import lowered
 TRIPLE = "aarch64-unknown-linux-gnu"
 TARGET = [f"--target={TRIPLE}", "--no-default-config"]
 FROM_IR = ["-O3", "-Wno-override-module", "-ffunction-sections", "-fdata-sections", "-x", "ir"]
-WORDS = {retarget.PROBED: "", retarget.PROCESSOR: ' "target-cpu"="generic"', **retarget.FRAMES}
+GENERIC = ' "target-cpu"="generic"'
+WORDS = {retarget.PROBED: "", retarget.PROCESSOR: GENERIC, retarget.OLDEST: GENERIC,
+         **retarget.FRAMES}
 COMPILER = "aarch64-linux-gnu-gcc"
 OWN_C = ["-O2", "-fPIC", "-Wall", "-Wextra", "-Werror"]
 SYSTEM = pathlib.Path(__file__).resolve().parent / "linux.c"

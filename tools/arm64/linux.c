@@ -86,3 +86,12 @@ ssize_t rattle_env_at(size_t number, uint8_t *to, size_t room)
     (void)number, (void)to, (void)room;
     return -1;
 }
+
+/* A program that was proved for x86-64 asks whether its processor is new enough: it is. */
+const uint8_t *__x86_get_cpuid_feature_leaf(unsigned leaf)
+{
+    static uint8_t all[32];
+    (void)leaf;
+    memset(all, 255, sizeof all);
+    return all;
+}

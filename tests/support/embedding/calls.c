@@ -665,9 +665,9 @@ static void hostile_machine(void) {
 
 static void tell_texts(void) {
     const uint32_t it = (uint32_t)number();
-    printf(" %s; %s; %s; %s; %s; %s; %s", tb_text(it), tb_fault_kind_name(it),
+    printf(" %s; %s; %s; %s; %s; %s; %s; %s", tb_text(it), tb_fault_kind_name(it),
            tb_heap_abort_name(it), tb_script_fault_name(it), tb_refusal_name(it),
-           tb_tenant_status_name(it), tb_trespass_name(it));
+           tb_tenant_status_name(it), tb_trespass_name(it), tb_comparison_name(it));
 }
 
 /* The calls that only this header has, and the simple ones. */

@@ -308,7 +308,8 @@ class Calls:
         """The texts of a number."""
         it = number(words)
         names = (tb.text, tb.fault_kind_name, tb.heap_abort_name, tb.script_fault_name,
-                 tb.refusal_name, tb.tenant_status_name, tb.trespass_name)
+                 tb.refusal_name, tb.tenant_status_name, tb.trespass_name,
+                 tb.comparison_name)
         return " " + "; ".join(name(it) for name in names)
 
 

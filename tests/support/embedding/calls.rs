@@ -386,6 +386,7 @@ fn texts(it: u32) -> String {
         refusal_name(it),
         tenant_status_name(it),
         trespass_name(it),
+        comparison_name(it),
     ];
     format!(" {}", names.join("; "))
 }
