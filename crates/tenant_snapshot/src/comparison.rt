@@ -199,12 +199,13 @@ impl ComparedOperation {
     }
 }
 
-/// What CBZ and CBNZ compare, where a word was attempted right before.
+/// What CBZ and CBNZ at an address compare, where a word was attempted right before.
 #[inline(always)]
 fn compare_with_zero(
     decoder: &mut Decoder,
     before: u32,
     regs: &Regs,
+    pc: u64,
     sf: u8,
     rt: u8,
 ) -> ComparisonEntry
@@ -212,7 +213,7 @@ fn compare_with_zero(
     ensures { result ≡ with_zero (operation_before regs.now (instr_of_word before)) regs.now sf rt }
 {
     let value = truncate(sf, regs.get(rt));
-    let found = match decoder.decode(regs.pc.wrapping_sub(4), before) {
+    let found = match decoder.decode(pc.wrapping_sub(4), before) {
         Some(instr) => find_operation(instr, regs),
         None => None,
     };
@@ -278,7 +279,7 @@ pub(crate) fn compared(
             let kind = if op == 1 { COMPARED_CCMP } else { COMPARED_CCMN };
             Some(compare(kind, sf, truncate(sf, regs.get(rn)), right))
         }
-        Instr::CmpBranch { sf, rt, .. } => Some(compare_with_zero(decoder, before, regs, sf, rt)),
+        Instr::CmpBranch { sf, rt, .. } => Some(compare_with_zero(decoder, before, regs, pc, sf, rt)),
         Instr::TestBranch { b5, b40, rt, .. } => {
             let bit = 1 << (32 * u32::from(b5) + u32::from(b40));
             Some(compare(COMPARED_TBZ, 1, regs.get(rt), bit))
