@@ -12,6 +12,7 @@ import pytest
 from tests.support import debian, places
 from tests.support.acts import EVERY_IMAGE
 from tests.support.explained import ImageActs, run_acts
+from tests.support.library import shared_object
 
 
 def built(name: str) -> pathlib.Path:
@@ -29,12 +30,6 @@ def host() -> pathlib.Path:
 
 
 @pytest.fixture(scope="session")
-def split() -> pathlib.Path:
-    """The program mte_split."""
-    return built("mte_split")
-
-
-@pytest.fixture(scope="session")
 def alone() -> pathlib.Path:
     """The program mte_run."""
     return built("mte_run")
@@ -47,6 +42,13 @@ def shared(tmp_path_factory: pytest.TempPathFactory) -> pathlib.Path:
     folder = (base.parent if base.name.startswith("popen-") else base) / "shared"
     folder.mkdir(exist_ok=True)
     return folder
+
+
+@pytest.fixture
+def split(shared: pathlib.Path, monkeypatch: pytest.MonkeyPatch) -> pathlib.Path:
+    """The script mte_split, over the library."""
+    monkeypatch.setenv("TOMBOLOPAN", str(shared_object(shared)))
+    return places.EXAMPLES / "many" / "mte_split"
 
 
 @pytest.fixture

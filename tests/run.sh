@@ -26,7 +26,7 @@ export RT_JOBS
 saved=$logs/saved
 save() {
     local file
-    for file in crates/*/out/{mte_{host,split,run},*_c.a}{,.unproved,.sources}; do
+    for file in crates/*/out/{mte_{host,run},*_c.a}{,.unproved,.sources}; do
         [[ ! -f $file ]] || (mkdir -p "$saved/${file%/*}" && cp -p "$file" "$saved/$file")
     done
 }
@@ -87,5 +87,5 @@ run_cases first "${first[@]}"
 save
 "$python" tools/gate_cost.py rt ci | tee "$logs/proofs"
 run_cases suite -rs "${first[@]/#/--ignore=}"
-say_commit crates/mte_{host,split,run}/out/mte_{host,split,run}
+say_commit crates/mte_{host,run}/out/mte_{host,run}
 count_cases first proofs suite

@@ -25,6 +25,7 @@ from tests.support.library import shared_object
 from tests.support.once import make_once
 from tests.support.places import EXAMPLES, ROOT
 from tests.support.running import HANG, Ran, run, succeed
+from tests.support.slurm import cluster
 from tests.support.tools import give_up
 
 COUNT = 60
@@ -225,6 +226,32 @@ def test_shares(made: Batch) -> None:
     for number in (3, 1, 2):
         assert made.run("--share", f"{number}/3").status == 0
     assert summary(made.run()) == [RIGHT, f"0 run, {COUNT} kept"]
+
+
+def test_a_node_of_slurm_that_was_killed(made: Batch, tmp_path: pathlib.Path) -> None:
+    """An array of Slurm by the page's command: what ran on a node that was killed is run again, on
+    the other; then nothing is left."""
+    line = re.findall(r"`(sbatch --array.*?)`", (ROOT / "docs" / "MANY_SESSIONS.md").read_text())[0]
+    slow = made.going_wrong(f"{MARK!r} in script and once('begun') and wait()")
+    words = {"SESSIONS": shlex.quote(str(made.sessions)),
+             "tools/batch": shlex.quote(str(ROOT / "tools" / "batch")),
+             "python3": f"{sys.executable}", "1-10": "1-4", "/10": "/4"}
+    for word, other in words.items():
+        line = line.replace(word, other)
+    with cluster(tmp_path / "slurm") as slurm:
+        assert slurm.run("bash", "-c", line, extra=slow.extra).status == 0
+        begun = made.sessions.with_name("faulty") / "waits"
+        until = time.monotonic() + HANG
+        while not (begun.exists() and begun.read_text()):
+            assert time.monotonic() < until
+            time.sleep(0.1)
+        while "PENDING" in slurm.run("squeue", "--noheader", "--format=%T").output:
+            assert time.monotonic() < until
+            time.sleep(0.1)
+        slurm.kill_node(int(begun.read_text()))
+        slurm.finish()
+    ran = made.run()
+    assert (ran.status, summary(ran)) == (0, [RIGHT, f"0 run, {COUNT} kept"])
 
 
 # What is changed

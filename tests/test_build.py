@@ -15,7 +15,7 @@ from tests.support.checkout import copy_files, make_stub
 from tests.support.places import ROOT
 from tests.support.running import Ran, run
 
-PROGRAMS = ("mte_host", "mte_run", "mte_split")
+PROGRAMS = ("mte_host", "mte_run")
 LIBRARY = "libtombolopan_c.a"
 # Proves a crate: its lines, and its program or library.
 TOOLCHAIN = """\
@@ -75,7 +75,7 @@ class Clone:
     """A checkout in which nothing was built, with stubs."""
 
     def __init__(self, folder: pathlib.Path) -> None:
-        self.top = copy_files(folder / "clone", "crates/mte_host/", "crates/mte_split/",
+        self.top = copy_files(folder / "clone", "crates/mte_host/",
                               "crates/mte_run/", "crates/tombolopan_c/", "crates.txt",
                               "tools/build.sh", "tools/sources.sh", "examples/libc/",
                               "examples/rust/")

@@ -4,12 +4,15 @@ from which they go away without a trace. tests/test_release.py has that they are
 import hashlib
 import json
 import pathlib
+import random
 import re
 import shutil
 
 import pytest
 
-from packing.parts import Place, place_of
+from packing import fields
+from packing.parts import PYTHON, Place, place_of
+from packing.release import Release
 from tests.support import debian, debugger, installed, rust_tenants
 from tests.support.debian import NAMES, Root, files_of
 from tests.support.host_sessions import HI_REPORT
@@ -23,7 +26,7 @@ PACKER = ROOT / "tools" / "deb.sh"
 VERSION = (ROOT / "VERSION").read_text(encoding="utf-8").strip()
 # Some files of each package, by patterns of their names.
 FILES = {
-    "tombolopan": ("usr/bin/(mte_host|mte_split|mte_run|mte_why|tenant-cc)",
+    "tombolopan": ("usr/bin/(mte_host|mte_run|mte_why|tenant-cc)",
                    "usr/share/man/man1/mte_run.1.gz", "usr/include/tenant.h",
                    "usr/lib/tombolopan/libc/lib/(libc.a|start.o|large_blocks.o)",
                    "usr/share/bash-completion/completions/mte_run",
@@ -95,6 +98,27 @@ def test_libraries_of_tenants(packages: dict[str, pathlib.Path], to_pack: pathli
         it.removeprefix(top) for it in files_of(packages["tombolopan"]) if it.startswith(top)}
 
 
+@pytest.mark.parametrize("number", range(12))
+def test_module_and_library(number: int) -> None:
+    """The module of Python, which all machines have, takes the library of its own version, also of
+    a machine that has it without proof; and of later ones, and of none before."""
+    need("dpkg")
+    drawn = random.Random(number)
+    parts = [drawn.randint(0, 12), drawn.randint(1, 12)]
+    version = f"{parts[0]}.{parts[1]}{drawn.choice(['', '~20261111.0123456789'])}"
+    module, = (it for it in fields.all_packages("libtombolopan2") if it.name == PYTHON)
+    text = fields.control(module, {"version": version, "least": Release(version, 0).least,
+                                   "shared": "libtombolopan2", "libraries": "",
+                                   "architecture": "any"}, 1)
+    least, = re.findall(r"^Depends: libtombolopan2 \(>= (\S+)\)", text, re.M)
+    for other, is_met in {version: True, f"{version}~unproved": True,
+                          f"{parts[0]}.{parts[1] + 1}": True,
+                          f"{parts[0]}.{parts[1] - 1}": False,
+                          f"{parts[0]}.{parts[1]}~20261110.0123456789": False}.items():
+        ran = run(["dpkg", "--compare-versions", other, "ge", least])
+        assert ran.status == (0 if is_met else 1), (other, least)
+
+
 def test_headers() -> None:
     """All headers of the library are in the one package that a program is built by."""
     headers = sorted((ROOT / "include").iterdir())
@@ -113,7 +137,7 @@ def test_sums(packages: dict[str, pathlib.Path], tmp_path: pathlib.Path) -> None
     told = {it["name"]: it["checksums"] for it in json.loads(text)["packages"]
             if "checksums" in it}
     files = {"tombolopan_c": next(usr.glob("lib/*/libtombolopan.so.2")),
-             **{it: usr / "bin" / it for it in ("mte_host", "mte_split", "mte_run")}}
+             **{it: usr / "bin" / it for it in ("mte_host", "mte_run")}}
     assert told == {name: [{"algorithm": "SHA256",
                             "checksumValue": hashlib.sha256(it.read_bytes()).hexdigest()}]
                     for name, it in files.items()}

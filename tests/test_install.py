@@ -28,10 +28,10 @@ SHARE, LIBC = "share/tombolopan", "share/tombolopan/examples/libc/out"
 # Those of examples/libc, by their comments, and those with options.
 TENANTS = {path.name: ast.get_docstring(ast.parse(path.read_text(encoding="utf-8"))) or ""
            for path in sorted((EXAMPLES / "libc").glob("tenant-*"))}
-COMPLETED = ("mte_host", "mte_split", "mte_run", "mte_why", *TENANTS)
-WITH_STATUSES = ("mte_host", "mte_split", "mte_run", "mte_why", "tenant-cc")
+COMPLETED = ("mte_host", "mte_run", "mte_why", *TENANTS)
+WITH_STATUSES = ("mte_host", "mte_run", "mte_why", "tenant-cc")
 FILES = {
-    "bin/mte_host": EXECUTABLE, "bin/mte_split": EXECUTABLE, "bin/mte_run": EXECUTABLE,
+    "bin/mte_host": EXECUTABLE, "bin/mte_run": EXECUTABLE,
     "include/tombolopan.h": READABLE, "include/tombolopan_explain.h": READABLE,
     "include/tenant.h": READABLE,
     "include/tenant_check.h": READABLE,
@@ -57,7 +57,7 @@ LINKS = {
     "bin/mte_why": "../share/tombolopan/examples/why.sh",
     **{f"bin/{name}": f"../share/tombolopan/examples/libc/{name}" for name in TENANTS},
     **{f"{SHARE}/crates/{name}/out/{name}": f"../../../../../bin/{name}"
-       for name in ("mte_host", "mte_split", "mte_run")},
+       for name in ("mte_host", "mte_run")},
 }
 HEADER = ROOT / "include" / "tombolopan.h"
 HEADERS = (HEADER, ROOT / "include" / "tombolopan_explain.h")
@@ -319,7 +319,7 @@ def rendered(moved: pathlib.Path, page: str) -> str:
     return re.sub(r".\x08", "", ran.output)
 
 
-@pytest.mark.parametrize("name", ["mte_host", "mte_split", "mte_run"])
+@pytest.mark.parametrize("name", ["mte_host", "mte_run"])
 def test_manual_of_a_program(moved: pathlib.Path, name: str) -> None:
     """The page of a program has its usage, and each argument and option of its help."""
     shown = rendered(moved, f"man1/{name}.1")
@@ -355,9 +355,6 @@ def test_manual_has_its_statuses(moved: pathlib.Path, name: str) -> None:
     if name == "mte_run":
         numbers = re.findall(r"^       (\d+)\b", statuses, re.M)
         assert [*map(int, numbers)] == [0, *range(129, 139), 2]
-    if name == "mte_split":
-        numbers = re.findall(r"^       (\d+)\b", statuses, re.M)
-        assert [*map(int, numbers)] == [0, *range(2, 12)]
 
 
 def test_manual_of_a_call(moved: pathlib.Path) -> None:

@@ -32,7 +32,6 @@ class Texts:
 USUAL = frozenset({"--help", "--version"})
 PROGRAMS = {
     "mte_host": Texts("--help", "docs/HOST.md", "", USUAL),
-    "mte_split": Texts("--help", "docs/MANY_SESSIONS.md", "One long session", USUAL),
     "mte_run": Texts("--help-all", "docs/MTE_RUN.md", "", USUAL | {"--help-all"}),
     "tenant-run": Texts("--help", "docs/TENANTS.md", "tenant-run"),
     "tenant-profile": Texts("--help", "docs/PROFILING.md", ""),

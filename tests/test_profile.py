@@ -2,28 +2,34 @@
 that read them."""
 
 import bisect
+import copy
 import json
 import os
 import pathlib
+import random
 import re
 import shutil
+import subprocess
 import sys
 import xml.etree.ElementTree
 from collections import Counter, defaultdict
+from collections.abc import Iterator
 from dataclasses import astuple, dataclass, field
 
 import pytest
 
 from tests.reference import programs
 from tests.reference.runs import Runner
+from tests.support import instructions as a64
 from tests.support.cache import tenant_library
 from tests.support.places import EXAMPLES
 from tests.support.programs import compiled
-from tests.support.running import Word, run, succeed
+from tests.support.running import HANG, Word, run, succeed
 from tests.support.tools import need
 from tests.support.traces import Step, read_trace
 
-sys.path.insert(0, str(EXAMPLES / "embed"))
+sys.path[:0] = [str(EXAMPLES / name) for name in ("embed", "packages")]
+import gcov_lines  # noqa: E402
 from tombolopan_profile import counts as run_counts  # noqa: E402
 from tombolopan_profile import forms, heap  # noqa: E402
 
@@ -35,6 +41,7 @@ DRAWN = int(os.environ.get("TOMBOLOPAN_DRAWN", "200")) // 4
 WAYS: list[list[Word]] = [[], ["--slices", "1,7,1000,1000000"], ["--exact"], ["--check"],
                           ["--steps", "150"], ["--statistics", "--leaks"]]
 BYTES = 4
+SLICE, CANNOT_WRITE, CLOSED = 1 << 20, 6, 141
 PLAIN = 1 << 56
 CALL = re.compile(r"(malloc|calloc|realloc|memalign|free)\(([^)]*)\) = (\w+)$")
 Symbols = list[tuple[int, int, str]]
@@ -346,6 +353,55 @@ def test_a_suite_of_tests(alone: pathlib.Path, counted: pathlib.Path,
     assert refused.status == 126 and "tenant-run: /dev/null/x: " in refused.errors
 
 
+def written(steps: int, times: int) -> bytes:
+    """An image that writes a byte so many times, with so many steps in between."""
+    turns = [*a64.move(20, steps // 2), a64.subtract_with_flags(20, 20, 1), a64.jump_not_equal(-1)]
+    body = [*a64.call(1, a64.CODE, 1), *turns]
+    return a64.program(a64.move(19, times), body, a64.subtract_with_flags(19, 19, 1),
+                       a64.jump_not_equal(-len(body) - 1), a64.call(0, 0))
+
+
+@pytest.fixture(params=["/dev/full", "closed"])
+def unread(request: pytest.FixtureRequest) -> Iterator[int]:
+    """An output that cannot be written: a full disk, a pipe that nobody reads."""
+    if request.param == "closed":
+        reader, output = os.pipe()
+        os.close(reader)
+    else:
+        output = os.open(request.param, os.O_WRONLY)
+    yield output
+    os.close(output)
+
+
+def test_an_output_that_nobody_reads(alone: pathlib.Path, unread: int,
+                                     tmp_path: pathlib.Path) -> None:
+    """The counts are those of the whole run."""
+    drawn = random.Random(0)
+    steps, times = drawn.randrange(SLICE // 2, SLICE), drawn.randrange(3, 6)
+    (tmp_path / "image").write_bytes(written(steps, times))
+    succeed([alone, "--profile", tmp_path / "whole", tmp_path / "image"])
+    ran = subprocess.run([alone, "--profile", tmp_path / "counts", tmp_path / "image"],
+                         stdout=unread, stderr=subprocess.PIPE, timeout=HANG, check=False)
+    assert (ran.returncode, ran.stderr) == (CANNOT_WRITE, b"mte_run: cannot write\n")
+    assert (tmp_path / "counts").read_bytes() == (tmp_path / "whole").read_bytes()
+
+
+def test_an_output_of_tenant_run_that_nobody_reads(
+    alone: pathlib.Path, counted: pathlib.Path, unread: int, tmp_path: pathlib.Path
+) -> None:
+    """tenant-run leaves the counts of the whole run, too."""
+    program = counted.parent / "program.elf"
+    words: list[Word] = [sys.executable, EXAMPLES / "libc" / "tenant-run", f"--alone={alone}"]
+    found: list[bytes] = []
+    for output in (subprocess.DEVNULL, unread):
+        folder = tmp_path / str(len(found))
+        ran = subprocess.run([*words, "--profile", folder, program, "a"], stdout=output, input=b"x",
+                             stderr=subprocess.PIPE, timeout=HANG, check=False)
+        assert ran.returncode == (CLOSED if found else ran.returncode), ran.stderr
+        found.append(next(folder.iterdir()).read_bytes())
+    assert found[0] == found[1]
+
+
 def test_runs_add_up(alone: pathlib.Path, tmp_path: pathlib.Path) -> None:
     """Of several runs each count is the sum; counts of another image are refused."""
     files = []
@@ -443,3 +499,120 @@ def test_lines_beside_gcov(alone: pathlib.Path, tmp_path: pathlib.Path,
     assert {at: theirs[at] for at in shared_lines} == {at: mine[at] > 0 for at in shared_lines}
     # A function's name may be a line above its brace, where its code begins.
     assert {at + 1 for at in theirs.keys() - mine.keys()} <= mine.keys()
+
+
+# ---- runs that differ
+
+# What some names are natively and in a tenant: a char's sign, a wchar_t's, and whether the stack is
+# above 2^40. `more` is the number of a turn.
+VALUES = {"minus": (-1, 255), "wide": (-1, 2 ** 32 - 1), "far": (1, 0)}
+TURNS, ELSE = 4, "} else {"
+HEAD = """\
+#include <stddef.h>
+int main(void)
+{
+    char minus = -1;
+    wchar_t wide = -1;
+    int total = 0;
+    int far = ((unsigned long)&total >> 40 & 255) > 0;
+    for (int more = 0; more < 4; more++) {
+"""
+TAIL = """\
+    }
+    return total == 12345;
+}
+"""
+
+
+@dataclass
+class Statement:
+    """A statement of a drawn program: its line, and what of a condition follows."""
+
+    line: int
+    name: str = ""
+    is_less: bool = False
+    number: int = 0
+    then: "list[Statement]" = field(default_factory=list)
+    otherwise: "list[Statement]" = field(default_factory=list)
+
+    def executed(self, values: dict[str, int]) -> Iterator[int]:
+        """The lines that are executed with some values of the names."""
+        yield self.line
+        if self.name:
+            value = values[self.name]
+            is_met = value < self.number if self.is_less else value > self.number
+            for statement in self.then if is_met else self.otherwise:
+                yield from statement.executed(values)
+
+
+def draw_statements(drawn: random.Random, lines: list[str], depth: int) -> list[Statement]:
+    """Adds the lines of statements; these."""
+    found: list[Statement] = []
+    for _ in range(drawn.randrange(1, 4)):
+        if not depth or drawn.random() < 0.3:
+            lines.append(f"total += {drawn.randrange(1, 9)};")
+            found.append(Statement(len(lines)))
+            continue
+        name, is_less = drawn.choice([*VALUES, "more"]), drawn.random() < 0.5
+        number = drawn.randrange(3)
+        lines.append(f"if ({name} {'<' if is_less else '>'} {number}) {{")
+        made = Statement(len(lines), name, is_less, number)
+        made.then = draw_statements(drawn, lines, depth - 1)
+        lines.append(ELSE)
+        made.otherwise = draw_statements(drawn, lines, depth - 1)
+        lines.append("}")
+        found.append(made)
+    return found
+
+
+def lines_executed(statements: list[Statement], which: int) -> set[int]:
+    """The lines that are executed natively (0) or in a tenant (1)."""
+    values = {name: both[which] for name, both in VALUES.items()}
+    return {line for more in range(TURNS) for statement in statements
+            for line in statement.executed({**values, "more": more})}
+
+
+def ran_both(alone: pathlib.Path, folder: pathlib.Path, text: str) -> run_counts.Counts:
+    """Builds and runs a program natively, by gcov and callgrind, and as a tenant: its counts."""
+    for name in ("native", "tenant"):
+        (folder / name).mkdir()
+        (folder / name / "drawn.c").write_text(text)
+    path = compiled(tenant_library(), folder / "tenant" / "drawn.c", "clang", "-O0",
+                    folder / "tenant" / "drawn.elf", ["-w"])
+    succeed([alone, "--profile", folder / "counts", path])
+    succeed(["clang", "-O0", "-gdwarf-4", "-w", "--coverage", "-o", "drawn", "drawn.c"],
+            cwd=folder / "native")
+    succeed(["./drawn"], cwd=folder / "native")
+    succeed([*gcov_lines.CALLGRIND, f"--callgrind-out-file={folder}/callgrind.out", "./drawn"],
+            cwd=folder / "native")
+    return run_counts.read_files([folder / "counts"])
+
+
+@pytest.mark.parametrize("seed", range(2))
+def test_lines_at_which_runs_differ(alone: pathlib.Path, tmp_path: pathlib.Path,
+                                    seed: int) -> None:
+    """A line that a native run executes and a tenant not, or the other way round, has that reason,
+    as the end of its block has one; a count that is wrong has none."""
+    need("clang", "ld.lld", "llvm-cov", "llvm-symbolizer", "valgrind")
+    lines = HEAD.splitlines()
+    statements = draw_statements(random.Random(seed), lines, 4)
+    counts = ran_both(alone, tmp_path, "\n".join(lines) + "\n" + TAIL)
+    native, tenant = tmp_path / "native", tmp_path / "tenant"
+    found = gcov_lines.difference(gcov_lines.natively(native),
+                                  gcov_lines.by_tenants([counts], tenant), native)
+    differing = lines_executed(statements, 0) ^ lines_executed(statements, 1)
+    doubtful = {line for _, line in found.doubtful if lines[line - 1] != ELSE}
+    assert doubtful == differing and differing
+    witnesses = (gcov_lines.by_callgrind([tmp_path / "callgrind.out"], native),
+                 gcov_lines.by_llvm([counts], tenant))
+    wrong = copy.deepcopy(found)
+    wrong.doubtful = {place: not is_executed for place, is_executed in found.doubtful.items()}
+    wrong.settle(*witnesses)
+    assert wrong.unexplained == found.unexplained and wrong.reasons == found.reasons
+    found.settle(*witnesses)
+    assert not found.unexplained
+    found.reasons.clear()
+    found.doubtful = {place: it for place, it in found.doubtful.items() if place[1] in differing}
+    found.unexplained = dict.fromkeys(found.doubtful, "")
+    found.settle(*witnesses)
+    assert found.reasons == {gcov_lines.RUNS: len(differing)}

@@ -23,7 +23,7 @@ PORTED = [it for it in read_components() if it.linked == "crates"]
 # SPDX 2.3, annex D: expressions of the licences that are here.
 LICENCES = {"MIT", "MIT OR Apache-2.0", "BSD-3-Clause", "Apache-2.0 WITH LLVM-exception",
             "NOASSERTION"}
-PROGRAMS = {"mte_host", "mte_split", "mte_run"}
+PROGRAMS = {"mte_host", "mte_run"}
 
 
 @functools.cache
@@ -162,9 +162,8 @@ def test_version() -> None:
     assert re.fullmatch(r"\d+\.\d+", VERSION)
     source = (ROOT / "crates/common/src/build_info.rt").read_text(encoding="utf-8")
     assert f'const TEXT: &str = "{VERSION}\n' in source
-    for name in ("mte_run", "mte_split"):
-        told = run([program(name), "--version"])
-        assert told.output.startswith(f"{name} {VERSION}\ncommit: ")
+    told = run([program("mte_run"), "--version"])
+    assert told.output.startswith(f"mte_run {VERSION}\ncommit: ")
     page = (ROOT / "CHANGELOG.md").read_text(encoding="utf-8")
     first = re.findall(r"^## (.*)$", page, re.M)[0]
     assert re.fullmatch(rf"{re.escape(VERSION)}, (not released yet|\d{{4}}-\d\d-\d\d)", first)

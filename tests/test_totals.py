@@ -7,6 +7,7 @@ import bisect
 import os
 import pathlib
 import random
+import shutil
 import sys
 from collections.abc import Sequence
 from dataclasses import dataclass
@@ -20,7 +21,7 @@ from tests.support.embedding import folders
 from tests.support.host_sessions import admission
 from tests.support.instructions import call, move, program, subtract_with_flags
 from tests.support.library import shared_object
-from tests.support.places import ROOT
+from tests.support.places import EXAMPLES, ROOT
 from tests.support.running import Ran, run
 
 sys.path.insert(0, str(ROOT / "tools"))
@@ -253,6 +254,43 @@ def test_usage(library: dict[str, str], tmp_path: pathlib.Path) -> None:
         more = ("--program", "true") if not options else options
         ran = Batch(tmp_path / "sessions", library, ("--steps", "9", *more)).run()
         assert (ran.status, ran.output) == (2, "") and said in ran.errors
+
+
+def draw_users(drawn: random.Random, top: pathlib.Path, total: int) -> dict[str, int]:
+    """Writes sessions of some users; the steps that those of each allow, by what was drawn."""
+    allowed: dict[str, int] = {}
+    for user in drawn.sample(["ann", "bob", "cy", "di"], 3):
+        allowed[user] = 0
+        for number in range(drawn.randint(1, 3)):
+            folder = top / user / str(number)
+            folder.mkdir(parents=True)
+            shutil.copy(EXAMPLES / "hi.elf", folder)
+            tenants = list(range(1, drawn.randint(2, 4)))
+            slices = [drawn.randrange(MOST_STEPS + 1) for _ in range(drawn.randint(0, 5))]
+            lines = [*map(admission, tenants), "# slice 1 7", *(
+                f"{' ' * drawn.randrange(2)}slice {drawn.choice([*tenants, 9])} {it}"
+                for it in slices)]
+            (folder / "script").write_text("\n".join(lines) + "\n", encoding="utf-8")
+            (folder / "args").write_text("--frames\n40\nscript\nhi.elf\n", encoding="utf-8")
+            allowed[user] += sum(slices) + total * len(tenants)
+    return allowed
+
+
+@pytest.mark.parametrize("seed", range(6))
+def test_quotas(library: dict[str, str], tmp_path: pathlib.Path, seed: int) -> None:
+    """Sessions run where no user's allow more steps than the quota, by --steps too; else the first
+    such user is named, and nothing runs or is written."""
+    drawn = random.Random(seed)
+    total = drawn.choice([0, 900])
+    allowed = draw_users(drawn, tmp_path / "sessions", total)
+    batch = Batch(tmp_path / "sessions", library, ("--steps", str(total)) if total else ())
+    for quota in {max(allowed.values()) - 1, min(allowed.values()) - 1, 1}:
+        beyond = min(it for it in allowed if allowed[it] > max(quota, 1))
+        ran = batch.run("--quota", str(max(quota, 1)), "--reports", tmp_path / "reports")
+        assert ran == Ran(2, b"", f"batch: the sessions of {beyond} allow {allowed[beyond]} steps, "
+                                  f"and the quota is {max(quota, 1)}\n".encode())
+        assert not batch.store.exists() and not (tmp_path / "reports").exists()
+    assert batch.run("--quota", str(max(allowed.values()))).status == 0
 
 
 def test_counts() -> None:

@@ -1,5 +1,5 @@
 #!/usr/bin/env bash
-# Builds mte_host, mte_split, mte_run, the library for C, and the libraries of tenants: those of C
+# Builds mte_host, mte_run, the library for C, and the libraries of tenants: those of C
 # and C++, and core and alloc of Rust.
 #     tools/build.sh [--unproved] [--arm64] [--only NAME] [--jobs N] [PREFIX]
 #
@@ -22,7 +22,7 @@ source "$here/sources.sh"
 top=$(cd "$here/.." && pwd)
 crates=$top/crates
 libc=$top/examples/libc
-every=(mte_host mte_split libtombolopan_c.a mte_run)
+every=(mte_host libtombolopan_c.a mte_run)
 
 leave() {
     echo "build.sh: $1" >&2

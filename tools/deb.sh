@@ -39,7 +39,7 @@ done
 # Puts what is built for arm64 in place of what is built for this machine, and marks it.
 take_arm64() {
     local name file usr=$work/usr marked=()
-    for name in mte_host mte_split mte_run libtombolopan_c.a; do
+    for name in mte_host mte_run libtombolopan_c.a; do
         file=${1:+$1/arm64/$name}
         if [[ -z $file ]]; then
             file=${name#lib}

@@ -3,7 +3,7 @@
 #     tools/install.sh PREFIX [FOLDER]
 #     tools/install.sh --uninstall PREFIX
 #
-#     PREFIX/bin                  mte_host, mte_split, mte_run, mte_why (why.sh), tenant-cc
+#     PREFIX/bin                  mte_host, mte_run, mte_why (why.sh), tenant-cc
 #                                 and what else is named tenant-.. in examples/libc
 #     PREFIX/lib                  libtombolopan.a, libtombolopan.so.2 (libtombolopan.so leads to it)
 #     PREFIX/include              tombolopan.h, tombolopan_explain.h, tenant.h, tenant_check.h
@@ -16,7 +16,7 @@
 #     PREFIX/share/doc/tombolopan the pages
 #
 # A copy of PREFIX elsewhere works too. What is not built yet is proved and built first
-# (tools/build.sh; with its --unproved it takes minutes). FOLDER has mte_host, mte_split, mte_run
+# (tools/build.sh; with its --unproved it takes minutes). FOLDER has mte_host, mte_run
 # and libtombolopan_c.a that were built elsewhere, and may have libc, which is examples/libc/out of
 # where tools/build.sh was run. DESTDIR, a variable, is put in front of PREFIX.
 set -euo pipefail
@@ -149,7 +149,7 @@ put_examples() {
     put share/tombolopan/isa "$top/isa/a64.rows" "$top/isa/a64.forms"
     ln -s ../share/tombolopan/examples/why.sh "$stage/bin/mte_why"
     # The examples find the programs as in a checkout.
-    for file in mte_host mte_split mte_run; do
+    for file in mte_host mte_run; do
         mkdir -p "$stage/share/tombolopan/crates/$file/out"
         ln -s "../../../../../bin/$file" "$stage/share/tombolopan/crates/$file/out/$file"
     done
@@ -192,12 +192,10 @@ put_libc() {
 # Manual pages and completions, of what each program says of itself and of the pages.
 put_texts() {
     local name call
-    for name in mte_host mte_split; do
-        "$work/$name" --help >"$work/$name.help"
-    done
+    "$work/mte_host" --help >"$work/mte_host.help"
     "$work/mte_run" --help-all >"$work/mte_run.help"
     (cd "$stage/bin" && ./mte_why --help) >"$work/mte_why.help"
-    for name in mte_host mte_split mte_run mte_why "${tenants[@]}"; do
+    for name in mte_host mte_run mte_why "${tenants[@]}"; do
         "$here/manual.py" program "$name" <"$work/$name.help" >"$work/$name.1"
         put share/man/man1 "$work/$name.1"
     done
@@ -209,7 +207,7 @@ put_texts() {
     cp "$work/mte_run.help" "$work/mte_why.help"
     mkdir -p "$stage"/share/{bash-completion/completions,zsh/site-functions}
     mkdir -p "$stage"/share/fish/vendor_completions.d
-    for name in mte_host mte_split mte_run mte_why "${tenants[@]}"; do
+    for name in mte_host mte_run mte_why "${tenants[@]}"; do
         call="$here/completions.py"
         "$call" bash "$name" <"$work/$name.help" >"$stage/share/bash-completion/completions/$name"
         "$call" zsh "$name" <"$work/$name.help" >"$stage/share/zsh/site-functions/_$name"
@@ -257,11 +255,11 @@ copy_all() {
 }
 
 umask 022
-for name in mte_host mte_split mte_run libtombolopan_c.a; do
+for name in mte_host mte_run libtombolopan_c.a; do
     take "$name"
 done
 mkdir -p "$stage/bin"
-put bin "$work/mte_host" "$work/mte_split" "$work/mte_run"
+put bin "$work/mte_host" "$work/mte_run"
 put_libraries
 put_examples
 put_libc

@@ -52,18 +52,7 @@ MANUALS = {
                   "prints the report of a tenant that writes Hi and exits"},
         files={f"{EXAMPLES}/hi.script, {EXAMPLES}/hi.elf": "a first session",
                "share/doc/tombolopan/docs/HOST.md": "more on sessions"},
-        also="mte_split(1), mte_run(1), tenant-cc(1), tombolopan(3)"),
-    "mte_split": Manual(
-        page="MANY_SESSIONS.md", parts={"One long session": "DESCRIPTION"},
-        statuses="One long session",
-        examples={f"mte_split --list --frames 11 {EXAMPLES}/hi.script {EXAMPLES}/hi.elf > ledger":
-                  "writes who is admitted",
-                  "mte_split --tenant 1 --frames 11 "
-                  f"{EXAMPLES}/hi.script {EXAMPLES}/hi.elf > tenant-1": "runs tenant 1 alone",
-                  "mte_split --merge ledger tenant-1": "prints the report that mte_host prints"},
-        files={"share/doc/tombolopan/docs/MANY_SESSIONS.md": "more on many sessions",
-               "share/tombolopan/tools/batch": "runs the parts of sessions on many processors"},
-        also="mte_host(1), mte_run(1)"),
+        also="mte_run(1), tenant-cc(1), tombolopan(3)"),
     "mte_run": Manual(
         page="MTE_RUN.md",
         parts={"": "DESCRIPTION", "Seeds": "SEEDS", "Check": "CHECK", "Statistics": "STATISTICS",

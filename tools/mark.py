@@ -3,9 +3,9 @@
 
     mark.py [--unproved] FILE..
 
-A build leaves dashes in the lines that tb_build_info and the option --version of mte_run and
-mte_split give: they get the commit, whether files differ from it, the toolchain's sum, and proved
-or unproved, in as many bytes.
+A build leaves dashes in the lines that tb_build_info and the option --version of mte_run give:
+they get the commit, whether files differ from it, the toolchain's sum, and proved or unproved, in
+as many bytes.
 A program or shared object gets the same lines as a note too, in a section that is not loaded:
 `readelf -p .note.tombolopan FILE`. Nothing else changes. What is marked already stays as it is.
 Needed: git, rt, objcopy; what git or rt does not say stays dashes.
@@ -25,7 +25,7 @@ SECTION, OWNER, KIND = ".note.tombolopan", b"tombolopan\0", 1
 # The machine of an ELF file whose processor is Arm's.
 ARM64 = (183).to_bytes(2, "little")
 # What gives the lines.
-SAYING = ("mte_run", "mte_split", "libtombolopan")
+SAYING = ("mte_run", "libtombolopan")
 LINES = """\
 {version}
 commit:    {commit:->40}

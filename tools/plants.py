@@ -13,7 +13,7 @@ The cases of the suite that look at the program are tried on each, the quickest 
 is planted in a copy of the checkout, and the border to C is checked.
 
 With --drawn N bodies are drawn by rule instead, in the machine code of mte_run of all its crates
-without exact contracts. FOLDER has the right programs (mte_host, mte_split, mte_run,
+without exact contracts. FOLDER has the right programs (mte_host, mte_run,
 libtombolopan_c.a); they are those of crates/*/out where none is named. Exit status 1 where a body
 is not noticed.
 
@@ -56,11 +56,10 @@ SUITES = {
         "tests/test_explanations_in_gdb.py",
     ],
     "mte_host": ["tests/test_host.py"],
-    "mte_split": ["tests/test_split.py"],
 }
 PROGRAMS = (*SUITES, "libtombolopan_c.a")
 # The crates whose bodies another program than mte_run shows.
-SHOWN_BY = {"mte_host": "mte_host", "mte_split": "mte_split"}
+SHOWN_BY = {"mte_host": "mte_host"}
 
 
 @dataclass(frozen=True)

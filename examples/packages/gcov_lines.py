@@ -1,12 +1,13 @@
 """The lines of a package that were executed, by gcov of its native build and by the counts of its
 tenants, and the reasons of what differs."""
 import bisect
+import functools
 import os
 import pathlib
 import re
 import subprocess
 from collections import Counter, defaultdict
-from collections.abc import Iterable, Iterator
+from collections.abc import Container, Iterable, Iterator
 from dataclasses import dataclass, field
 
 import packages
@@ -31,6 +32,7 @@ class Source:
 
 
 Sources = dict[str, Source]
+Place = tuple[str, int]  # the name of a source and a line
 
 
 def run_of(folder: pathlib.Path, line: str, words: dict[str, str]) -> Counter[str]:
@@ -103,20 +105,7 @@ def natively(folder: pathlib.Path) -> Sources:
     return found
 
 
-def by_gcc(folder: pathlib.Path) -> Sources:
-    """The sources of a folder that gcc built, by its own gcov."""
-    found: Sources = defaultdict(Source)
-    for data in sorted(folder.rglob("*.gcda")):
-        ran = subprocess.run(["gcov", "-t", data.name], cwd=data.parent, timeout=SECONDS,
-                             stdout=subprocess.PIPE, stderr=subprocess.DEVNULL, check=False)
-        for part in ran.stdout.decode(errors="replace").split(":Source:")[1:]:
-            name = source_of(part.partition("\n")[0], data, folder)
-            rows = re.findall(r"^ *(?:(\d+)\*?|[#=]{5}): *(\d+):", part, re.M)
-            for count, number in rows if name else ():
-                found[name or ""].add(int(number), int(count or 0))
-    return found
-
-
+@functools.cache
 def name_below(name: str, folder: pathlib.Path) -> str | None:
     """The name of a source below a folder; one not absolute is that of the only such file."""
     path = pathlib.Path(name)
@@ -140,6 +129,88 @@ def by_tenants(images: Iterable[run_counts.Counts], folder: pathlib.Path) -> Sou
     return found
 
 
+# ---- witnesses, by LLVM's tools
+
+CALLGRIND = ["valgrind", "-q", "--tool=callgrind", "--dump-instr=yes", "--compress-strings=no",
+             "--compress-pos=no"]
+
+
+@dataclass
+class Witness:
+    """The lines of which a first instruction was executed, and those of which any was. A first one
+    may be a jump from what is above, and what follows a jump that a compiler counts to the line
+    before it."""
+
+    begun: set[Place] = field(default_factory=set)
+    touched: set[Place] = field(default_factory=set)
+
+    def add(self, image: pathlib.Path, executed: Iterable[int], folder: pathlib.Path,
+            doubtful: Container[int] = ()) -> None:
+        """Adds the lines of an image whose sources are in a folder. What is doubtful touches
+        none."""
+        addresses, lines = table_of(image)
+        names = {name: name_below(os.path.normpath(name), folder)
+                 for name in {name for name, _ in lines}}
+        for address in executed:
+            at = bisect.bisect_right(addresses, address) - 1
+            if at >= 0 and (name := names[lines[at][0]]):
+                if address not in doubtful:
+                    self.touched.add((name, lines[at][1]))
+                if address == addresses[at]:
+                    self.begun.add((name, lines[at][1]))
+
+
+def table_of(image: pathlib.Path) -> tuple[list[int], list[Place]]:
+    """The addresses from which on the line of an image is another one, and the lines."""
+    rows = re.findall(r"^0x[0-9a-f]{16}", told("llvm-dwarfdump", "--debug-line", str(image)), re.M)
+    text = told("llvm-symbolizer", "--no-inlines", "--functions=none", f"--obj={image}",
+                given="".join(f"{row}\n" for row in sorted(set(rows))))
+    addresses: list[int] = []
+    lines: list[Place] = []
+    for row, place in zip(sorted(set(rows)), text.split("\n\n")):
+        name, number, _ = place.strip().rsplit(":", 2)
+        if lines[-1:] != [(name, int(number))]:
+            addresses.append(int(row, 16))
+            lines.append((name, int(number)))
+    return addresses, lines
+
+
+def told(*words: str, given: str = "") -> str:
+    """What a tool writes."""
+    return subprocess.run(words, input=given, stdout=subprocess.PIPE, text=True, timeout=SECONDS,
+                          check=True).stdout
+
+
+def by_callgrind(files: Iterable[pathlib.Path], folder: pathlib.Path) -> Witness:
+    """The lines of native programs in a folder, by what callgrind wrote of their runs."""
+    executed: dict[str, set[int]] = defaultdict(set)
+    for file in files:
+        program = ""
+        for row in file.read_text(errors="replace").splitlines():
+            if row.startswith("ob="):
+                program = row[3:]
+            elif row.startswith("0x"):
+                executed[program].add(int(row.split()[0], 16))
+    found = Witness()
+    for name, addresses in executed.items():
+        if pathlib.Path(name).is_relative_to(folder):
+            found.add(pathlib.Path(name), addresses, folder)
+    return found
+
+
+def by_llvm(images: Iterable[run_counts.Counts], folder: pathlib.Path) -> Witness:
+    """The lines of tenants, by the instructions that were attempted. Jumps, constants and what is
+    on the stack may be another line's."""
+    found = Witness()
+    for counts in images:
+        image, executed = pathlib.Path(counts.image), counts.executions()
+        words = forms.words_of(image.read_bytes())
+        found.add(image, executed, folder, {
+            at for at in executed if forms.is_jump(words[at]) or forms.is_value(words[at])
+            or forms.is_on_stack(words[at])})
+    return found
+
+
 # ---- reasons
 
 BRACE = "a function's first line, which is that of its brace in a tenant"
@@ -147,7 +218,9 @@ LEFT_OUT = "a function that one of the two builds left out"
 CONDITIONAL = "lines of the preprocessor's other branch"
 NO_CODE = "a line without an instruction of its own"
 ARGUMENT = "a line of arguments, which a macro of one of the C libraries has in its first line"
-CLANG = "a line that was executed by clang's gcov, and neither by gcc's nor by a tenant"
+ATTRIBUTED = "a line of which callgrind says natively what the tenant's counts say, and gcov not"
+RUNS = "a line at which the runs differ: callgrind says natively what gcov says"
+JUMP = "a line that the counts alone have, by a constant behind a jump that was not reached"
 CONDITION = re.compile(r"\s*#\s*(if|el|endif)")
 
 
@@ -228,15 +301,35 @@ class Difference:
 
     lines: int = 0
     reasons: Counter[str] = field(default_factory=Counter)
-    unexplained: dict[tuple[str, int], str] = field(default_factory=dict)
-    doubtful: set[tuple[str, int]] = field(default_factory=set)
+    unexplained: dict[Place, str] = field(default_factory=dict)
+    doubtful: dict[Place, bool] = field(default_factory=dict)  # whether a tenant executed it
 
-    def settle(self, gcc: Sources) -> None:
-        """Gives a reason to lines that were executed by clang's gcov alone."""
-        for name, number in sorted(self.doubtful):
-            if name in gcc and gcc[name].lines.get(number) == 0:
-                del self.unexplained[name, number]
-                self.reasons[CLANG] += 1
+    def settle(self, native: Witness, tenant: Witness) -> None:
+        """Gives reasons to lines that both have."""
+        for place, is_executed in sorted(self.doubtful.items()):
+            reason = (why_executed if is_executed else why_not)(place, native, tenant)
+            if reason:
+                del self.unexplained[place]
+                self.reasons[reason] += 1
+
+
+def why_executed(place: Place, native: Witness, tenant: Witness) -> str:
+    """Why a tenant's counts have a line that gcov has not, if that is known."""
+    is_sure = place in tenant.begun or place in tenant.touched
+    if place in native.begun and is_sure:
+        return ATTRIBUTED
+    if place in native.touched:
+        return ""
+    return RUNS if is_sure else JUMP
+
+
+def why_not(place: Place, native: Witness, tenant: Witness) -> str:
+    """Why a tenant's counts have a line not that gcov has, if that is known."""
+    if place in tenant.begun or place in tenant.touched:
+        return ""
+    if place in native.begun:
+        return RUNS
+    return "" if place in native.touched else ATTRIBUTED
 
 
 def difference(theirs: Sources, mine: Sources, folder: pathlib.Path) -> Difference:
@@ -253,6 +346,6 @@ def difference(theirs: Sources, mine: Sources, folder: pathlib.Path) -> Differen
             (name, number): f"{name}:{number}: a tenant {both.mine.lines.get(number, NONE)}, gcov "
             f"{both.theirs.lines.get(number, NONE)}: {text[number - 1].strip()[:60]}"
             for number, reason in reasons.items() if not reason}
-        found.doubtful |= {(name, number) for number, reason in reasons.items()
-                           if not reason and both.mine.lines.get(number) == 0}
+        found.doubtful |= {(name, number): both.mine.lines[number] > 0
+                           for number in reasons.keys() & both.shared if not reasons[number]}
     return found

@@ -12,11 +12,11 @@ pprof and ms_print have to read the forms, with the same totals and without a wa
 with the most steps.
 
 A line of the package's sources that one has and the other has not, or that one says was executed
-and the other that it was not, counts by a reason (gcov_lines.py). A line says what came of each
-package; FOLDER keeps copies and results. `--write` writes pictures of zlib and Lua into
-docs/pictures, and parts of docs/PROFILING.md and docs/project/PACKAGES.md. The exit status is 1
-where something is wrong, or a line differs without a reason. Needed beside what packages.py needs:
-gcc, llvm, lcov, valgrind, golang.
+and the other that it was not, counts by a reason (gcov_lines.py): for the latter callgrind counts
+the native build in one more run. A line says what came of each package; FOLDER keeps copies and
+results. `--write` writes pictures of zlib and Lua into docs/pictures, and parts of
+docs/PROFILING.md and docs/project/PACKAGES.md. The exit status is 1 where something is wrong, or a
+line differs without a reason. Needed beside what packages.py needs: llvm, lcov, valgrind, golang.
 """
 import concurrent.futures
 import datetime
@@ -24,6 +24,7 @@ import functools
 import itertools
 import json
 import pathlib
+import shlex
 import shutil
 import subprocess
 import sys
@@ -45,7 +46,7 @@ ROOT = HERE.parents[1]
 PAGE, PICTURES = ROOT / "docs" / "PROFILING.md", ROOT / "docs" / "pictures"
 REASONS = ROOT / "docs" / "project" / "PACKAGES.md"
 SCRIPT = "examples/packages/profiled.py"
-FLAGS = "-O0 -g -w"
+FLAGS, NATIVE_FLAGS = "-O0 -g -w", "-O0 -gdwarf-4 -w"  # which valgrind reads
 READ = 1  # of how many images of a package the tools read the forms
 DRAWN = {"zlib": "minigzip", "lua5.4": "lua"}
 COVERED = "libb64"
@@ -81,6 +82,15 @@ class Result:
     build: str = ""
 
 
+@dataclass(frozen=True)
+class Ran:
+    """A command that ends alike in both builds: the statuses of its programs, and their counts."""
+
+    command: str
+    statuses: Counter[str]
+    files: list[pathlib.Path]
+
+
 Images = dict[str, tuple[run_counts.Counts, list[pathlib.Path]]]
 
 
@@ -102,16 +112,16 @@ def environments(package: packages.Package, place: packages.Place,
     wrapper.chmod(0o755)
     short = packages.without_blanks(wrapper, place)
     tenant, native = packages.tenant_words(package, place), packages.native_words(place)
-    for words in (tenant, native):
-        words |= {"CFLAGS": FLAGS, "CXXFLAGS": FLAGS, "RUN": f"{short} {words['RUN']}"}
+    for words, flags in ((tenant, FLAGS), (native, NATIVE_FLAGS)):
+        words |= {"CFLAGS": flags, "CXXFLAGS": flags, "RUN": f"{short} {words['RUN']}"}
     native |= {"CC": "clang --coverage", "CXX": "clang++ --coverage"}
     return tenant, native
 
 
 def run_both(package: packages.Package, work: pathlib.Path, result: Result,
-             words: tuple[dict[str, str], dict[str, str]]) -> list[pathlib.Path]:
-    """Runs the commands of a package in both builds; the counts of those that end alike."""
-    files = []
+             words: tuple[dict[str, str], dict[str, str]]) -> list[Ran]:
+    """Runs the commands of a package in both builds; those that end alike."""
+    ran = []
     for number, line in enumerate(package.run):
         folder = work / "counts" / str(number)
         folder.mkdir(parents=True)
@@ -119,8 +129,9 @@ def run_both(package: packages.Package, work: pathlib.Path, result: Result,
         wanted = gcov_lines.run_of(work / "tenant", line, {**words[0], **profile})
         reason = gcov_lines.ran_natively(work / "native", line, words[1], wanted)
         result.commands.update([reason or COMPARED])
-        files += sorted(folder.iterdir()) if not reason else []
-    return files
+        if not reason:
+            ran.append(Ran(line, wanted, sorted(folder.iterdir())))
+    return ran
 
 
 def read_forms(images: Images, work: pathlib.Path, result: Result) -> None:
@@ -138,14 +149,19 @@ def read_forms(images: Images, work: pathlib.Path, result: Result) -> None:
                          counts, run_counts.read_files(files[:1]), work / f"forms.{number}")]
 
 
-def second_opinion(package: packages.Package, place: packages.Place, work: pathlib.Path,
-                   words: dict[str, str]) -> gcov_lines.Sources:
-    """The lines that were executed by a build of gcc, whose gcov counts otherwise."""
-    own = {**words, "CC": "gcc --coverage", "CXX": "g++ --coverage"}
-    if not checked.built(package, work / "gcc", own, place):
-        for line in package.run:
-            gcov_lines.run_of(work / "gcc", line, own)
-    return gcov_lines.by_gcc(work / "gcc")
+def run_natively_again(commands: list[Ran], work: pathlib.Path,
+                       words: dict[str, str]) -> gcov_lines.Witness:
+    """The lines that the native build executes, by callgrind; ValueError where it ends otherwise
+    there."""
+    folder = work / "callgrind"
+    folder.mkdir()
+    tool = shlex.join([*gcov_lines.CALLGRIND, f"--callgrind-out-file={folder}/%p"])
+    for ran in commands:
+        ended = gcov_lines.run_of(work / "native", ran.command,
+                                  {**words, "RUN": f"{words['RUN']} {tool}"})
+        if ended != ran.statuses:
+            raise ValueError(f"callgrind: {dict(ended)}, not {dict(ran.statuses)}: {ran.command}")
+    return gcov_lines.by_callgrind(folder.iterdir(), work / "native")
 
 
 def profiled(package: packages.Package, place: packages.Place) -> Result:
@@ -162,12 +178,14 @@ def profiled(package: packages.Package, place: packages.Place) -> Result:
     if any(reasons):
         result.wrong.append(f"not built: {' '.join(reasons)}")
         return result
-    images = counted(run_both(package, work, result, words))
+    commands = run_both(package, work, result, words)
+    images = counted([file for ran in commands for file in ran.files])
     read_forms(images, work, result)
     mine = gcov_lines.by_tenants((counts for counts, _ in images.values()), work / "tenant")
     found = gcov_lines.difference(gcov_lines.natively(work / "native"), mine, work / "native")
     if found.doubtful:
-        found.settle(second_opinion(package, place, work, words[1]))
+        found.settle(run_natively_again(commands, work, words[1]), gcov_lines.by_llvm(
+            (counts for counts, _ in images.values()), work / "tenant"))
     result.lines, result.reasons = found.lines, found.reasons
     result.unexplained = list(found.unexplained.values())
     result.files = {name: [len(source.lines), forms.hits(source.lines)]

@@ -33,6 +33,10 @@ def once(name):
 def end():
     os.kill(os.getpid(), signal.SIGKILL)
 
+def wait():
+    pathlib.Path({folder!r}, "waits").write_text(str(os.getpid()))
+    time.sleep(900)
+
 def session(frames, script, files):
     {act}
     return _real.session(frames, script, files)

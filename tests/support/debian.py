@@ -3,16 +3,20 @@
 import os
 import pathlib
 import subprocess
+import urllib.request
 from collections.abc import Mapping, Sequence
 
 from tests.support import installed
 from tests.support.once import make_once
-from tests.support.places import ROOT
+from tests.support.places import ROOT, TESTS
 from tests.support.running import Ran, Word, run, succeed
-from tests.support.tools import git, need
+from tests.support.tools import git, give_up, need
 
 NAMES = {"tombolopan", "libtombolopan2", "libtombolopan-dev", "python3-tombolopan",
          "tombolopan-doc"}
+# Debian's archive, of which tests/debian_root.sh makes a root.
+MIRROR = os.environ.get("TOMBOLOPAN_MIRROR", "http://deb.debian.org/debian")
+ROOT_SECONDS = 3600
 # What the packages need of the system, which a root has at its beginning.
 SYSTEM = ("libc6", "python3")
 LEFT_OUT = ("Depends", "Pre-Depends", "Recommends", "Suggests", "Conflicts", "Breaks", "Replaces",
@@ -67,6 +71,25 @@ def older(package: pathlib.Path, folder: pathlib.Path) -> pathlib.Path:
     (content / "usr/share/doc" / name / "gone").touch()
     succeed(["dpkg-deb", "--root-owner-group", "-Znone", "--build", content, made])
     return made
+
+
+def need_archive(machine: str) -> None:
+    """Skips a test where no root of Debian can be made for a machine."""
+    need("mmdebstrap", "chroot", *([] if machine == "amd64" else ["qemu-aarch64-static"]))
+    if os.geteuid() != 0:
+        give_up("a root of Debian is made by root alone")
+    try:
+        urllib.request.urlopen(f"{MIRROR}/dists/bookworm/Release", timeout=20).close()
+    except OSError as error:
+        give_up(f"{MIRROR} is not reached: {error}")
+
+
+def try_in_root(machine: str, packages: pathlib.Path, image: pathlib.Path,
+                earlier: pathlib.Path) -> str:
+    """Installs packages in a new root of Debian, over others too, and removes them; what is said
+    of it."""
+    words: list[Word] = [TESTS / "debian_root.sh", machine, packages, image, earlier]
+    return succeed(words, seconds=ROOT_SECONDS, extra={"TOMBOLOPAN_MIRROR": MIRROR}).errors
 
 
 def stanza(name: str) -> str:

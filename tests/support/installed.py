@@ -14,7 +14,7 @@ from tests.support.running import Ran, run, succeed
 from tests.support.tools import need
 
 INSTALLER = ROOT / "tools" / "install.sh"
-PROGRAMS = ("mte_host", "mte_split", "mte_run")
+PROGRAMS = ("mte_host", "mte_run")
 # A program for the host or for a tenant, which reads what it has freed.
 FREED = """\
 #include <stdio.h>

@@ -32,6 +32,7 @@ from batch.driver import Batch
 from batch.engines import Engine, LocalEngine
 from batch.metrics import metrics_of
 from batch.planning import Budget
+from batch.quota import beyond_quota
 from batch.sample import Sample
 from batch.sessions import BadList, Place, Session, places_of, share_of
 from batch.splitting import Split
@@ -110,6 +111,9 @@ def parser_of_all() -> Parser:
         "commands like mte_split for these")
     add("--steps", type=positive, metavar="N",
         help="lead each tenant on to N steps in all, over its yields")
+    add("--quota", type=positive, metavar="N",
+        help="run nothing where the sessions of a user, the first folder of their names, allow "
+        "more than N steps in all")
     add("--share", type=share, metavar="I/N",
         help="take the Ith of N shares of the sessions alone; with --split, of their parts")
     add("--sample", type=between(0, 100), metavar="PERCENT",
@@ -256,6 +260,8 @@ def batch_of(given: argparse.Namespace, program: str, store: Store, total: int) 
 def run(given: argparse.Namespace) -> tuple[list[Verdict], Work]:
     """Runs the sessions."""
     found = places_of(given.sessions)
+    if given.quota and (beyond := beyond_quota(found, given.quota, given.steps or 0)):
+        raise Usage(beyond)
     if given.share and not given.split:
         found = share_of(found, *given.share)
     places = {it.name: it for it in found}

@@ -11,7 +11,7 @@ from typing import Optional
 from packing.release import ROOT
 from wasm.lowered import is_current
 
-PROGRAMS, LIBRARY = ("mte_host", "mte_split", "mte_run"), "libtombolopan_c.a"
+PROGRAMS, LIBRARY = ("mte_host", "mte_run"), "libtombolopan_c.a"
 FILES = (*PROGRAMS, LIBRARY)
 TENANTS, ARM64 = "libc", "arm64"
 

@@ -10,7 +10,7 @@ HERE = pathlib.Path(__file__).resolve().parent
 ROOT = HERE.parent.parent
 UNKNOWN = "NOASSERTION"
 # What is built of the crates: programs by their names, and the library.
-PRODUCTS = ("mte_host", "mte_split", "mte_run", "tombolopan_c")
+PRODUCTS = ("mte_host", "mte_run", "tombolopan_c")
 
 
 @dataclass(frozen=True)

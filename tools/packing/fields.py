@@ -11,8 +11,9 @@ ANY, ALL = "any", "all"
 
 @dataclass(frozen=True)
 class Package:
-    """A package. {version}, {shared} and {libraries} of `depends` are the version, the package of
-    the shared object, and what has the libraries that its files need."""
+    """A package. {version}, {least}, {shared} and {libraries} of `depends` are the version and the
+    lowest one of its sources, the package of the shared object, and what has the libraries that its
+    files need."""
 
     name: str
     architecture: str
@@ -47,7 +48,7 @@ def all_packages(shared: str) -> tuple[Package, ...]:
         Package(PYTHON, ALL, "python", "Tombolopan's library for Python",
                 "A library that runs sessions of A64 programs, or one of them step by step, over\n"
                 "a modelled memory with tags. This package has the module for Python 3.",
-                depends="{shared} (>= {version}), python3:any", suggests=PAGES),
+                depends="{shared} (>= {least}), python3:any", suggests=PAGES),
         Package(PAGES, ALL, "doc", "pages of Tombolopan",
                 "The pages of Tombolopan: sessions, tenants, reports, debugging, embedding, and\n"
                 "what is proved. With the list of what is inside, in SPDX's format.",

@@ -18,7 +18,7 @@ from packing.notices import notice
 from packing.parts import LINKS, PAGES, PROGRAMS, Place, pkg_config, place_of
 from packing.release import Release
 
-PROGRAM_NAMES = ("mte_host", "mte_split", "mte_run")
+PROGRAM_NAMES = ("mte_host", "mte_run")
 CHANGELOG = """\
 tombolopan ({version}) unstable; urgency=medium
 
@@ -190,8 +190,8 @@ class Packer:
     def control_files(self, package: Package) -> Iterator[tuple[str, str]]:
         """The files of a package's folder DEBIAN."""
         top = self.top(package.name)
-        values = {"version": self.release.version, "shared": self.shared,
-                  "libraries": self.needed(package),
+        values = {"version": self.release.version, "least": self.release.least,
+                  "shared": self.shared, "libraries": self.needed(package),
                   "architecture": self.machine.name}
         files = sorted(it for it in top.rglob("*") if it.is_file() and not it.is_symlink())
         kilobytes = sum((it.stat().st_size + 1023) // 1024 for it in files) + len(files)

@@ -9,6 +9,7 @@ from datetime import datetime, timezone
 from email.utils import format_datetime
 
 ROOT = pathlib.Path(__file__).resolve().parent.parent.parent
+UNPROVED = "~unproved"
 
 
 def read_version() -> str:
@@ -50,6 +51,11 @@ class Release:
         return datetime.fromtimestamp(self.seconds, timezone.utc)
 
     @property
+    def least(self) -> str:
+        """The version that these sources have on a machine where they are built without proof."""
+        return self.version.removesuffix(UNPROVED) + UNPROVED
+
+    @property
     def mail_date(self) -> str:
         """The date as a changelog has it."""
         return format_datetime(self.moment)
@@ -65,4 +71,4 @@ def find_release(is_unproved: bool) -> Release:
         day = datetime.fromtimestamp(seconds, timezone.utc).strftime("%Y%m%d")
         commit = git("rev-parse", "--short=10", "HEAD")
         version += f"~{day}.{commit}{'.changed' if is_changed() else ''}"
-    return Release(version + ("~unproved" if is_unproved else ""), seconds)
+    return Release(version + (UNPROVED if is_unproved else ""), seconds)

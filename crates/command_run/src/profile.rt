@@ -1,16 +1,17 @@
 //! The profile of a run, in a file.
 
 use crate::request::RunRequest;
-use debuggee::CoreSubject;
+use mte_svc::TenantParts;
 use run_profile::ProfileFile;
 use run_terms::Failure;
 use std::io;
 use tenant_run::{Observer, WholeFile};
 
-/// Writes the profile of a run into the file that is named, if one is.
+/// Writes the profile of a run of an image into the file that is named, if one is.
 pub fn write_profile<'a>(
     request: &RunRequest<'a, '_>,
-    subject: &CoreSubject<'_>,
+    image: &str,
+    parts: &TenantParts,
     observer: &Observer<'_>,
 ) -> Result<(), Failure<'a>> {
     let (Some(name), Some(profile)) = (&request.options.output.profile, observer.profile()) else {
@@ -18,8 +19,8 @@ pub fn write_profile<'a>(
     };
     let account = ProfileFile {
         profile,
-        name: subject.name,
-        steps: subject.parts.history.steps,
+        name: image,
+        steps: parts.history.steps,
     };
     let name = name.as_str();
     write_file(request.rt, &account, name).map_err(|error| Failure::of_write(&error, name))

@@ -2,6 +2,7 @@
 
 use crate::core_dump::mode_in;
 use crate::files::{read_file, read_input};
+use crate::profile::write_profile;
 use crate::replay::Replayed;
 use crate::request::{Run, RunRequest};
 use crate::session_replay::{SessionReplay, events_of};
@@ -44,15 +45,12 @@ fn run_tenant<'a>(
     };
     let mut observer = observer_of(rt, options, run.image.bytes, request.suppressions)?;
     let ran = tenant.run(rt, options, &mut bench, &mut observer);
-    let TenantBench {
-        parts,
-        mut memory,
-        ..
-    } = bench;
+    let (parts, mut memory) = bench.into_machine();
     tell_run(request, &run, ran, &parts, &mut memory, &mut observer)
 }
 
-/// Says why a tenant ended, if it ran. All is borrowed, so that no end has to drop it.
+/// Says why a tenant ended, if it ran. Where its output was not written, its profile is
+/// nevertheless. All is borrowed, so that no end has to drop it.
 fn tell_run<'a>(
     request: &RunRequest<'a, '_>,
     run: &Run<'_>,
@@ -61,6 +59,9 @@ fn tell_run<'a>(
     memory: &mut Flat,
     observer: &mut Observer<'_>,
 ) -> Result<u8, Failure<'a>> {
+    if let Err(Failure::Write) = ran {
+        write_profile(request, run.image.name, parts, observer)?;
+    }
     ran?;
     tell_end(request, run, parts, memory, observer)
 }
@@ -100,11 +101,7 @@ fn tell_replay<'a>(
     observer: &mut Observer<'_>,
 ) -> Result<u8, Failure<'a>> {
     let Replayed { bench, image } = found;
-    let TenantBench {
-        parts,
-        mut memory,
-        ..
-    } = bench;
+    let (parts, mut memory) = bench.into_machine();
     tell_replayed(request, session, image, &parts, &mut memory, observer)
 }
 

@@ -118,7 +118,7 @@ fn tell_into<'a, W: Write>(
     let status = account.status();
     write_files(rt, account.report, options, status, memory)?;
     dump_core(request, subject, memory)?;
-    write_profile(request, subject, observer)?;
+    write_profile(request, subject.name, subject.parts, observer)?;
     end_lines(options, observer)?;
     let _ = account.write_end(out);
     let _ = out.flush();

@@ -68,13 +68,22 @@ pub(crate) struct NestedCall<'a> {
 }
 
 /// The inlined calls at some addresses.
-#[derive(Drop)]
 pub struct InlinedCalls<'a> {
     /// The addresses, the lowest first.
     pub(crate) addresses: Vec<u64>,
     /// The place of the innermost call of each.
     pub(crate) innermost: Vec<Option<usize>>,
     pub(crate) links: Vec<NestedCall<'a>>,
+}
+
+impl<'a> Drop for InlinedCalls<'a> {
+    fn drop(self) {
+        let InlinedCalls {
+            addresses: _,
+            innermost: _,
+            links: _,
+        } = self;
+    }
 }
 
 impl<'a> InlinedCalls<'a> {

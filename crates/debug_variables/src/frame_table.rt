@@ -167,7 +167,6 @@ impl FrameSlot {
 
 /// The variables in the frames of an image's functions, and where those of the image itself are
 /// declared.
-#[derive(Drop)]
 pub struct FrameVariables {
     /// The lowest first.
     functions: Vec<FrameFunction>,
@@ -179,6 +178,18 @@ pub struct FrameVariables {
     blocks: BlockTable,
     /// The lowest first.
     pub(crate) declared: Vec<DeclaredObject>,
+}
+
+impl Drop for FrameVariables {
+    fn drop(self) {
+        let FrameVariables {
+            functions: _,
+            slots: _,
+            variables: _,
+            blocks: _,
+            declared: _,
+        } = self;
+    }
 }
 
 /// Where a variable of the image is declared.

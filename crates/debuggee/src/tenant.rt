@@ -27,7 +27,6 @@ use std::alloc::{AllocError, Global};
 
 /// A tenant alone, which attempts its instructions one at a time, or a slice at a time, and can
 /// begin again. Nothing else changes it.
-#[derive(Drop)]
 pub struct Debuggee<'a> {
     admission: Admission<'a>,
     cuts: Cuts<'a>,
@@ -46,6 +45,22 @@ pub struct Debuggee<'a> {
     // It is where the definition has it after these slices and attempts, whatever was done before.
     ghost law: { ∥ IsAt cuts (start_of admission.id (start_in admission)) slices cut done
         (machine_of parts memory.flat) ∥₁ },
+}
+
+impl<'a> Drop for Debuggee<'a> {
+    fn drop(self) {
+        let Debuggee {
+            admission: _,
+            cuts: _,
+            parts: _,
+            memory: _,
+            decoder: _,
+            words: _,
+            slices: _,
+            cut: _,
+            done: _,
+        } = self;
+    }
 }
 
 impl<'a> Debuggee<'a> {
@@ -323,7 +338,17 @@ impl<'a> Debuggee<'a> {
 
     /// Its machine alone.
     pub fn into_machine(self) -> (TenantParts, Flat) {
-        let Debuggee { parts, memory, .. } = self;
+        let Debuggee {
+            admission: _,
+            cuts: _,
+            parts,
+            memory,
+            decoder: _,
+            words: _,
+            slices: _,
+            cut: _,
+            done: _,
+        } = self;
         (parts, memory.into_flat())
     }
 }

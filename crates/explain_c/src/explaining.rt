@@ -91,11 +91,7 @@ fn explain_bench<'a>(
     let mut bench = bench;
     let mut observer = quiet_observer(alloc, &options.output, asked.terms)?;
     let ran = tenant.run_silently(alloc, options, &mut bench, &mut observer);
-    let TenantBench {
-        parts,
-        mut memory,
-        ..
-    } = bench;
+    let (parts, mut memory) = bench.into_machine();
     tell_run(alloc, asked, ran, &parts, &mut memory, &observer)
 }
 

@@ -11,7 +11,6 @@ use run_cause::Finding;
 use std::alloc::Global;
 
 /// A tenant, and what GDB knows of it.
-#[derive(Drop)]
 pub struct Front<'a> {
     /// The tenant.
     pub(crate) tenant: Traveller<'a>,
@@ -29,6 +28,21 @@ pub struct Front<'a> {
     pub(crate) file: File,
     /// The image, its name and the seed.
     pub(crate) subject: DebugSubject<'a>,
+}
+
+impl<'a> Drop for Front<'a> {
+    fn drop(self) {
+        let Front {
+            tenant: _,
+            points: _,
+            stop: _,
+            shown: _,
+            tells_breakpoints: _,
+            is_extended: _,
+            file: _,
+            subject: _,
+        } = self;
+    }
 }
 
 impl<'a> Front<'a> {

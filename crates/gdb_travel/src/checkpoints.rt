@@ -11,12 +11,17 @@ pub(crate) const INTERVAL: u64 = 1 << 19;
 const NEAR: u64 = 1 << 13;
 
 /// Two copies of a tenant, each where it was. Where one is lost, only time is.
-#[derive(Drop)]
 pub(crate) struct Checkpoints<'a> {
     /// Where a search began, or what was the near one.
     far: Option<Debuggee<'a>>,
     /// The one that is made as the tenant moves.
     near: Option<Debuggee<'a>>,
+}
+
+impl<'a> Drop for Checkpoints<'a> {
+    fn drop(self) {
+        let Checkpoints { far: _, near: _ } = self;
+    }
 }
 
 impl<'a> Checkpoints<'a> {

@@ -16,7 +16,6 @@ use std::alloc::{AllocError, Global};
 /// A tenant that is moved forwards and backwards. To go back it begins at a checkpoint, or at its
 /// first instruction. It holds four memories at most: its own, those of two checkpoints, and that
 /// of one that looks ahead or goes back.
-#[derive(Drop)]
 pub struct Traveller<'a> {
     /// The tenant where it is.
     now: Debuggee<'a>,
@@ -29,6 +28,19 @@ pub struct Traveller<'a> {
     is_last_done: bool,
     /// What a check of the whole run finds first: there it has ended.
     finding: Option<Finding>,
+}
+
+impl<'a> Drop for Traveller<'a> {
+    fn drop(self) {
+        let Traveller {
+            now: _,
+            ahead: _,
+            checkpoints: _,
+            is_exit_told: _,
+            is_last_done: _,
+            finding: _,
+        } = self;
+    }
 }
 
 impl<'a> Traveller<'a> {

@@ -75,11 +75,20 @@ impl FrameAddresses {
 }
 
 /// The names of an image's addresses, and the source lines and inlined calls of some of them.
-#[derive(Drop)]
 pub struct FrameNames<'a> {
     symbols: &'a Symbols<'a>,
     lines: SourceLines<'a>,
     inlined: InlinedCalls<'a>,
+}
+
+impl<'a> Drop for FrameNames<'a> {
+    fn drop(self) {
+        let FrameNames {
+            symbols: _,
+            lines: _,
+            inlined: _,
+        } = self;
+    }
 }
 
 impl<'a> FrameNames<'a> {

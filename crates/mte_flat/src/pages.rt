@@ -20,7 +20,6 @@ use mte_tags::{Attrs, NoPagesLeft, PageStore, Paged, TagMode, TagState, replace_
 use std::alloc::{AllocError, Global};
 
 /// At most `limit` pages in a list, in the order in which they were mapped, and where each was put.
-#[derive(Drop)]
 pub(crate) struct Pages {
     limit: usize,
     slots: Vec<Slot>,
@@ -29,6 +28,17 @@ pub(crate) struct Pages {
     ghost are_slots: { AreSlots slots.items },
     ghost below: { vec_len slots ≤ limit },
     ghost room: { limit ≤ vec_capacity slots },
+}
+
+impl Drop for Pages {
+    fn drop(self) {
+        let Pages {
+            limit: _,
+            slots: _,
+            finder: _,
+            state: _,
+        } = self;
+    }
 }
 
 impl Pages {

@@ -9,10 +9,15 @@ use std::alloc::{AllocError, Global};
 use std::marker::Model;
 
 /// A tagged memory of its own that knows which of its pages may be others than in its snapshot.
-#[derive(Drop)]
 pub struct SnapshotMemory {
     pages: Pages,
     saved: Pages,
+}
+
+impl Drop for SnapshotMemory {
+    fn drop(self) {
+        let SnapshotMemory { pages: _, saved: _ } = self;
+    }
 }
 
 impl Model for SnapshotMemory {

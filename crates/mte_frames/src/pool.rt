@@ -45,7 +45,6 @@ impl Model for Quota {
 
 /// An arena's frames, each out under one quota or under none. No call changes for how many elements
 /// the pool's lists have memory.
-#[derive(Drop)]
 pub struct FramePool {
     arena: Arena,
     free: Vec<usize>,
@@ -53,6 +52,19 @@ pub struct FramePool {
     reserved: Vec<usize>,
     taken: Vec<usize>,
     unreserved: usize,
+}
+
+impl Drop for FramePool {
+    fn drop(self) {
+        let FramePool {
+            arena: _,
+            free: _,
+            owners: _,
+            reserved: _,
+            taken: _,
+            unreserved: _,
+        } = self;
+    }
 }
 
 impl Model for FramePool {

@@ -8,7 +8,6 @@ use run_records::{BookEntry, Moment, push_turns};
 use std::alloc::{AllocError, Global};
 
 /// The explanation of a tenant's end.
-#[derive(Drop)]
 pub struct Explanation<'a> {
     /// The most likely cause, where a fault or a refused pointer ended it.
     pub cause: Option<Cause>,
@@ -17,6 +16,16 @@ pub struct Explanation<'a> {
     /// The names of the addresses that are written: those of the calls that led to the end and to
     /// the heap calls of the cause, of the last calls and returns, and of the jump that is hinted.
     pub names: FrameNames<'a>,
+}
+
+impl<'a> Drop for Explanation<'a> {
+    fn drop(self) {
+        let Explanation {
+            cause: _,
+            stack: _,
+            names: _,
+        } = self;
+    }
 }
 
 impl<'a> Report<'a> {

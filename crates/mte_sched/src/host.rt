@@ -33,7 +33,6 @@ use scudo_heap::condition_of_calls;
 use std::alloc::{AllocError, Global};
 
 /// A host of tenants, whose memories are in the frames of one pool.
-#[derive(Drop)]
 pub struct Host {
     pool: FramePool,
     caches: Caches,
@@ -44,6 +43,18 @@ pub struct Host {
     ghost sharing: { IsSharing pool caches.tlb tenants.items },
     ghost indexed: { IsIndexed index.positions.items (numbers_of (entries_in tenants.items)) },
     ghost counted: { live ≡ count_by is_live (entries_in tenants.items) },
+}
+
+impl Drop for Host {
+    fn drop(self) {
+        let Host {
+            pool: _,
+            caches: _,
+            tenants: _,
+            index: _,
+            live: _,
+        } = self;
+    }
 }
 
 impl Host {

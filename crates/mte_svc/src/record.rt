@@ -31,7 +31,6 @@ pub enum Status {
 }
 
 /// A tenant's record: what the report says of it.
-#[derive(Drop)]
 pub struct Record {
     /// Its number.
     pub id: u16,
@@ -43,6 +42,18 @@ pub struct Record {
     pub output: Output,
     /// The heap calls that it has made.
     pub calls: HeapCalls,
+}
+
+impl Drop for Record {
+    fn drop(self) {
+        let Record {
+            id: _,
+            status: _,
+            steps: _,
+            output: _,
+            calls: _,
+        } = self;
+    }
 }
 
 impl Record {

@@ -9,7 +9,6 @@ use std::alloc::{AllocError, Global};
 
 /// The variables of an image, the frames of its functions, and the pointers
 /// to them.
-#[derive(Drop)]
 pub struct NamedPlaces {
     pub(crate) alloc: Global,
     pub(crate) variables: FrameVariables,
@@ -18,6 +17,20 @@ pub struct NamedPlaces {
     pub(crate) frames: FrameStack,
     pub(crate) marks: RegisterMarks,
     pub(crate) blocks: BlockNotes,
+}
+
+impl Drop for NamedPlaces {
+    fn drop(self) {
+        let NamedPlaces {
+            alloc: _,
+            variables: _,
+            objects: _,
+            table: _,
+            frames: _,
+            marks: _,
+            blocks: _,
+        } = self;
+    }
 }
 
 impl NamedPlaces {

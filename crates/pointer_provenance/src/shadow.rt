@@ -32,7 +32,6 @@ impl Pointed {
 }
 
 /// The shadow of a tenant's registers and memory: where each pointer points.
-#[derive(Drop)]
 pub struct Shadow {
     alloc: Global,
     registers: [Provenance; REGISTERS],
@@ -47,6 +46,22 @@ pub struct Shadow {
     pub(crate) has_own: bool,
     /// The chunk that the stack is in, where SP was moved into one.
     pub(crate) stack: Option<usize>,
+}
+
+impl Drop for Shadow {
+    fn drop(self) {
+        let Shadow {
+            alloc: _,
+            registers: _,
+            known: _,
+            near: _,
+            memory: _,
+            chunks: _,
+            sums: _,
+            has_own: _,
+            stack: _,
+        } = self;
+    }
 }
 
 impl Shadow {

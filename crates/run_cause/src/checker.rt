@@ -31,7 +31,6 @@ use std::alloc::{AllocError, Global};
 use undefined_bits::{ArithmeticFault, ServiceArguments, UndefinedBits, UndefinedUse};
 
 /// Watches a tenant up to the first thing that it may not do, of the kinds that are checked.
-#[derive(Drop)]
 pub struct Checker<'a> {
     alloc: Global,
     terms: CheckTerms<'a>,
@@ -51,6 +50,26 @@ pub struct Checker<'a> {
     /// How many findings were suppressed.
     hidden: u64,
     full: Option<Full>,
+}
+
+impl<'a> Drop for Checker<'a> {
+    fn drop(self) {
+        let Checker {
+            alloc: _,
+            terms: _,
+            kinds: _,
+            shadow: _,
+            functions: _,
+            places: _,
+            bits: _,
+            followed: _,
+            silence: _,
+            finding: _,
+            passed: _,
+            hidden: _,
+            full: _,
+        } = self;
+    }
 }
 
 /// An instruction that was attempted.

@@ -52,7 +52,6 @@ struct OpenCall {
 }
 
 /// The calls of a run. Those that have the same branch in the same calls share a node.
-#[derive(Drop)]
 pub struct CallTree {
     /// For each node but the first the number of the one that it is in, and that of its branch.
     numbers: PairNumbers,
@@ -64,6 +63,19 @@ pub struct CallTree {
     pub long: LongCalls,
     /// Whether a call found no room.
     pub is_short: bool,
+}
+
+impl Drop for CallTree {
+    fn drop(self) {
+        let CallTree {
+            numbers: _,
+            nodes: _,
+            open: _,
+            charged: _,
+            long: _,
+            is_short: _,
+        } = self;
+    }
 }
 
 impl CallTree {

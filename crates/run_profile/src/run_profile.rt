@@ -19,7 +19,6 @@ pub struct TakenBranch {
 }
 
 /// The branches that a tenant takes, and the calls that they make, with the steps between them.
-#[derive(Drop)]
 pub struct RunProfile<'a> {
     pub(crate) image: &'a [u8],
     /// The names of its addresses.
@@ -42,6 +41,25 @@ pub struct RunProfile<'a> {
     bytes: u64,
     /// Whether a branch found no room.
     is_short: bool,
+}
+
+impl<'a> Drop for RunProfile<'a> {
+    fn drop(self) {
+        let RunProfile {
+            image: _,
+            names: _,
+            numbers: _,
+            branches: _,
+            recent: _,
+            tree: _,
+            heap: _,
+            events: _,
+            first: _,
+            start: _,
+            bytes: _,
+            is_short: _,
+        } = self;
+    }
 }
 
 impl<'a> RunProfile<'a> {

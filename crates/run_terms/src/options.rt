@@ -52,7 +52,6 @@ pub struct Traced {
 }
 
 /// The outputs of a run.
-#[derive(Drop)]
 pub struct OutputOptions {
     /// How many of the last instructions are remembered.
     pub last: usize,
@@ -99,6 +98,34 @@ pub struct OutputOptions {
     pub is_raw: bool,
 }
 
+impl Drop for OutputOptions {
+    fn drop(self) {
+        let OutputOptions {
+            last: _,
+            last_lines: _,
+            turns: _,
+            traced: _,
+            trace_file: _,
+            leaks: _,
+            statistics: _,
+            map: _,
+            json: _,
+            sarif: _,
+            page: _,
+            exact: _,
+            check: _,
+            suppressions: _,
+            continues: _,
+            found_status: _,
+            lost_status: _,
+            core: _,
+            profile: _,
+            is_whole: _,
+            is_raw: _,
+        } = self;
+    }
+}
+
 /// Which accesses are to keep to the bytes of chunks.
 #[derive(Clone, Copy, PartialEq, Eq)]
 pub enum Exactness {
@@ -111,7 +138,6 @@ pub enum Exactness {
 }
 
 /// The options of the program.
-#[derive(Drop)]
 pub struct Options {
     /// The names of the files: the image, or the files of a script.
     pub files: Vec<String>,
@@ -125,6 +151,19 @@ pub struct Options {
     pub output: OutputOptions,
     /// Whether GDB debugs it.
     pub is_debugged: bool,
+}
+
+impl Drop for Options {
+    fn drop(self) {
+        let Options {
+            files: _,
+            replay: _,
+            run: _,
+            length: _,
+            output: _,
+            is_debugged: _,
+        } = self;
+    }
 }
 
 impl Options {

@@ -47,9 +47,14 @@ struct Suppression {
 }
 
 /// All that is not told.
-#[derive(Drop)]
 pub struct Suppressions {
     all: Vec<Suppression>,
+}
+
+impl Drop for Suppressions {
+    fn drop(self) {
+        let Suppressions { all: _ } = self;
+    }
 }
 
 impl Suppressions {

@@ -32,9 +32,14 @@ use std::marker::Model;
 /// The heap of one tenant. Its chunks are in the tenant's memory, which each call borrows; here
 /// stand the free blocks of the size classes and the mappings of larger chunks. No call changes for
 /// how many elements its lists have memory.
-#[derive(Drop)]
 pub struct Heap {
     parts: HeapParts,
+}
+
+impl Drop for Heap {
+    fn drop(self) {
+        let Heap { parts: _ } = self;
+    }
 }
 
 impl Model for Heap {

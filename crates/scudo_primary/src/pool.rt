@@ -24,7 +24,6 @@ use std::marker::Model;
 /// blocks, and a mark for each carved block that says whether it is free. `new` reserves the pool's
 /// memory and writes none of it; what a page needs is written where it is carved. No call changes
 /// for how many elements the pool's lists have memory.
-#[derive(Drop)]
 pub struct Primary {
     /// 128 for each carved page, one for each 32 bytes, in memory for `limit` pages.
     entries: Vec<BlockEntry>,
@@ -34,6 +33,18 @@ pub struct Primary {
     lists: [ClassList; LISTS],
     used: u64,
     limit: u64,
+}
+
+impl Drop for Primary {
+    fn drop(self) {
+        let Primary {
+            entries: _,
+            numbers: _,
+            lists: _,
+            used: _,
+            limit: _,
+        } = self;
+    }
 }
 
 impl Model for Primary {

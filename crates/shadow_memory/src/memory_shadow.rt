@@ -7,7 +7,6 @@ use common::{GRANULE_SIZE, PAGE_SIZE};
 use std::alloc::{AllocError, Global};
 
 /// The shadow of a tenant's memory. A page of which nothing is known takes none.
-#[derive(Drop)]
 pub struct MemoryShadow {
     alloc: Global,
     numbers: PageNumbers,
@@ -15,6 +14,17 @@ pub struct MemoryShadow {
     pages: Vec<ShadowPage>,
     /// Whether a page found no place.
     pub is_short: bool,
+}
+
+impl Drop for MemoryShadow {
+    fn drop(self) {
+        let MemoryShadow {
+            alloc: _,
+            numbers: _,
+            pages: _,
+            is_short: _,
+        } = self;
+    }
 }
 
 impl MemoryShadow {

@@ -42,7 +42,6 @@ pub trait Watcher: Notes {
 
 /// A tenant's machine, which is the machine of the definition: it is made by `admit_alone` and
 /// changed by slices alone.
-#[derive(Drop)]
 pub struct TenantBench {
     /// All but its memory.
     pub parts: TenantParts,
@@ -50,6 +49,16 @@ pub struct TenantBench {
     pub memory: Flat,
     words: OpCache,
     ghost ready: { IsReady parts memory },
+}
+
+impl Drop for TenantBench {
+    fn drop(self) {
+        let TenantBench {
+            parts: _,
+            memory: _,
+            words: _,
+        } = self;
+    }
 }
 
 impl TenantBench {
@@ -101,6 +110,19 @@ impl TenantBench {
             }
             WatchLevel::Attempts => slice_watched(watch, parts, memory, steps),
         }
+    }
+
+    /// All but its memory, and its memory.
+    pub fn into_machine(self) -> (TenantParts, Flat)
+        ensures parts { result.0 ≡ self.parts }
+        ensures memory { result.1 ≡ self.memory }
+    {
+        let TenantBench {
+            parts,
+            memory,
+            words: _,
+        } = self;
+        (parts, memory)
     }
 
     /// A stop.

@@ -127,7 +127,8 @@ impl<'x> LoneTenant<'x> {
         bench: &mut TenantBench,
         observer: &mut Observer<'_>,
     ) -> Result<(), Failure<'a>> {
-        let mut out = OutputStream::new(rt, ProgressLog::open(rt, options)?);
+        let progress = ProgressLog::open(rt, options)?;
+        let mut out = OutputStream::new(rt, progress, options.output.profile.is_some());
         self.run_into(rt.alloc(), options, bench, observer, &mut out)?;
         if out.has_failed {
             return Err(Failure::Write);

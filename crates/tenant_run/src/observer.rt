@@ -25,7 +25,6 @@ const LEAST: usize = 16;
 
 /// Remembers the heap calls and the last instructions, and writes lines, up to the first access
 /// that goes beyond its chunk where accesses are to keep to them.
-#[derive(Drop)]
 pub struct Observer<'a> {
     /// How much it is shown of the tenant.
     pub shown: WatchLevel,
@@ -60,6 +59,29 @@ pub struct Observer<'a> {
     /// The store that wrote the target last of the jump to no code that ended the tenant, once
     /// found.
     pub store: Option<LastStore>,
+}
+
+impl<'a> Drop for Observer<'a> {
+    fn drop(self) {
+        let Observer {
+            shown: _,
+            shown_after: _,
+            passed: _,
+            suspect: _,
+            book: _,
+            last: _,
+            turns: _,
+            tracer: _,
+            sees_all: _,
+            exact: _,
+            checker: _,
+            findings: _,
+            statistics: _,
+            profile: _,
+            is_cut: _,
+            store: _,
+        } = self;
+    }
 }
 
 impl<'a> Observer<'a> {

@@ -14,17 +14,20 @@ pub struct OutputStream<'r> {
     count: usize,
     /// Whether a write failed; after that there are no more.
     pub has_failed: bool,
+    /// Whether a run goes on after that, since it is counted up to its end.
+    is_counted: bool,
     /// Where a line after each slice goes.
     progress: ProgressLog,
 }
 
 impl<'r> OutputStream<'r> {
-    /// One that writes to standard output.
-    pub fn new(rt: &'r HostRuntime, progress: ProgressLog) -> OutputStream<'r> {
+    /// One that writes to standard output, of a run that may be counted.
+    pub fn new(rt: &'r HostRuntime, progress: ProgressLog, is_counted: bool) -> OutputStream<'r> {
         OutputStream {
             rt: Some(rt),
             count: 0,
             has_failed: false,
+            is_counted,
             progress,
         }
     }
@@ -35,6 +38,7 @@ impl<'r> OutputStream<'r> {
             rt: None,
             count: 0,
             has_failed: false,
+            is_counted: false,
             progress: ProgressLog::none(),
         }
     }
@@ -51,6 +55,11 @@ impl<'r> OutputStream<'r> {
     /// The steps after which the run was stopped, if it was.
     pub fn stopped(&self) -> Option<u64> {
         self.progress.stopped
+    }
+
+    /// Whether a run ends, since its output cannot be written.
+    pub fn ends_run(&self) -> bool {
+        self.has_failed && !self.is_counted
     }
 
     /// Writes what was not yet written after a slice.

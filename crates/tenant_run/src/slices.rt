@@ -38,7 +38,7 @@ fn is_over<O: Watcher>(
     limit: u64,
 ) -> bool {
     watcher.has_ended()
-        || out.has_failed
+        || out.ends_run()
         || !bench.parts.is_running()
         || bench.parts.history.steps >= out.limit(limit)
 }

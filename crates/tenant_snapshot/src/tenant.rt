@@ -41,7 +41,6 @@ fn read_without_tags<M: Tagged>(
 
 /// A tenant's machine, as the definition has it, and a snapshot of it. Its table of kept
 /// instructions stays when it is restored.
-#[derive(Drop)]
 pub struct SnapshotTenant {
     /// All but its memory: its record, registers, heap and input.
     pub parts: TenantParts,
@@ -55,6 +54,18 @@ pub struct SnapshotTenant {
     words: OpCache,
     ghost ready: { IsReady parts memory.now },
     ghost saved_ready: { IsReady saved memory.saved },
+}
+
+impl Drop for SnapshotTenant {
+    fn drop(self) {
+        let SnapshotTenant {
+            parts: _,
+            memory: _,
+            saved: _,
+            chunks: _,
+            words: _,
+        } = self;
+    }
 }
 
 impl SnapshotTenant {

@@ -16,11 +16,20 @@ use std::alloc::{AllocError, Global};
 use std::marker::Model;
 
 /// A heap, the memory that its chunks are in and its generator of random tags.
-#[derive(Drop)]
 pub struct HeapBench {
     heap: Heap,
     memory: Flat,
     rgsr: Rgsr,
+}
+
+impl Drop for HeapBench {
+    fn drop(self) {
+        let HeapBench {
+            heap: _,
+            memory: _,
+            rgsr: _,
+        } = self;
+    }
 }
 
 impl Model for HeapBench {

@@ -14,7 +14,6 @@ const REGISTERS: usize = 31;
 const MOST_FRAME: u64 = 0x10_0000;
 
 /// Which bits of a tenant's registers and memory are undefined.
-#[derive(Drop)]
 pub struct UndefinedBits {
     registers: [UndefinedValue; REGISTERS],
     flags: FlagState,
@@ -22,6 +21,17 @@ pub struct UndefinedBits {
     /// the others are defined, whatever `registers` and `flags` have.
     pub(crate) undefined: u32,
     pub(crate) memory: BitMemory,
+}
+
+impl Drop for UndefinedBits {
+    fn drop(self) {
+        let UndefinedBits {
+            registers: _,
+            flags: _,
+            undefined: _,
+            memory: _,
+        } = self;
+    }
 }
 
 impl UndefinedBits {

@@ -10,7 +10,6 @@ use std::alloc::{AllocError, Global};
 const MOST_BYTES: u64 = MAX_PAGES * PAGE_SIZE;
 
 /// The undefined bits of a tenant's memory. A page that was always defined takes none.
-#[derive(Drop)]
 pub struct BitMemory {
     alloc: Global,
     numbers: PageNumbers,
@@ -18,6 +17,17 @@ pub struct BitMemory {
     pages: Vec<BitPage>,
     /// Whether a page found no place.
     pub is_short: bool,
+}
+
+impl Drop for BitMemory {
+    fn drop(self) {
+        let BitMemory {
+            alloc: _,
+            numbers: _,
+            pages: _,
+            is_short: _,
+        } = self;
+    }
 }
 
 impl BitMemory {

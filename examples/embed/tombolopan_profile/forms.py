@@ -68,9 +68,18 @@ def is_jump(word: int) -> bool:
     return word & 0xFC000000 == JUMP
 
 
-def is_constant(word: int) -> bool:
-    """An instruction on an immediate value, or a MOV of a register."""
-    return word & 0x1C000000 == 0x10000000 or word & 0x7FE0FFE0 == 0x2A0003E0
+def is_on_stack(word: int) -> bool:
+    """A load or a store whose base is SP or the frame pointer."""
+    return is_access(word) and word >> 5 & 31 in (29, 31)
+
+
+def is_value(word: int) -> bool:
+    """An instruction on an immediate value, a MOV of a register, or a load of an integer from the
+    stack: what follows needs the value."""
+    is_constant = word & 0x1C000000 == 0x10000000 or word & 0x7FE0FFE0 == 0x2A0003E0
+    is_pair = word & 0x3A000000 == 0x28000000
+    is_load = word >> 22 & (1 if is_pair else 3) != 0
+    return is_constant or (is_load and is_on_stack(word))
 
 
 def is_conditional(word: int) -> bool:
@@ -206,13 +215,14 @@ def executed_lines(counts: Counts, words: Mapping[int, int],
     """For each place with a line how often its first instruction was executed, since compilers
     count jumps to the line before them; where that is a jump that was not, the first one behind it
     that is no jump: a line as `} else if (..)` begins with a jump from what is above it. Constants
-    behind a jump may be those of another line, without a place of their own."""
+    and loads of a variable behind a jump may be those of another line, without a place of their
+    own."""
     ends = itertools.chain((start for start, _ in counts.places[1:]), [sys.maxsize])
     for (start, place), end in zip(counts.places, ends, strict=True):
         if place.line:
             at, word = start, words.get(start, 0)
             is_passed = start not in executions and is_jump(word)
-            while is_passed and at < end and (is_jump(word) or is_constant(word)):
+            while is_passed and at < end and (is_jump(word) or is_value(word)):
                 at += BYTES
                 word = words.get(at, 0)
             yield place.line, executions.get(at, 0) if at < end else 0
