@@ -24,7 +24,7 @@ def main() -> int:
     counts = run_counts.read_files([options.counts])
     words = forms.words_of(options.image.read_bytes())
     blocks = choosing.choose(counts, words, options.blocks)
-    taken = choosing.Profile(counts).taken
+    taken = choosing.Profile(counts, words).taken
     sum_of = sum(block.steps for block in blocks)
     print(f"{len(blocks)} blocks, {sum(len(b.addresses) for b in blocks)} instructions, "
           f"{sum_of / counts.steps:.1%} of {counts.steps} steps")

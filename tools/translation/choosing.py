@@ -16,11 +16,12 @@ JUMP, CALL = "Jump", "Call"
 
 @dataclass(frozen=True)
 class Block:
-    """Instructions that are executed one after another, their addresses, and how many steps they
-    are expected to take of the counted runs."""
+    """Instructions that are executed one after another: their addresses, how many steps they are
+    expected to take of the counted runs, and how often control goes on behind the last one."""
 
     addresses: tuple[int, ...]
     steps: float
+    goes_on: float
 
     @property
     def start(self) -> int:
@@ -30,13 +31,15 @@ class Block:
 class Profile:
     """How often control comes to an address, goes on behind it, and goes where from it."""
 
-    def __init__(self, counts: Counts) -> None:
+    def __init__(self, counts: Counts, words: Mapping[int, int]) -> None:
         self.executed = counts.executions()
         self.taken: dict[int, Counter[int]] = defaultdict(Counter)
         self.entered: Counter[int] = Counter()
         for (source, target), count in counts.branches.items():
             self.taken[source][target] += count
-            self.entered[target] += count
+            # A block goes on over a direct jump.
+            if source in words and target_of(source, words[source]) is None:
+                self.entered[target] += count
         for first, _, _ in counts.runs:
             self.entered[first] += 1
 
@@ -70,17 +73,17 @@ def block_at(start: int, words: Mapping[int, int], profile: Profile) -> Block:
         if (target := target_of(address, words[address])) is not None:
             address = target
         elif form[0] in JUMPS:
-            break
+            share = 0
         else:
             share *= profile.goes_on(address)
             address += BYTES
-    return Block(tuple(found), steps)
+    return Block(tuple(found), steps, share)
 
 
 def choose(counts: Counts, words: Mapping[int, int], most: int) -> list[Block]:
     """The blocks that take the most steps. A block that ends at its greatest length, or where the
     run went on, leads to others."""
-    profile = Profile(counts)
+    profile = Profile(counts, words)
     found: dict[int, Block] = {}
     waiting = Counter(profile.entered)
     while waiting:
@@ -89,10 +92,12 @@ def choose(counts: Counts, words: Mapping[int, int], most: int) -> list[Block]:
         if start in found:
             continue
         profile.entered[start] = count
-        block = block_at(start, words, profile)
-        found[start] = block
-        if block.addresses and (after := behind(block, words)) not in found:
-            waiting[after] += round(block.steps / len(block.addresses))
+        block = found[start] = block_at(start, words, profile)
+        after, share = start + BYTES, count * profile.goes_on(start)
+        if block.addresses:
+            after, share = behind(block, words), block.goes_on
+        if share >= 1 and after not in found:
+            waiting[after] += round(share)
     chosen = sorted((it for it in found.values() if it.addresses), key=lambda it: -it.steps)
     return chosen[:most]
 

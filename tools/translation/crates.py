@@ -4,10 +4,12 @@ import itertools
 from collections.abc import Iterable, Mapping, Sequence
 
 from translation.choosing import Block
-from translation.types import form_of, written
+from a64.form_types import PARTS, in_part
+from translation.types import form_of, read_tables, written
 
 PART = 6  # the most instructions of a type: the prover's time grows with the depth of types
 BYTES = 4
+GROUP = 16  # of blocks
 PLACES = 2048  # of the table from addresses to numbers
 
 HEAD = """\
@@ -16,23 +18,24 @@ HEAD = """\
 #![tactic(auto)]
 
 use a64_blocks::{{Again, Blocks, Cat, Code, Image, Last, Nothing, Seq}};
-use a64_forms::{{{forms}}};
-use a64_registers::Regs;
+{forms}use a64_registers::Regs;
 use a64_run::Edges;
 use a64_step::Outcome;
 use mte_tags::Tagged;
 """
 
 CODE = """
+type {name}Code = {type};
+
 /// {said}
 pub struct {name};
 
 impl Code for {name} {{
-    ghost START = {{ ⟦<{type} as Code>⟧.START }};
+    ghost START = {{ ⟦<{name}Code as Code>⟧.START }};
 
-    ghost COUNT = {{ ⟦<{type} as Code>⟧.COUNT }};
+    ghost COUNT = {{ ⟦<{name}Code as Code>⟧.COUNT }};
 
-    ghost holds = {{ ⟦<{type} as Code>⟧.holds }};
+    ghost holds = {{ ⟦<{name}Code as Code>⟧.holds }};
 
     #[inline({inline})]
     fn run<M: Tagged, E: Edges>(
@@ -42,7 +45,7 @@ impl Code for {name} {{
         outcome: &mut Outcome,
         left: u64,
     ) -> u64 {{
-        <{type} as Code>::run(regs, memory, edges, outcome, left)
+        <{name}Code as Code>::run(regs, memory, edges, outcome, left)
     }}
 
     #[inline(always)]
@@ -56,19 +59,21 @@ impl Code for {name} {{
     }}
 
     fn is_there<M: Tagged>(memory: &mut M) -> bool {{
-        <{type} as Code>::is_there(memory)
+        <{name}Code as Code>::is_there(memory)
     }}
 
-    ghost stays = {{ ⟦<{type} as Code>⟧.stays }};
+    ghost stays = {{ ⟦<{name}Code as Code>⟧.stays }};
 }}
 """
 
 IMAGE = """
-/// All blocks.
-pub struct Hot;
+type {name}Blocks = {type};
 
-impl Image for Hot {{
-    ghost holds = {{ ⟦<{type} as Image>⟧.holds }};
+/// {said}
+pub struct {name};
+
+impl Image for {name} {{
+    ghost holds = {{ ⟦<{name}Blocks as Image>⟧.holds }};
 
     #[inline(always)]
     fn run_number<M: Tagged, E: Edges>(
@@ -79,21 +84,19 @@ impl Image for Hot {{
         outcome: &mut Outcome,
         left: u64,
     ) -> u64 {{
-        <{type} as Image>::run_number(number, regs, memory, edges, outcome, left)
+        <{name}Blocks as Image>::run_number(number, regs, memory, edges, outcome, left)
     }}
 
     fn is_there<M: Tagged>(number: u16, memory: &mut M) -> bool {{
-        <{type} as Image>::is_there(number, memory)
+        <{name}Blocks as Image>::is_there(number, memory)
     }}
 
     #[inline(always)]
     fn number_at(pc: u64) -> u16 {{
-        match pc / 4 % {places} {{
-{arms}            _ => 0,
-        }}
+        {numbers}
     }}
 
-    ghost stays = {{ ⟦<{type} as Image>⟧.stays }};
+    ghost stays = {{ ⟦<{name}Blocks as Image>⟧.stays }};
 }}
 """
 
@@ -151,18 +154,33 @@ def numbers(blocks: Sequence[Block]) -> str:
     places: dict[int, int] = {}
     for number, block in enumerate(blocks, start=1):
         places.setdefault(block.start // BYTES % PLACES, number)
-    return "".join(f"            {place} => {number},\n" for place, number in sorted(places.items()))
+    arms = "".join(f"            {place} => {number},\n"
+                   for place, number in sorted(places.items()))
+    return f"match pc / 4 % {PLACES} {{\n{arms}            _ => 0,\n        }}"
+
+
+def imports(names: set[str]) -> str:
+    """What imports these forms."""
+    parts = ((part, sorted(form.name for form in in_part(part, read_tables()[1])
+                           if form.name in names)) for part in PARTS)
+    return "".join(f"use a64_forms::{part}::{{{', '.join(found)}}};\n" for part, found in parts
+                   if found)
 
 
 def crate_text(said: str, blocks: Sequence[Block], words: Mapping[int, int],
                taken: Mapping[int, Iterable[int]]) -> str:
     """The source of the crate."""
-    forms = sorted({found[0] for block in blocks for address in block.addresses
-                    if (found := form_of(words[address]))})
-    kind = "Nothing"
-    for number in range(len(blocks), 0, -1):
-        kind = f"Blocks<B{number}, {kind}>"
+    names = {found[0] for block in blocks for address in block.addresses
+             if (found := form_of(words[address]))}
     types = "".join(block_types(number, block, words, loops(block, taken))
                     for number, block in enumerate(blocks, start=1))
-    return (HEAD.format(said=said, forms=", ".join(forms)) + types
-            + IMAGE.format(type=kind, arms=numbers(blocks), places=PLACES))
+    groups, after = [], "Nothing"
+    for first in reversed(range(0, len(blocks), GROUP)):
+        last = min(first + GROUP, len(blocks))
+        kind = after
+        for number in reversed(range(first, last)):
+            kind = f"Blocks<B{number + 1}, {kind}>"
+        after = f"G{first + 1}" if first else "Hot"
+        groups.append(IMAGE.format(name=after, type=kind, said=f"Blocks from {first + 1} on.",
+                                   numbers="0" if first else numbers(blocks)))
+    return HEAD.format(said=said, forms=imports(names)) + types + "".join(groups)
