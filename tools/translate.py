@@ -31,8 +31,9 @@ def main() -> int:
     crate = options.out / "crates" / "translated_image"
     shutil.rmtree(crate, ignore_errors=True)
     (crate / "src").mkdir(parents=True)
-    (crate / "src" / "lib.rt").write_text(
-        crates.crate_text(f"The hottest blocks of {options.image.name}.", blocks, words, taken))
+    for name, text in crates.crate_files(f"The hottest blocks of {options.image.name}.", blocks,
+                                         words, taken).items():
+        (crate / "src" / name).write_text(text)
     return 0
 
 

@@ -12,15 +12,35 @@ BYTES = 4
 GROUP = 16  # of blocks
 PLACES = 2048  # of the table from addresses to numbers
 
-HEAD = """\
+ROOT = """\
 //! {said}
 //! Written by tools/translate.py.
 #![tactic(auto)]
 
-use a64_blocks::{{Again, Blocks, Cat, Code, Image, Last, Nothing, Seq}};
+mod blocks;
+mod parts;
+
+pub use blocks::Hot;
+"""
+
+PARTS_HEAD = """\
+//! The parts of blocks: instructions in a row.
+
+use a64_blocks::{{Code, Last, Seq}};
 {forms}use a64_registers::Regs;
 use a64_run::Edges;
 use a64_step::Outcome;
+use mte_tags::Tagged;
+"""
+
+BLOCKS_HEAD = """\
+//! Blocks and their numbers.
+
+use a64_blocks::{Again, Blocks, Cat, Code, Image, Nothing};
+use a64_registers::Regs;
+use a64_run::Edges;
+use a64_step::Outcome;
+use crate::parts::*;
 use mte_tags::Tagged;
 """
 
@@ -127,21 +147,23 @@ def code_of(name: str, said: str, kind: str, first: Sequence[int], inline: str) 
                        count=len(first))
 
 
-def block_types(number: int, block: Block, words: Mapping[int, int], again: bool) -> str:
-    """The types of a block."""
+def part_types(number: int, block: Block, words: Mapping[int, int]) -> str:
+    """The types of a block's parts."""
+    return "".join(code_of(f"B{number}P{at}", f"{part[0]:#x} to {part[-1]:#x}.",
+                           chain(part, words), part, "always")
+                   for at, part in enumerate(in_rows(block.addresses)))
+
+
+def block_type(number: int, block: Block, again: bool) -> str:
+    """The type of a block."""
     parts = in_rows(block.addresses)
-    texts, names = [], []
-    for at, part in enumerate(parts):
-        names.append(f"B{number}P{at}")
-        texts.append(code_of(names[-1], f"{part[0]:#x} to {part[-1]:#x}.", chain(part, words), part,
-                             "always"))
+    names = [f"B{number}P{at}" for at in range(len(parts))]
     kind = names[-1]
     for name in reversed(names[:-1]):
         kind = f"Cat<{name}, {kind}>"
     if again:
         kind = f"Again<{kind}>"
-    texts.append(code_of(f"B{number}", f"The block at {block.start:#x}.", kind, parts[0], "never"))
-    return "".join(texts)
+    return code_of(f"B{number}", f"The block at {block.start:#x}.", kind, parts[0], "never")
 
 
 def loops(block: Block, taken: Mapping[int, Iterable[int]]) -> bool:
@@ -167,20 +189,30 @@ def imports(names: set[str]) -> str:
                    if found)
 
 
-def crate_text(said: str, blocks: Sequence[Block], words: Mapping[int, int],
-               taken: Mapping[int, Iterable[int]]) -> str:
-    """The source of the crate."""
-    names = {found[0] for block in blocks for address in block.addresses
-             if (found := form_of(words[address]))}
-    types = "".join(block_types(number, block, words, loops(block, taken))
-                    for number, block in enumerate(blocks, start=1))
+def groups_of(blocks: Sequence[Block]) -> str:
+    """The types from numbers to blocks."""
     groups, after = [], "Nothing"
     for first in reversed(range(0, len(blocks), GROUP)):
-        last = min(first + GROUP, len(blocks))
         kind = after
-        for number in reversed(range(first, last)):
+        for number in reversed(range(first, min(first + GROUP, len(blocks)))):
             kind = f"Blocks<B{number + 1}, {kind}>"
         after = f"G{first + 1}" if first else "Hot"
         groups.append(IMAGE.format(name=after, type=kind, said=f"Blocks from {first + 1} on.",
                                    numbers="0" if first else numbers(blocks)))
-    return HEAD.format(said=said, forms=imports(names)) + types + "".join(groups)
+    return "".join(groups)
+
+
+def crate_files(said: str, blocks: Sequence[Block], words: Mapping[int, int],
+                taken: Mapping[int, Iterable[int]]) -> dict[str, str]:
+    """The sources of the crate, by their names."""
+    names = {found[0] for block in blocks for address in block.addresses
+             if (found := form_of(words[address]))}
+    counted = list(enumerate(blocks, start=1))
+    parts = "".join(part_types(number, block, words) for number, block in counted)
+    types = "".join(block_type(number, block, loops(block, taken)) for number, block in counted)
+    used = ", ".join(f"B{number}P{at}" for number, block in counted
+                     for at in range(len(in_rows(block.addresses))))
+    head = BLOCKS_HEAD.replace("crate::parts::*", f"crate::parts::{{{used}}}")
+    return {"lib.rt": ROOT.format(said=said),
+            "parts.rt": PARTS_HEAD.format(forms=imports(names)) + parts,
+            "blocks.rt": head + types + groups_of(blocks)}
