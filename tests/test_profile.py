@@ -20,6 +20,7 @@ import pytest
 
 from tests.reference import programs
 from tests.reference.runs import Runner
+from tests.support import drawn_blocks
 from tests.support import instructions as a64
 from tests.support.cache import tenant_library
 from tests.support.places import EXAMPLES
@@ -425,6 +426,30 @@ def test_runs_add_up(alone: pathlib.Path, tmp_path: pathlib.Path) -> None:
     (tmp_path / "none").write_text("no profile\n")
     ran = run([sys.executable, TOOL, tmp_path / "none"])
     assert ran.status == 5 and ran.errors.startswith("tenant-profile: ")
+
+
+def test_runs_of_an_image_without_names_add_up(alone: pathlib.Path,
+                                              tmp_path: pathlib.Path) -> None:
+    """What is called is a function there, and each run calls other ones."""
+    image, files = tmp_path / "drawn.elf", []
+    image.write_bytes(drawn_blocks.draw_image(random.Random(1)))
+    for block in range(drawn_blocks.BLOCKS):
+        (tmp_path / "input").write_bytes(bytes([block]))
+        files.append(tmp_path / f"counts.{block}")
+        run([alone, "--input", tmp_path / "input", "--profile", files[-1], image])
+    each = [run_counts.read_files([file]) for file in files]
+    whole = run_counts.read_files(files)
+    sums: Counter[int] = Counter()
+    for one in each:
+        sums.update(one.executions())
+    assert whole.executions() == sums
+    assert {entry for entry, _ in whole.functions} == {
+        entry for one in each for entry, _ in one.functions}
+    assert len(whole.functions) > drawn_blocks.BLOCKS // 2
+    hi = tmp_path / "hi.counts"
+    run([alone, "--profile", hi, EXAMPLES / "hi.elf"])
+    ran = run([sys.executable, TOOL, files[0], hi])
+    assert ran.status == 5 and "another image" in ran.errors
 
 
 DEEP = """\

@@ -41,7 +41,7 @@ def draw_data(source: random.Random) -> int:
 
 
 def draw_access(source: random.Random) -> int:
-    """A load or a store, which seldom leaves the chunk."""
+    """A load or a store, which seldom leaves the chunk, at an address that may have been moved."""
     row = TABLE[source.choice(ACCESSES)]
     while True:
         drawn = draw_fields(source, row)
@@ -72,6 +72,7 @@ def draw_block(source: random.Random) -> list[int]:
         if kind < 0.6:
             words.append(draw_data(source))
         elif kind < 0.85 or more < 3:
+            words += [instructions.add(ADDRESS, CHUNK, 1024)][:more - 1] * (source.random() < 0.5)
             words.append(draw_access(source))
         else:
             words.append(draw_branch(source, more - 1))

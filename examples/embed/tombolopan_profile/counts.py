@@ -118,6 +118,7 @@ class Counts:
     missed: int = 0  # events after those
     is_complete: bool = True
     functions: list[tuple[int, str]] = field(default_factory=list)
+    is_named: bool = True  # where nothing has a name, a function is what was called
     places: list[tuple[int, Place]] = field(default_factory=list)
     shown: list[int] = field(default_factory=list)
 
@@ -179,11 +180,16 @@ class Counts:
             found.append(outer)
         return found[::-1]
 
+    def image_told(self) -> tuple[object, ...]:
+        """What is the same in all counts of one image."""
+        return (self.is_named, self.functions if self.is_named else self.image, self.places)
+
     def add(self, other: Counts) -> None:
         """Adds the counts of another run of the same image. Its long calls, its events and the
         sizes of its heap are left out."""
-        if (self.functions, self.places) != (other.functions, other.places):
+        if self.image_told() != other.image_told():
             raise WrongCounts(f"{other.image} is another image than {self.image}")
+        self.functions = sorted({*self.functions, *other.functions})
         self.steps += other.steps
         self.runs += other.runs
         self.branches.update(other.branches)
@@ -248,7 +254,6 @@ def read(text: str) -> Counts:
     first = int(rows["first"][0][0], 16)
     start, count = rows["rest"][0]
     calls = [read_call(words, pairs, first) for words in rows["calls"]]
-    # Where nothing has a name, a function is what was called.
     functions = [(int(address, 16), name) for address, name in rows["function"]] or [
         (entry, f"{entry:#x}") for entry in sorted({call.entry for call in calls})]
     return Counts(
@@ -264,7 +269,7 @@ def read(text: str) -> Counts:
         sizes=[HeapSize(*map(int, words)) for words in rows["size"]],
         events=events, missed=sum(int(words[0]) for words in rows["missed"]),
         is_complete="incomplete" not in rows,
-        functions=functions,
+        functions=functions, is_named=bool(rows["function"]),
         places=[(int(words[0], 16), Place(line_of(words[1], words[2:]), tuple(inlined[number])))
                 for number, words in enumerate(rows["line"], start=1)])
 
