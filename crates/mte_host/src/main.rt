@@ -4,6 +4,7 @@
 mod command_line;
 mod system;
 
+use a64_run::NoTranslation;
 use command_line::read_command_line;
 use mte_program::{StreamSink, conclude};
 use mte_session::{Ending, finish};
@@ -19,7 +20,8 @@ fn main(rt: HostRuntime) -> ExitCode {
     };
     let mut out = StreamSink(blocks);
     let invocation = read_command_line(&rt);
-    let status = conclude(rt.alloc(), &invocation, files, &mut out, err);
+    let status =
+        conclude::<_, _, _, NoTranslation>(rt.alloc(), &invocation, files, &mut out, err);
     if status != 0 {
         out.abandon();
         return ExitCode::from(status);

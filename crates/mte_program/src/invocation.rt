@@ -5,6 +5,7 @@ ghost use Rattle.mte_program.specs.Conclusions.{Concluded};
 use crate::files::Files;
 use crate::program::Program;
 use crate::running::run_program;
+use a64_run::Translation;
 use mte_session::{Ending, Sink, finish};
 use std::alloc::Global;
 
@@ -21,7 +22,7 @@ pub enum Invocation {
 
 /// Runs the session that was requested, if one was, writes the line for standard error, if there is
 /// one, and returns the exit status.
-pub fn conclude<F: Files, W: Sink, E: Sink>(
+pub fn conclude<F: Files, W: Sink, E: Sink, T: Translation>(
     alloc: Global,
     invocation: &Invocation,
     files: &mut F,
@@ -33,7 +34,7 @@ pub fn conclude<F: Files, W: Sink, E: Sink>(
         (record { files = F.log files.new; out = W.log out.new; err = E.log err.new }) result }
 {
     let ending = match invocation {
-        Invocation::Run(program) => run_program(alloc, program, files, out),
+        Invocation::Run(program) => run_program::<F, W, T>(alloc, program, files, out),
         Invocation::Exit(status) => return *status,
         Invocation::OutOfMemory => Ending::Memory,
     };

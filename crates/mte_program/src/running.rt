@@ -4,12 +4,13 @@ ghost use Rattle.mte_program.specs.Runs.{Ran};
 
 use crate::files::{Files, read_files};
 use crate::program::Program;
-use mte_session::{Ending, Sink, run_session};
+use a64_run::Translation;
+use mte_session::{Ending, Sink, run_session_translated};
 use std::alloc::Global;
 
 /// Reads the script and then each file, in order, runs the session, and returns how it ended. The
 /// first file that cannot be read ends it, and then nothing was written.
-pub fn run_program<'a, F: Files, W: Sink>(
+pub fn run_program<'a, F: Files, W: Sink, T: Translation>(
     alloc: Global,
     program: &'a Program,
     files: &mut F,
@@ -23,7 +24,8 @@ pub fn run_program<'a, F: Files, W: Sink>(
         Err(ending) => return ending,
     };
     let script = whole[0].as_slice();
-    match run_session(alloc, program.frames, script, &whole.as_slice()[1..], out) {
+    let files = &whole.as_slice()[1..];
+    match run_session_translated::<W, T>(alloc, program.frames, script, files, out) {
         Ok(()) => Ending::Done,
         Err(error) => Ending::from(error),
     }

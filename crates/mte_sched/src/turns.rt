@@ -8,13 +8,14 @@ ghost use Rattle.mte_sched.specs.Sharing.{IsSharing, HasLiveAt};
 
 use crate::memory::stop_memory;
 use crate::tenant::{Caches, Holding, Live, Tenant};
+use a64_run::Translation;
 use mte_frames::FramePool;
 use mte_svc::TenantParts;
 use mte_tenant::halt;
 use mte_translate::Tlb;
 
 /// A slice of the tenant that has the number, and of no other.
-pub(crate) fn slice_at(
+pub(crate) fn slice_at<T: Translation>(
     pool: &mut FramePool,
     caches: &mut Caches,
     tenants: &mut [Tenant],
@@ -33,7 +34,7 @@ pub(crate) fn slice_at(
     let tenant = &mut tenants[asid];
     if let Holding::Live(live) = &mut tenant.holding {
         pool.recall();
-        live.slice(pool, caches, asid, tenant.pages, steps);
+        live.slice::<T>(pool, caches, asid, tenant.pages, steps);
         pool.recall();
     }
 }

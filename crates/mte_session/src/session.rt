@@ -16,6 +16,7 @@ ghost use Rattle.mte_session.specs.Outcomes.{session_error, Reported, Failed};
 use crate::files::admission_of;
 use crate::refusals::write_refusal;
 use crate::report::write_report;
+use a64_run::{NoTranslation, Translation};
 use common::Obstacle;
 use mte_sched::{Host, Refusal, Refused, Tenant, ledger_follows, tenants_are_alone};
 use mte_script::{Event, ScriptError, ScriptFault, parse_script};
@@ -43,8 +44,9 @@ pub enum SessionError {
 ///
 /// On `Ok` the report was written, and nothing else; on `Write` a prefix of it, and a write failed.
 /// On `Script`, the script's first faulty line with its first fault, and on `OutOfMemory`, which
-/// comes only where an allocation failed, no write was made.
-pub fn run_session<W: Sink>(
+/// comes only where an allocation failed, no write was made. Blocks that were translated change
+/// nothing of it.
+pub fn run_session_translated<W: Sink, T: Translation>(
     alloc: Global,
     frames: u32,
     script: &[u8],
@@ -64,13 +66,33 @@ pub fn run_session<W: Sink>(
     let Ok(mut host) = Host::new(alloc, frames) else {
         return Err(SessionError::OutOfMemory);
     };
-    let refused = run_events(alloc, &mut host, events.as_slice(), files)?;
+    let refused = run_events::<T>(alloc, &mut host, events.as_slice(), files)?;
     ledger_follows();
     tenants_are_alone();
     match write_session(&host, refused.as_slice(), out) {
         Ok(()) => Ok(()),
         Err(_) => Err(SessionError::Write),
     }
+}
+
+/// The same session by the tables of decoded instructions alone.
+pub fn run_session<W: Sink>(
+    alloc: Global,
+    frames: u32,
+    script: &[u8],
+    files: &[Vec<u8>],
+    out: &mut W,
+) -> Result<(), SessionError>
+    requires some { 1 ≤ frames }
+    requires few { frames ≤ 65536 }
+    ensures done { OnOk result (Reported
+        (record { frames = frames; files = contents files.now; script = script.now })
+        (W.log out.old) (W.log out.new)) }
+    ensures failed { IfErr result (Failed
+        (record { frames = frames; files = contents files.now; script = script.now })
+        (W.log out.old) (W.log out.new)) }
+{
+    run_session_translated::<W, NoTranslation>(alloc, frames, script, files, out)
 }
 
 /// Writes the report of what became of a host.
@@ -105,7 +127,7 @@ fn write_refusals<W: Sink>(refused: &[Refused], out: &mut W) -> Result<(), Write
 
 /// Executes the events in order, and returns those that were refused. What it keeps of them is
 /// reserved before the first event, so that none fails for want of it.
-fn run_events(
+fn run_events<T: Translation>(
     alloc: Global,
     host: &mut Host,
     events: &[Event],
@@ -119,7 +141,7 @@ fn run_events(
 {
     let mut refused = Vec::with_capacity(alloc, events.len())?;
     for (before, event) in events.iter().enumerate() {
-        match play(alloc, host, event, files) {
+        match play::<T>(alloc, host, event, files) {
             Ok(()) => {}
             Err(Obstacle::OutOfMemory) => return Err(SessionError::OutOfMemory),
             Err(Obstacle::Refused(refusal)) => {
@@ -143,7 +165,7 @@ fn run_events(
         mte_sched::specs::Contents::after_stop_of
     )
 )]
-fn play(
+fn play<T: Translation>(
     alloc: Global,
     host: &mut Host,
     event: &Event,
@@ -166,7 +188,7 @@ fn play(
                 Err(Obstacle::Refused(error)) => Err(Obstacle::Refused(Refusal::Admit(error))),
             }
         }
-        Event::Slice { id, steps } => match host.slice(id, steps) {
+        Event::Slice { id, steps } => match host.slice_translated::<T>(id, steps) {
             Ok(()) => Ok(()),
             Err(_) => Err(Obstacle::Refused(Refusal::NotLive)),
         },

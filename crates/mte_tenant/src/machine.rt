@@ -18,7 +18,7 @@ ghost use Rattle.mte_tenant.specs.Machines.{after_slice, after_attempts, after_s
 ghost use Rattle.mte_tenant.specs.Machines.{after_outcome, after_stop, continues, with_service};
 
 use crate::admission::Admission;
-use a64_run::{Edges, NoEdges, OpCache, known_words_stay, run_with_edges};
+use a64_run::{Edges, NoEdges, NoTranslation, OpCache, Translation, known_words_stay};
 use a64_step::{Outcome, Regs, steps_keep_pages};
 use common::{MAX_PAGES, PAGE_SIZE, STACK_END, STACK_PAGES, STACK_START};
 use mte_elf::{Plan, load};
@@ -83,9 +83,9 @@ pub fn fill<M: Paged>(plan: &Plan, image: &[u8], pages: u32, mode: TagMode, memo
 /// Lets a tenant attempt at most `steps` instructions while it is running and does not yield. It
 /// ends where its flag is set then. A table may serve any number of slices, of any tenants. A slice
 /// is one run of decoded instructions, since no service changes a page without WRITE. What counts
-/// the branches that it takes changes nothing of it.
+/// the branches that it takes changes nothing of it, nor do blocks that were translated.
 #[inline(never)]
-pub fn slice_with_edges<M: Paged, E: Edges>(
+pub fn slice_translated<M: Paged, E: Edges, T: Translation>(
     ops: &mut OpCache,
     parts: &mut TenantParts,
     memory: &mut M,
@@ -99,11 +99,30 @@ pub fn slice_with_edges<M: Paged, E: Edges>(
     ensures kept { M.Tagged.kept memory.old memory.new }
 {
     ops.begin_run();
+    let mut blocks = T::begin();
     let mut left = u64::from(steps);
     while left > 0 && parts.is_running() {
-        left = run_on(ops, parts, memory, edges, left);
+        left = run_on(ops, parts, memory, edges, &mut blocks, left);
     }
     settle(parts, memory);
+}
+
+/// The same slice by the table alone.
+#[inline(always)]
+pub fn slice_with_edges<M: Paged, E: Edges>(
+    ops: &mut OpCache,
+    parts: &mut TenantParts,
+    memory: &mut M,
+    edges: &mut E,
+    steps: u32,
+)
+    requires ready { IsReady parts.old (M.Tagged.memory memory.old) }
+    ensures machine { machine_of parts.new (M.Tagged.memory memory.new)
+        ≡ after_slice steps (machine_of parts.old (M.Tagged.memory memory.old)) }
+    ensures ready { IsReady parts.new (M.Tagged.memory memory.new) }
+    ensures kept { M.Tagged.kept memory.old memory.new }
+{
+    slice_translated::<M, E, NoTranslation>(ops, parts, memory, edges, steps);
 }
 
 /// Lets a tenant attempt at most `steps` instructions while it is running and does not yield. It
@@ -122,20 +141,23 @@ pub fn slice<M: Paged>(ops: &mut OpCache, parts: &mut TenantParts, memory: &mut 
 /// Runs to the next service, fault or end, or for `left` instructions; returns how many the slice
 /// has left, 0 after a yield.
 #[inline(always)]
-fn run_on<M: Paged, E: Edges>(
+fn run_on<M: Paged, E: Edges, T: Translation>(
     ops: &mut OpCache,
     parts: &mut TenantParts,
     memory: &mut M,
     edges: &mut E,
+    blocks: &mut T,
     left: u64,
 ) -> u64
     requires some { 0 < left }
     requires known { Knows (M.Tagged.memory memory.old) ops.old }
+    requires found { T.knows blocks.old (M.Tagged.memory memory.old) }
     requires running { is_running parts.old.history.status ≡ true }
     requires ready { IsReady parts.old (M.Tagged.memory memory.old) }
     ensures rest { after_attempts result (machine_of parts.new (M.Tagged.memory memory.new))
         ≡ after_attempts left (machine_of parts.old (M.Tagged.memory memory.old)) }
     ensures known { Knows (M.Tagged.memory memory.new) ops.new }
+    ensures found { T.knows blocks.new (M.Tagged.memory memory.new) }
     ensures fewer { result < left }
     ensures ready { IsReady parts.new (M.Tagged.memory memory.new) }
     ensures kept { M.Tagged.kept memory.old memory.new }
@@ -144,7 +166,7 @@ fn run_on<M: Paged, E: Edges>(
     condition_of_calls();
     known_words_stay();
     let mut outcome = Outcome::Next;
-    let rest = run_with_edges(ops, &mut parts.regs, memory, edges, &mut outcome, left);
+    let rest = blocks.run(ops, &mut parts.regs, memory, edges, &mut outcome, left);
     parts.history.steps = parts.history.steps.saturating_add(left - rest);
     parts.left = rest;
     if handle(&outcome, parts, memory) {

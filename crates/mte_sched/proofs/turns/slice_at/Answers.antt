@@ -8,19 +8,19 @@ use Rattle.mte_sched.proofs.TurnLemmas.{live_within, live_at, live_id, both_left
 use Rattle.mte_sched.proofs.turns.slice_at.Goals as goal
 
 pub slice-requires-clause-placed : goal.slice-requires-clause-placed
-slice-requires-clause-placed c =
+slice-requires-clause-placed g c =
     let t : Tenant = get_or c.args.tenants.now c.args.asid c.index-tenants-asid.result in
     let lies : LiesAt c.args.tenants.now c.args.asid t c.in-Live.live = record { tenant = live_at c.args.tenants.now c.args.asid c.args.id c.index-tenants-asid.result c.requires.live; live = c.in-Live.is } in
     c.requires.sharing.placed c.args.asid t c.in-Live.live lies
 
 pub slice-requires-clause-ready : goal.slice-requires-clause-ready
-slice-requires-clause-ready c =
+slice-requires-clause-ready g c =
     let t : Tenant = get_or c.args.tenants.now c.args.asid c.index-tenants-asid.result in
     let lies : LiesAt c.args.tenants.now c.args.asid t c.in-Live.live = record { tenant = live_at c.args.tenants.now c.args.asid c.args.id c.index-tenants-asid.result c.requires.live; live = c.in-Live.is } in
     c.requires.sharing.ready c.args.asid t c.in-Live.live lies
 
 pub returns-in-Live : goal.returns-in-Live
-returns-in-Live c =
+returns-in-Live g c =
     let ts : List Tenant = c.args.tenants.now in
     let t : Tenant = get_or ts c.args.asid c.index-tenants-asid.result in
     let live = live_id ts c.args.asid c.args.id c.index-tenants-asid.result c.requires.live in
@@ -39,7 +39,7 @@ returns-in-Live c =
     }
 
 pub returns-in_default-clause-tenants : goal.returns-in_default-clause-tenants
-returns-in_default-clause-tenants c =
+returns-in_default-clause-tenants g c =
     let t : Tenant = get_or c.args.tenants.now c.args.asid c.index-tenants-asid.result in
     let live = live_id c.args.tenants.now c.args.asid c.args.id c.index-tenants-asid.result c.requires.live in
     absurd (not_gone t.holding c.in_default.field-0 (both_left (is_live_holding t.holding) ((record_in t).id == c.args.id) live) c.in_default.is)

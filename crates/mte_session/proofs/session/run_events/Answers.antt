@@ -5,7 +5,7 @@ use Rattle.mte_session.proofs.session.run_events.Goals.{in-Ok, in-Err-Refused}
 use Rattle.mte_session.proofs.session.run_events.Goals as goal
 
 pub loop-before-preserved : goal.loop-before-preserved
-loop-before-preserved c =
+loop-before-preserved g c =
     let i = c.loop-before.invariant in
     elim c.match-play.branch [
       | in-Ok w ↦ record {
@@ -24,4 +24,4 @@ loop-before-preserved c =
     ]
 
 pub returns-clause-played : goal.returns-clause-played
-returns-clause-played c = sym (run_end (map (λ f. f.items) c.args.files.now) _ _ c.args.events.now c.loop-before.before _ c.loop-before-test.false c.loop-before.invariant.run)
+returns-clause-played g c = sym (run_end (map (λ f. f.items) c.args.files.now) _ _ c.args.events.now c.loop-before.before _ c.loop-before-test.false c.loop-before.invariant.run)

@@ -7,7 +7,7 @@ use Rattle.mte_session.proofs.SessionLemmas.{at}
 use Rattle.mte_session.proofs.session.run_events.Given as goal
 
 abbrev pub invariant-loop-before : goal.invariant-loop-before
-invariant-loop-before l = record {
+invariant-loop-before g l = record {
   run :
       run_all (at (content_of l.host) l.refused.items) (calls_of (map (λ f. f.items) l.files) (drop l.before l.events)) (l.before + 1)
       ≡ run_all (at (content_of l.fn.host) []) (calls_of (map (λ f. f.items) l.files) l.events) 1;

@@ -9,16 +9,16 @@ use Rattle.mte_sched.specs.Sharing.{IsIndexed}
 use Rattle.mte_sched.specs.Hosts.{ledger_in}
 use Rattle.mte_sched.proofs.EachLemmas.{ledger_is, live_there}
 use Rattle.mte_sched.proofs.IndexLemmas.{sliced_entries}
-use Rattle.mte_sched.proofs.host.Host.slice.Goals as goal
+use Rattle.mte_sched.proofs.host.Host.slice_translated.Goals as goal
 
 pub returns-in_default-clause-live : goal.returns-in_default-clause-live
-returns-in_default-clause-live c =
+returns-in_default-clause-live g c =
     let none : list_any (has_live_id c.args.id) (ledger_in c.args.self.now) ≡ false =
     ap (list_any (has_live_id c.args.id)) (ledger_is c.args.self.now.pool c.args.self.now.tenants.items) ∙ c.in_default.ensures.none refl in
     rw none (search rules)
 
 pub invariant_of-self-clause-indexed : goal.invariant_of-self-clause-indexed
-invariant_of-self-clause-indexed c =
+invariant_of-self-clause-indexed g c =
     let h = c.args.self.now in
     let us : List Tenant = c.slice_at.new.tenants in
     let back : take (vec_len h.tenants) (us ++ drop (length us) h.tenants.items) ≡ us =
@@ -29,7 +29,7 @@ invariant_of-self-clause-indexed c =
     subst (λ es. IsIndexed h.index.positions.items (numbers_of es)) (sym (ap entries_in back ∙ same)) h.indexed
 
 pub invariant_of-self-clause-counted : goal.invariant_of-self-clause-counted
-invariant_of-self-clause-counted c =
+invariant_of-self-clause-counted g c =
     let h = c.args.self.now in
     let us : List Tenant = c.slice_at.new.tenants in
     let back : take (vec_len h.tenants) (us ++ drop (length us) h.tenants.items) ≡ us =
@@ -40,7 +40,7 @@ invariant_of-self-clause-counted c =
     h.counted ∙ ap (count_by is_live) (sym (ap entries_in back ∙ same))
 
 pub returns-clause-live : goal.returns-clause-live
-returns-clause-live c =
+returns-clause-live g c =
     let some : list_any (has_live_id c.args.id) (ledger_in c.args.self.now) ≡ true =
     ap (list_any (has_live_id c.args.id)) (ledger_is c.args.self.now.pool c.args.self.now.tenants.items) ∙ live_there c.args.id c.args.self.now.tenants.items c.in-Some.asid c.in-Some.ensures.some in
     rw some (search rules)

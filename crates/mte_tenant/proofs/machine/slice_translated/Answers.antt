@@ -1,8 +1,8 @@
 use Rattle.std.proofs.Common.{◌≡◌, ◌∙◌, sym, ap, arith}
 use Rattle.mte_tenant.specs.Machines.{Machine, machine_of, after_attempts, after_slice_end, after_slice}
 use Rattle.mte_tenant.proofs.MachineLemmas.{after-attempts-ended, attempts_none}
-use Rattle.mte_tenant.proofs.machine.slice_with_edges.Goals.{then-loop-left-test+else-is_running, else-loop-left-test}
-use Rattle.mte_tenant.proofs.machine.slice_with_edges.Goals as goal
+use Rattle.mte_tenant.proofs.machine.slice_translated.Goals.{then-loop-left-test+else-is_running, else-loop-left-test}
+use Rattle.mte_tenant.proofs.machine.slice_translated.Goals as goal
 
 pub returns-clause-machine : goal.returns-clause-machine
 unfolding after_slice
@@ -20,6 +20,7 @@ loop-left-init g c =
     record {
       rest = ap (λ n. after_attempts n (machine_of c.args.parts.now m)) c.from-left.ensures;
       known = c.begin_run.ensures m;
+      found = c.begin-blocks.ensures m;
       ready = c.requires.ready;
       kept = g.met.M.Tagged.kept_same c.args.memory.now;
     }
