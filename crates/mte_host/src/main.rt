@@ -1,10 +1,11 @@
 //! `mte_host --frames N SCRIPT FILE...`: runs a script of tenants and prints its report.
 #![tactic(auto)]
 
+mod blocks;
 mod command_line;
 mod system;
 
-use a64_run::NoTranslation;
+use blocks::Hot;
 use command_line::read_command_line;
 use mte_program::{StreamSink, conclude};
 use mte_session::{Ending, finish};
@@ -20,8 +21,7 @@ fn main(rt: HostRuntime) -> ExitCode {
     };
     let mut out = StreamSink(blocks);
     let invocation = read_command_line(&rt);
-    let status =
-        conclude::<_, _, _, NoTranslation>(rt.alloc(), &invocation, files, &mut out, err);
+    let status = conclude::<_, _, _, Hot>(rt.alloc(), &invocation, files, &mut out, err);
     if status != 0 {
         out.abandon();
         return ExitCode::from(status);

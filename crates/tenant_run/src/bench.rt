@@ -4,12 +4,13 @@ ghost use Rattle.std.specs.Prelude.{◌≡◌, ◌<◌, Some, false, IfOk, IfErr
 ghost use Rattle.common.specs.Obstacles.{IfRefused};
 ghost use Rattle.mte_svc.specs.Ready.{IsReady};
 
+use crate::blocks::Hot;
 use a64_run::{NoEdges, OpCache};
 use common::Obstacle;
 use mte_flat::Flat;
 use mte_tenant::{
-    Admission, AdmitError, Lone, Notes, Status, TenantParts, slice_noted, slice_watched,
-    slice_with_edges,
+    Admission, AdmitError, Lone, Notes, Status, TenantParts, slice_noted, slice_translated,
+    slice_watched,
 };
 use std::alloc::Global;
 
@@ -102,7 +103,8 @@ impl TenantBench {
         let (parts, memory) = (&mut self.parts, &mut self.memory);
         match watch.shown() {
             WatchLevel::Nothing => {
-                slice_with_edges(&mut self.words, parts, memory, &mut NoEdges, steps)
+                let edges = &mut NoEdges;
+                slice_translated::<_, _, Hot>(&mut self.words, parts, memory, edges, steps)
             }
             WatchLevel::Branches | WatchLevel::Accesses => {
                 let last = watch.begin(parts, steps);

@@ -2,6 +2,7 @@
 #![tactic(auto)]
 
 mod bench;
+mod blocks;
 mod ending;
 mod line_log;
 mod lone;

@@ -12,13 +12,13 @@ ghost use Rattle.mte_tenant.specs.Ledger.{is_bad};
 use crate::compared_edges::ComparedEdges;
 use crate::exact_watch::ExactWatch;
 use crate::run_watch::RunWatch;
-use a64_run::{Edges, OpCache};
+use a64_run::{Edges, NoTranslation, OpCache, Translation};
 use common::Obstacle;
 use heap_bounds::Bounds;
 use mte_flat::SnapshotMemory;
 use mte_svc::{Input, TenantParts};
 use mte_tags::{MemFault, Tagged};
-use mte_tenant::{Admission, AdmitError, Lone, slice_noted, slice_with_edges};
+use mte_tenant::{Admission, AdmitError, Lone, slice_noted, slice_translated};
 use std::alloc::{AllocError, Global};
 
 /// Copies bytes out of pages with READ, whatever their tags; the memory stays.
@@ -108,7 +108,25 @@ impl SnapshotTenant {
         })
     }
 
-    /// A slice of at most `steps` instructions, whatever counts the branches that it takes.
+    /// A slice of at most `steps` instructions, whatever counts the branches that it takes and
+    /// whatever blocks were translated.
+    pub fn slice_translated<E: Edges, T: Translation>(&mut self, edges: &mut E, steps: u32)
+        ensures machine { machine_of self.new.parts self.new.memory.now
+            ≡ after_slice steps (machine_of self.old.parts self.old.memory.now) }
+        ensures saved { machine_of self.new.saved self.new.memory.saved
+            ≡ machine_of self.old.saved self.old.memory.saved }
+        ensures chunks { self.new.chunks ≡ self.old.chunks }
+    {
+        slice_translated::<_, _, T>(
+            &mut self.words,
+            &mut self.parts,
+            &mut self.memory,
+            edges,
+            steps,
+        );
+    }
+
+    /// The same slice by the table alone.
     pub fn slice<E: Edges>(&mut self, edges: &mut E, steps: u32)
         ensures machine { machine_of self.new.parts self.new.memory.now
             ≡ after_slice steps (machine_of self.old.parts self.old.memory.now) }
@@ -116,13 +134,7 @@ impl SnapshotTenant {
             ≡ machine_of self.old.saved self.old.memory.saved }
         ensures chunks { self.new.chunks ≡ self.old.chunks }
     {
-        slice_with_edges(
-            &mut self.words,
-            &mut self.parts,
-            &mut self.memory,
-            edges,
-            steps,
-        );
+        self.slice_translated::<E, NoTranslation>(edges, steps);
     }
 
     /// A slice of at most `steps` instructions whose accesses are judged, whatever is found.
@@ -162,8 +174,9 @@ impl SnapshotTenant {
         );
     }
 
-    /// A slice of at most `steps` instructions, whatever watches it.
-    pub fn slice_with(&mut self, watch: &mut RunWatch<'_>, steps: u32)
+    /// A slice of at most `steps` instructions, whatever watches it. Blocks that were translated are
+    /// run where only branches are counted.
+    pub fn slice_with<T: Translation>(&mut self, watch: &mut RunWatch<'_>, steps: u32)
         ensures machine { machine_of self.new.parts self.new.memory.now
             ≡ after_slice steps (machine_of self.old.parts self.old.memory.now) }
         ensures saved { machine_of self.new.saved self.new.memory.saved
@@ -171,7 +184,7 @@ impl SnapshotTenant {
         ensures chunks { self.new.chunks ≡ self.old.chunks }
     {
         match watch {
-            RunWatch::Edges(edges) => self.slice(edges, steps),
+            RunWatch::Edges(edges) => self.slice_translated::<_, T>(edges, steps),
             RunWatch::Exact(exact) => self.slice_exact(exact, steps),
         }
     }

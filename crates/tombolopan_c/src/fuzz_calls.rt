@@ -10,6 +10,7 @@ ghost use Rattle.tombolopan_c.specs.LentFuzz.{HasSaved, HasRun, HasAnswered, now
 ghost use Rattle.tombolopan_c.specs.LentFuzz.{no_finding, after_run};
 
 use crate::alone_end::AloneEnd;
+use crate::blocks::Hot;
 use crate::codes::{BAD_ARGUMENT, NO_MACHINE, NO_REFUSAL, OK, OUT_OF_MEMORY};
 use crate::fuzz_answer::{FuzzAnswer, FuzzFinding};
 use crate::fuzz_input::LentFuzzInput;
@@ -88,7 +89,7 @@ fn run_slices(machine: &mut SnapshotTenant, watch: &mut RunWatch<'_>, slices: &[
     ensures saved { saved_of machine.new ≡ saved_of machine.old }
 {
     for steps in slices {
-        machine.slice_with(watch, *steps);
+        machine.slice_with::<Hot>(watch, *steps);
     }
 }
 

@@ -10,6 +10,7 @@ mod act;
 mod act_kinds;
 mod alone_calls;
 mod alone_end;
+mod blocks;
 mod build_calls;
 mod codes;
 mod compare_calls;
