@@ -1,5 +1,6 @@
 """Writes a64_forms: each form of `Op` as a type, with its fields as constants."""
 
+import re
 from dataclasses import dataclass
 
 from a64 import calls, table
@@ -134,10 +135,9 @@ def type_of(form: Form, sources: Sources) -> str:
             "body": "".join(f"        {line}\n" for line in lines),
             "pattern": form_pattern(form),
             "same": " && ".join(f"{name} == {constant(name)}" for name in names) or "true"}
-    words = " ".join(lines).replace("(", " ").replace(")", " ").replace(",", " ")
-    words = words.replace(";", " ").replace(".", " ").split()
-    for name in ("pc", "regs", "memory", "outcome"):
-        said[name] = name if name in words else f"_{name}"
+    used = set(re.findall(r"\w+", " ".join(lines)))
+    said |= {name: name if name in used else f"_{name}"
+             for name in ("pc", "regs", "memory", "outcome")}
     return TYPE % said
 
 
