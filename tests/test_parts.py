@@ -6,7 +6,6 @@ TOMBOLOPAN_DRAWN is how many sessions are drawn, of ten."""
 import os
 import pathlib
 import re
-import resource
 import shlex
 import shutil
 import subprocess
@@ -16,6 +15,7 @@ import time
 import pytest
 
 from tests.support.batches import BATCH, Batch, script, summary
+from tests.support.callgrind import instructions_of_all
 from tests.support.drawn_sessions import MOST_STEPS, write_sessions, write_wanted
 from tests.support.embedding import folders
 from tests.support.host_sessions import admission
@@ -34,8 +34,9 @@ RIGHT = f"{COUNT} as wanted, 0 different"
 PARTS = COUNT * TENANTS
 # All long sessions are split where the share is the only one.
 ALL = ("--split", "--share", "1/1", "--jobs", "2")
-# As many short sessions as take the time of the start several times.
-SHORT, RUNS, MOST = 600, 15, 1.1
+# How many short sessions are counted, and how many whose tenants end early; how often these run to
+# learn in how many parts; how many times the instructions a run in parts may take.
+SHORT, EARLY, RUNS, MOST = 150, 12, 3, 1.1
 
 
 def write_long(folder: pathlib.Path, tenants: int, image: bytes) -> None:
@@ -125,38 +126,50 @@ def test_parts(made: Batch) -> None:
 
 # Where they pay
 
-def seconds_of(batch: Batch, *options: str) -> float:
-    """The processor seconds of a run."""
-    shutil.rmtree(batch.store, ignore_errors=True)
-    before = resource.getrusage(resource.RUSAGE_CHILDREN)
-    ran = batch.run(*options)
-    after = resource.getrusage(resource.RUSAGE_CHILDREN)
-    assert ran.status == 0, ran.output
-    return after.ru_utime + after.ru_stime - before.ru_utime - before.ru_stime
+def many_of(kind: str, folder: pathlib.Path) -> None:
+    """Short sessions, long ones whose tenants end early, one of these, or one that uses its
+    steps."""
+    hi = (EXAMPLES / "hi.elf").read_bytes()
+    if kind == "short":
+        succeed([sys.executable, EXAMPLES / "many" / "make_sessions.py", folder, str(SHORT)])
+    for number in range(EARLY if kind == "early" else 0):
+        write_long(folder / str(number), 20, hi)
+    if kind in ("one", "long"):
+        # Counts down without end.
+        endless = program(move(1, 1 << 40), subtract_with_flags(1, 1, 1), 0x17FFFFFF)
+        write_long(folder / "one", 4, hi if kind == "one" else endless)
 
 
 @pytest.mark.parametrize("kind", ["short", "early", "one", "long"])
-def test_processor_time(shared: pathlib.Path, tmp_path: pathlib.Path, kind: str) -> None:
-    """Sessions take at most 1.1 times the processor seconds in parts that they take whole, by one
-    process, as several take longer for the same: short ones, long ones whose tenants end early, a
-    single one of these, and one that uses its steps."""
-    folder, hi = tmp_path / "sessions", (EXAMPLES / "hi.elf").read_bytes()
-    if kind == "short":
-        succeed([sys.executable, EXAMPLES / "many" / "make_sessions.py", folder, str(SHORT)])
-    elif kind == "early":
-        for number in range(SHORT // 3):
-            write_long(folder / str(number), 20, hi)
-    else:
-        # Counts down without end.
-        endless = program(move(1, 1 << 40), subtract_with_flags(1, 1, 1), 0x17FFFFFF)
-        write_long(folder / "one", 8, hi if kind == "one" else endless)
-    batch = Batch(folder, {"TOMBOLOPAN": str(shared_object(shared))}, ("--jobs", "1"))
-    whole = parts = 1e9
-    for _ in range(RUNS):
-        whole, parts = min(whole, seconds_of(batch)), min(parts, seconds_of(batch, "--split"))
-        if parts <= MOST * whole:
-            return
-    assert parts <= MOST * whole, (kind, whole, parts)
+def test_instructions(shared: pathlib.Path, tmp_path: pathlib.Path, kind: str) -> None:
+    """Sessions take at most 1.1 times the instructions in parts that they take whole. These are
+    counted where all long ones have parts, so that no clock decides how many; of those that end
+    early so few have them as runs outside of callgrind say, by the half of these."""
+    folder = tmp_path / "sessions"
+    many_of(kind, folder)
+    extra = {"TOMBOLOPAN": str(shared_object(shared)), "PYTHONDONTWRITEBYTECODE": "",
+             "PYTHONPYCACHEPREFIX": str(tmp_path / "compiled")}
+    batch = Batch(folder, extra, ("--jobs", "1"))
+    parts = sorted(told_parts(batch, "--split") for _ in range(RUNS))[RUNS // 2]
+    most = told_parts(batch, *ALL[:3])
+    whole, split = (taken(batch, tmp_path / name, *options)
+                    for name, options in (("whole", ()), ("split", ALL[:3])))
+    if kind == "early":
+        split = whole + (split - whole) * parts // most
+    assert split <= MOST * whole, (kind, whole, split, parts, most)
+
+
+def told_parts(batch: Batch, *options: str) -> int:
+    """In how many parts sessions ran that nobody ran before."""
+    shutil.rmtree(batch.store, ignore_errors=True)
+    found: int = batch.told(*options)["work"]["parts_run"]
+    return found
+
+
+def taken(batch: Batch, folder: pathlib.Path, *options: str) -> int:
+    """The instructions of a run."""
+    shutil.rmtree(batch.store)
+    return instructions_of_all(batch.words(*options), folder, batch.extra)
 
 
 # What is lost or changed

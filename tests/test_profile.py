@@ -616,3 +616,41 @@ def test_lines_at_which_runs_differ(alone: pathlib.Path, tmp_path: pathlib.Path,
     found.unexplained = dict.fromkeys(found.doubtful, "")
     found.settle(*witnesses)
     assert found.reasons == {gcov_lines.RUNS: len(differing)}
+
+
+ENTERED = """\
+#define HAS(text, byte, at) ((text)[at] == (unsigned char)(byte))
+static int is_mark(const unsigned char *text)
+{
+    if ((HAS(text, '-', 0)
+         && HAS(text, '-', 1))
+        || (HAS(text, '.', 0)
+            && HAS(text, '.', 1)))
+        return 1;
+    return 0;
+}
+int main(void)
+{
+    return is_mark((const unsigned char *)"a word");
+}
+"""
+
+
+def test_a_line_that_is_entered_behind_its_begin(alone: pathlib.Path,
+                                                 tmp_path: pathlib.Path) -> None:
+    """A line whose first instruction ends the condition above it has that reason where a run jumps
+    behind that instruction; a count that is wrong has none."""
+    need("clang", "ld.lld", "llvm-cov", "llvm-symbolizer", "valgrind")
+    counts = ran_both(alone, tmp_path, ENTERED)
+    native, tenant = tmp_path / "native", tmp_path / "tenant"
+    found = gcov_lines.difference(gcov_lines.natively(native),
+                                  gcov_lines.by_tenants([counts], tenant), native)
+    assert found.doubtful == {("drawn.c", 6): False}, found
+    witnesses = (gcov_lines.by_callgrind([tmp_path / "callgrind.out"], native),
+                 gcov_lines.by_llvm([counts], tenant))
+    wrong = copy.deepcopy(found)
+    wrong.doubtful = dict.fromkeys(found.doubtful, True)
+    wrong.settle(*witnesses)
+    assert wrong.unexplained == found.unexplained != {}
+    found.settle(*witnesses)
+    assert not found.unexplained and found.reasons[gcov_lines.MIDDLE] == 1

@@ -6,12 +6,17 @@ import hashlib
 import json
 import pathlib
 import random
+import runpy
 import shutil
 import sys
+from collections.abc import Callable
 from typing import Any
 
 import pytest
 
+from tests.support.batches import Batch
+from tests.support.drawn_sessions import write_sessions
+from tests.support.library import shared_object
 from tests.support.places import EXAMPLES
 from tests.support.running import Ran, Word, run, succeed
 from tests.support.tools import give_up, need
@@ -19,6 +24,8 @@ from tests.support.tools import give_up, need
 VERDICT = EXAMPLES / "many" / "mte_verdict"
 IMAGES = sorted((pathlib.Path(__file__).parent / "images").glob("*.elf"))
 SESSIONS, DRAWN = 6, 6
+# How many verdicts one case makes, and of how many of these a byte is changed.
+MANY, CHANGED = 100, 12
 NOT_A_VERDICT, SIGNATURE, FILE, PROGRAM, RUN, SYSTEM = 3, 4, 5, 6, 7, 8
 
 
@@ -179,3 +186,69 @@ def test_wrong_command_lines(host: pathlib.Path, alone: pathlib.Path, keys: path
         assert (ran.status, ran.output) == (status, ""), words
         assert ran.errors.startswith("mte_verdict: ") and ran.errors.count("\n") == 1, ran.errors
     assert not out.exists()
+
+
+@pytest.fixture
+def at_once(monkeypatch: pytest.MonkeyPatch,
+            capsys: pytest.CaptureFixture[str]) -> Callable[..., tuple[int, str]]:
+    """What makes and checks verdicts in this process: a hundred processes take half a minute."""
+    monkeypatch.setattr(sys, "path", [*sys.path])
+    command = runpy.run_path(str(VERDICT))["main"]
+
+    def ended(act: str, file: pathlib.Path, key: pathlib.Path, *words: Word) -> tuple[int, str]:
+        words = ("mte_verdict", act, file, "--key", key, *words)
+        monkeypatch.setattr(sys, "argv", [str(it) for it in words])
+        try:
+            command()
+        except SystemExit as end:
+            return int(end.code or 0), capsys.readouterr().err
+        return 0, capsys.readouterr().err
+    return ended
+
+
+def words_in(session: pathlib.Path) -> list[Word]:
+    """The words of a session, with the paths of its files."""
+    words = (session / "args").read_text().split()
+    return [*words[:2], *(session / it for it in words[2:])]
+
+
+def change_a_byte(path: pathlib.Path, source: random.Random, part: bytes = b"") -> None:
+    """Gives one byte of a file, or of a part of it, another value."""
+    data = bytearray(path.read_bytes())
+    begin = data.index(part) if part else 0
+    data[source.randrange(begin, begin + len(part) if part else len(data))] ^= 1
+    path.write_bytes(data)
+
+
+def test_a_hundred_verdicts(host: pathlib.Path, shared: pathlib.Path, keys: pathlib.Path,
+                            tmp_path: pathlib.Path, at_once: Callable[..., tuple[int, str]],
+                            ) -> None:
+    """Of drawn sessions the sums are those of the library's reports. A copy of the program finds
+    them right over copies of the files in another folder, but for those of which a byte of a file
+    or of what was signed is another: these it names."""
+    sessions, copies, reports = (tmp_path / it for it in ("sessions", "copies", "reports"))
+    write_sessions(sessions, range(MANY))
+    batch = Batch(sessions, {"TOMBOLOPAN": str(shared_object(shared))})
+    assert batch.run("--reports", reports).status == 0
+    shutil.copytree(sessions, copies)
+    copy = pathlib.Path(shutil.copy(host, tmp_path / "mte_host"))
+    source = random.Random(5)
+    changed = source.sample(range(MANY), CHANGED)
+    for number, session in enumerate(sorted(sessions.iterdir())):
+        file, other = tmp_path / f"{number}.json", copies / session.name
+        assert at_once("make", file, keys / "private", host, *words_in(session)) == (0, "")
+        report = (reports / f"{session.name}.out").read_bytes()
+        said = statement(file)["subject"][0]["digest"]["sha256"]
+        assert said == hashlib.sha256(report).hexdigest(), session.name
+        named = source.choice(["script", "image-0", "image-3", ""]) if number in changed else "-"
+        if named == "":
+            change_a_byte(file, source, json.loads(file.read_text())["payload"].encode())
+        elif named != "-":
+            change_a_byte(other / named, source)
+        status, errors = at_once("check", file, keys / "public", copy, *words_in(other))
+        if named == "":
+            assert status in (NOT_A_VERDICT, SIGNATURE), errors
+        elif named == "-":
+            assert (status, errors) == (0, "")
+        else:
+            assert status == FILE and f"file {named}: " in errors, errors

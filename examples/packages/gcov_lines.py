@@ -221,6 +221,7 @@ ARGUMENT = "a line of arguments, which a macro of one of the C libraries has in 
 ATTRIBUTED = "a line of which callgrind says natively what the tenant's counts say, and gcov not"
 RUNS = "a line at which the runs differ: callgrind says natively what gcov says"
 JUMP = "a line that the counts alone have, by a constant behind a jump that was not reached"
+MIDDLE = "a line that was entered behind its first instruction, which ends the condition above it"
 CONDITION = re.compile(r"\s*#\s*(if|el|endif)")
 
 
@@ -324,9 +325,12 @@ def why_executed(place: Place, native: Witness, tenant: Witness) -> str:
 
 
 def why_not(place: Place, native: Witness, tenant: Witness) -> str:
-    """Why a tenant's counts have a line not that gcov has, if that is known."""
-    if place in tenant.begun or place in tenant.touched:
+    """Why a tenant's counts have a line not that gcov has, if that is known. A line with `||` in
+    front may begin with the last comparison of the one before, over which a run jumps."""
+    if place in tenant.begun:
         return ""
+    if place in tenant.touched:
+        return MIDDLE if place in native.touched else ""
     if place in native.begun:
         return RUNS
     return "" if place in native.touched else ATTRIBUTED

@@ -30,16 +30,13 @@ from batch.answers import Answer
 from batch.bound_store import bound_store
 from batch.driver import Batch
 from batch.engines import Engine, LocalEngine
-from batch.metrics import metrics_of
-from batch.planning import Budget
 from batch.quota import beyond_quota
-from batch.sample import Sample
 from batch.sessions import BadList, Place, Session, places_of, share_of
-from batch.splitting import Split
 from batch.store import Store
 from batch.summaries import json_of, junit_of, write_whole
-from batch.totals import Totals
 from batch.verdicts import Verdict, Work, is_right, lines_of, shown
+
+# What one option alone needs is imported with it: a run of few sessions takes its time for imports.
 
 # The first word of another command than one over sessions.
 METRICS = "metrics"
@@ -246,10 +243,13 @@ def batch_of(given: argparse.Namespace, program: str, store: Store, total: int) 
     batch = Batch(program, store, given.tries, progress(total))
     batch.work.program = program
     if given.steps:
+        from batch.totals import Totals
         totals = Totals(batch, given.steps)
         batch.read = totals.read
         batch.plans.append(totals)
     if given.split:
+        from batch.planning import Budget
+        from batch.splitting import Split
         # What works elsewhere is not measured, and shares have to find the same parts.
         budget = Budget(is_bound=not given.program and not given.share)
         elsewhere = runs.command_sum(given.program) if given.program else ""
@@ -276,6 +276,7 @@ def run(given: argparse.Namespace) -> tuple[list[Verdict], Work]:
     finally:
         engine.close()
     if given.sample:
+        from batch.sample import Sample
         sample = Sample(given.sample, tuple(given.elsewhere), given.jobs, given.tries,
                         given.timeout)
         verdicts = sample.check(verdicts, places, store, program, batch.work)
@@ -287,6 +288,7 @@ def run(given: argparse.Namespace) -> tuple[list[Verdict], Work]:
 
 def show_metrics(store: pathlib.Path) -> None:
     """Writes what is in a store."""
+    from batch.metrics import metrics_of
     if not store.is_dir():
         raise Usage(f"{store} is no store")
     print(metrics_of(store), end="", flush=True)

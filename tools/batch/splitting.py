@@ -13,7 +13,9 @@ from batch.driver import BUNDLE_STEPS, FIRST, Batch
 from batch.engines import Bundle
 from batch.planning import Budget, Plan
 from batch.reports import blocks_of, refused_lines_of, refused_of
-from batch.scripts import MOST_STEPS, Own, allowed_steps, part_of, tenants_of, without_steps
+from batch.scripts import (
+    MOST_STEPS, Own, allowed_steps, may_be_long, part_of, tenants_of, without_steps,
+)
 from batch.sessions import Job, Session, make_key
 from batch.verdicts import KEPT, MENDED, RAN
 
@@ -51,6 +53,8 @@ class Split(Plan):
     share: tuple[int, int] = (1, 1)
     ledgers: set[str] = field(default_factory=set)
     under_way: dict[str, int] = field(default_factory=dict)
+    # Long sessions that run whole, each as a bundle.
+    alone: dict[str, int] = field(default_factory=dict)
 
     def takes(self, session: Session) -> bool:
         """Whether a session is split: it is so long that parts of it pay, by its script's slices
@@ -67,6 +71,7 @@ class Split(Plan):
             Whole(self, session.name, job).begin()
             return True
         if self.budget.expected(steps) > LONG:
+            self.alone[job.key] = steps
             self.batch.push(steps, job)
             return True
         return False
@@ -79,7 +84,7 @@ class Split(Plan):
         if most < 2 * STEPS_OF_PART or not is_worth or job.script.count(b"admit ") < 2:
             return 0
         with self.budget.paying():
-            steps = allowed_steps(job.script)
+            steps = allowed_steps(job.script) if may_be_long(job.script) else 0
         return steps if steps >= 2 * STEPS_OF_PART else 0
 
     def is_mine(self, key: str, number: int = 0) -> bool:
@@ -92,14 +97,15 @@ class Split(Plan):
             self.budget.cost += 2 * seconds
 
     def came(self, bundle: Bundle, seconds: float) -> None:
-        """Learns what a ledger cost, or how long a part took for the steps that it allowed."""
+        """Learns what a ledger cost, or how long a part, or a session that ran alone, took for the
+        steps that it allowed. Without the latter a slow first part would have all run alone."""
         self.budget.worked += seconds
         key = bundle.jobs[0].key
         if key in self.ledgers:
             self.budget.cost += seconds
-        elif key in self.under_way:
+        elif steps := self.under_way.pop(key, 0) or self.alone.pop(key, 0):
             self.budget.taken += seconds
-            self.budget.steps += self.under_way.pop(key)
+            self.budget.steps += steps
 
 
 @dataclass

@@ -3,7 +3,6 @@
 import json
 import os
 import pathlib
-import xml.etree.ElementTree as xml
 from collections import Counter
 from dataclasses import asdict
 
@@ -34,6 +33,7 @@ def json_of(verdicts: list[Verdict], work: Work) -> str:
 def junit_of(verdicts: list[Verdict], work: Work) -> str:
     """A suite with a case for each session: a failure where it is different, an error where it has
     no verdict that counts; and an error of the suite where something was not stored or checked."""
+    import xml.etree.ElementTree as xml  # most runs write none
     suite = xml.Element("testsuite", name="sessions")
     for it in verdicts:
         case = xml.SubElement(suite, "testcase", name=plain(it.name), classname="session")

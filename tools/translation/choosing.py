@@ -1,109 +1,111 @@
-"""The blocks of an image that are worth a translation, by the counts of its runs."""
+"""The blocks of images that are worth a translation, by the counts of their runs."""
 
 from __future__ import annotations
 
 from collections import Counter, defaultdict
-from collections.abc import Mapping
+from collections.abc import Iterable, Mapping
 from dataclasses import dataclass
 
 from tombolopan_profile.counts import BYTES, Counts
-
 from translation.types import JUMPS, form_of
 
 LONGEST = 48  # the most instructions of a block
-JUMP, CALL = "Jump", "Call"
+DIRECT = {"Jump", "Call"}  # the jumps that lead to one address
 
 
 @dataclass(frozen=True)
 class Block:
-    """Instructions that are executed one after another: their addresses, how many steps they are
-    expected to take of the counted runs, and how often control goes on behind the last one."""
+    """Instructions that are executed one after another: their addresses and words, how many steps
+    they are expected to take of the counted runs, how often control goes on behind the last one,
+    and whether it comes back to the first."""
 
     addresses: tuple[int, ...]
+    words: tuple[int, ...]
     steps: float
     goes_on: float
+    again: bool
 
     @property
     def start(self) -> int:
         return self.addresses[0]
 
+    @property
+    def behind(self) -> int:
+        """Where control goes on."""
+        return following(self.addresses[-1], self.words[-1])
+
+
+def following(address: int, word: int) -> int:
+    """The address after an instruction that does not branch on a condition."""
+    form = form_of(word)
+    if form is not None and form[0] in DIRECT:
+        return address + BYTES * form[1][0]
+    return address + BYTES
+
 
 class Profile:
-    """How often control comes to an address, goes on behind it, and goes where from it."""
+    """An image: its words, and how often control comes to an address over a jump that a block does
+    not follow, and goes from an address to others than the next."""
 
     def __init__(self, counts: Counts, words: Mapping[int, int]) -> None:
+        self.words, self.steps = words, counts.steps
         self.executed = counts.executions()
         self.taken: dict[int, Counter[int]] = defaultdict(Counter)
-        self.entered: Counter[int] = Counter()
+        self.entered: Counter[int] = Counter(first for first, _, _ in counts.runs)
         for (source, target), count in counts.branches.items():
             self.taken[source][target] += count
-            # A block goes on over a direct jump.
-            if source in words and target_of(source, words[source]) is None:
+            form = form_of(words.get(source, 0))
+            if form is None or form[0] not in DIRECT:
                 self.entered[target] += count
-        for first, _, _ in counts.runs:
-            self.entered[first] += 1
 
     def goes_on(self, address: int) -> float:
         """The share of the executions after which the next instruction in memory came."""
         count = self.executed.get(address, 0)
         return max(0.0, 1 - sum(self.taken[address].values()) / count) if count else 0.0
 
+    def block_at(self, start: int, entered: int) -> Block | None:
+        """The block from an address on, where control comes so often: over direct jumps, up to any
+        other jump, or to an instruction that has no type or is in it already."""
+        found: list[int] = []
+        steps, share, address = 0.0, float(entered), start
+        while len(found) < LONGEST and address in self.words and address not in found:
+            form = form_of(self.words[address])
+            if form is None or share < 1:
+                break
+            found.append(address)
+            steps += share
+            if form[0] in JUMPS and form[0] not in DIRECT:
+                share = 0
+            elif form[0] not in DIRECT:
+                share *= self.goes_on(address)
+            address = following(address, self.words[address])
+        if not found:
+            return None
+        again = any(start in self.taken[it] for it in found)
+        return Block(tuple(found), tuple(self.words[it] for it in found), steps, share, again)
 
-def target_of(address: int, word: int) -> int | None:
-    """Where B or BL leads."""
-    form = form_of(word)
-    if form is None or form[0] not in (JUMP, CALL):
-        return None
-    return address + BYTES * form[1][0]
-
-
-def block_at(start: int, words: Mapping[int, int], profile: Profile) -> Block:
-    """The block from an address on: over direct jumps, up to any other jump, to an instruction that
-    has no type, or to one that is already in it."""
-    found: list[int] = []
-    seen: set[int] = set()
-    steps, share, address = 0.0, float(profile.entered[start]), start
-    while len(found) < LONGEST and address in words and address not in seen:
-        form = form_of(words[address])
-        if form is None or share < 1:
-            break
-        found.append(address)
-        seen.add(address)
-        steps += share
-        if (target := target_of(address, words[address])) is not None:
-            address = target
-        elif form[0] in JUMPS:
-            share = 0
-        else:
-            share *= profile.goes_on(address)
-            address += BYTES
-    return Block(tuple(found), steps, share)
-
-
-def choose(counts: Counts, words: Mapping[int, int], most: int) -> list[Block]:
-    """The blocks that take the most steps. A block that ends at its greatest length, or where the
-    run went on, leads to others."""
-    profile = Profile(counts, words)
-    found: dict[int, Block] = {}
-    waiting = Counter(profile.entered)
-    while waiting:
-        start, count = waiting.most_common(1)[0]
-        del waiting[start]
-        if start in found:
-            continue
-        profile.entered[start] = count
-        block = found[start] = block_at(start, words, profile)
-        after, share = start + BYTES, count * profile.goes_on(start)
-        if block.addresses:
-            after, share = behind(block, words), block.goes_on
-        if share >= 1 and after not in found:
-            waiting[after] += round(share)
-    chosen = sorted((it for it in found.values() if it.addresses), key=lambda it: -it.steps)
-    return chosen[:most]
+    def blocks(self) -> list[Block]:
+        """The blocks at all addresses to which control comes when there are such blocks."""
+        waiting = Counter(self.entered)
+        found: dict[int, Block | None] = {}
+        while waiting:
+            start, count = waiting.most_common(1)[0]
+            del waiting[start]
+            if start in found:
+                continue
+            block = found[start] = self.block_at(start, count)
+            after, share = start + BYTES, count * self.goes_on(start)
+            if block is not None:
+                after, share = block.behind, block.goes_on
+            if share >= 1 and after not in found:
+                waiting[after] += round(share)
+        return [it for it in found.values() if it is not None]
 
 
-def behind(block: Block, words: Mapping[int, int]) -> int:
-    """The address at which a block ends where nothing leads away from it before."""
-    last = block.addresses[-1]
-    target = target_of(last, words[last])
-    return last + BYTES if target is None else target
+def choose(profiles: Iterable[Profile], most: int) -> list[Block]:
+    """The blocks that take the most steps, each once."""
+    steps: Counter[Block] = Counter()
+    for profile in profiles:
+        for block in profile.blocks():
+            steps[block] += 1
+    return sorted(steps, key=lambda it: -it.steps)[:most]

@@ -1,24 +1,34 @@
-"""The crate of an image's blocks: nothing but types."""
+"""The crate of the blocks of images: nothing but types."""
 
 import itertools
-from collections.abc import Iterable, Mapping, Sequence
+from collections import defaultdict
+from collections.abc import Iterable, Sequence
 
-from translation.choosing import Block
 from a64.form_types import PARTS, in_part
+from tombolopan_profile.counts import BYTES
+from translation.choosing import Block
 from translation.types import form_of, read_tables, written
 
 PART = 6  # the most instructions of a type: the prover's time grows with the depth of types
-BYTES = 4
-GROUP = 16  # of blocks
-PLACES = 2048  # of the table from addresses to numbers
+GROUP = 16  # blocks of a type, for the same reason
+MOST = 1000  # blocks: a run has a place for as many (a64_blocks)
+PLACES = 4096  # of the table from addresses to numbers
+
+ROOT = """\
+//! The hottest blocks of images. Written by tools/translate.py.
+#![tactic(auto)]
+
+mod blocks;
+mod parts;
+
+pub use blocks::Images;
+"""
 
 HEAD = """\
 //! {said}
-//! Written by tools/translate.py.
-#![tactic(auto)]
 
-use a64_blocks::{{Again, Blocks, Cat, Code, Image, Last, Nothing, Seq}};
-{forms}use a64_registers::Regs;
+use a64_blocks::{{{used}}};
+{more}use a64_registers::Regs;
 use a64_run::Edges;
 use a64_step::Outcome;
 use mte_tags::Tagged;
@@ -50,12 +60,12 @@ impl Code for {name} {{
 
     #[inline(always)]
     fn start() -> u64 {{
-        {start}
+        <{name}Code as Code>::start()
     }}
 
     #[inline(always)]
     fn count() -> u64 {{
-        {count}
+        <{name}Code as Code>::count()
     }}
 
     fn is_there<M: Tagged>(memory: &mut M) -> bool {{
@@ -92,8 +102,13 @@ impl Image for {name} {{
     }}
 
     #[inline(always)]
-    fn number_at(pc: u64) -> u16 {{
+    fn number_at({pc}: u64) -> u16 {{
         {numbers}
+    }}
+
+    #[inline(always)]
+    fn next({number}: u16) -> u16 {{
+        {nexts}
     }}
 
     ghost stays = {{ ⟦<{name}Blocks as Image>⟧.stays }};
@@ -101,86 +116,93 @@ impl Image for {name} {{
 """
 
 
-def chain(addresses: Sequence[int], words: Mapping[int, int]) -> str:
+def chain(instructions: Sequence[tuple[int, int]]) -> str:
     """The type of instructions in a row."""
     text = ""
-    for address in reversed(addresses):
-        form = form_of(words[address])
+    for address, word in reversed(instructions):
+        form = form_of(word)
         assert form
-        inside = f"{written(form)}, {address}, {words[address]}"
+        inside = f"{written(form)}, {address}, {word}"
         text = f"Seq<{inside}, {text}>" if text else f"Last<{inside}>"
     return text
 
 
-def in_rows(addresses: Sequence[int]) -> list[list[int]]:
+def in_rows(block: Block) -> list[list[tuple[int, int]]]:
     """The parts of a block: instructions in a row, at most so many."""
-    parts: list[list[int]] = [[addresses[0]]]
-    for before, address in itertools.pairwise(addresses):
-        if address != before + BYTES or len(parts[-1]) == PART:
+    parts: list[list[tuple[int, int]]] = []
+    for address, word in zip(block.addresses, block.words):
+        if not parts or len(parts[-1]) == PART or address != parts[-1][-1][0] + BYTES:
             parts.append([])
-        parts[-1].append(address)
+        parts[-1].append((address, word))
     return parts
 
 
-def code_of(name: str, said: str, kind: str, first: Sequence[int], inline: str) -> str:
-    return CODE.format(name=name, said=said, type=kind, inline=inline, start=first[0],
-                       count=len(first))
+def part_types(number: int, block: Block) -> str:
+    """The types of a block's parts."""
+    return "".join(CODE.format(name=f"B{number}P{at}", type=chain(part), inline="always",
+                               said=f"{part[0][0]:#x} to {part[-1][0]:#x}.")
+                   for at, part in enumerate(in_rows(block)))
 
 
-def block_types(number: int, block: Block, words: Mapping[int, int], again: bool) -> str:
-    """The types of a block."""
-    parts = in_rows(block.addresses)
-    texts, names = [], []
-    for at, part in enumerate(parts):
-        names.append(f"B{number}P{at}")
-        texts.append(code_of(names[-1], f"{part[0]:#x} to {part[-1]:#x}.", chain(part, words), part,
-                             "always"))
+def part_names(number: int, block: Block) -> list[str]:
+    return [f"B{number}P{at}" for at in range(len(in_rows(block)))]
+
+
+def block_type(number: int, block: Block) -> str:
+    """The type of a block."""
+    names = part_names(number, block)
     kind = names[-1]
     for name in reversed(names[:-1]):
         kind = f"Cat<{name}, {kind}>"
-    if again:
-        kind = f"Again<{kind}>"
-    texts.append(code_of(f"B{number}", f"The block at {block.start:#x}.", kind, parts[0], "never"))
+    return CODE.format(name=f"B{number}", type=f"Again<{kind}>" if block.again else kind,
+                       inline="never", said=f"The block at {block.start:#x}.")
+
+
+def match(asked: str, answers: Iterable[tuple[int, int]]) -> str:
+    arms = "".join(f"            {value} => {number},\n" for value, number in sorted(answers))
+    return f"match {asked} {{\n{arms}            _ => 0,\n        }}" if arms else "0"
+
+
+def group_types(blocks: Sequence[Block]) -> str:
+    """The types from numbers to blocks, the last first."""
+    places: dict[int, list[int]] = defaultdict(list)
+    for number, block in enumerate(blocks, start=1):
+        places[block.start // BYTES % PLACES].append(number)
+    firsts = [(place, numbers[0]) for place, numbers in places.items()]
+    nexts = [pair for numbers in places.values() for pair in itertools.pairwise(numbers)]
+    texts, after = [], "Nothing"
+    for first in reversed(range(0, len(blocks), GROUP)):
+        kind = after
+        for at in reversed(range(first, min(first + GROUP, len(blocks)))):
+            kind = f"Blocks<B{at + 1}, {kind}>"
+        after = f"From{first + 1}" if first else "Images"
+        texts.append(IMAGE.format(
+            name=after, type=kind, said=f"The blocks from number {first + 1} on.",
+            pc="_pc" if first else "pc", number="_number" if first or not nexts else "number",
+            numbers="0" if first else match(f"pc / {BYTES} % {PLACES}", firsts),
+            nexts="0" if first else match("number", nexts)))
     return "".join(texts)
 
 
-def loops(block: Block, taken: Mapping[int, Iterable[int]]) -> bool:
-    """Whether a block leads to its own start."""
-    return any(block.start in taken.get(address, ()) for address in block.addresses)
-
-
-def numbers(blocks: Sequence[Block]) -> str:
-    """The arms from places to numbers; of two blocks at one place the first has it."""
-    places: dict[int, int] = {}
-    for number, block in enumerate(blocks, start=1):
-        places.setdefault(block.start // BYTES % PLACES, number)
-    arms = "".join(f"            {place} => {number},\n"
-                   for place, number in sorted(places.items()))
-    return f"match pc / 4 % {PLACES} {{\n{arms}            _ => 0,\n        }}"
-
-
-def imports(names: set[str]) -> str:
-    """What imports these forms."""
+def form_imports(blocks: Iterable[Block]) -> str:
+    """What imports the forms of blocks."""
+    names = {form[0] for block in blocks for word in block.words if (form := form_of(word))}
     parts = ((part, sorted(form.name for form in in_part(part, read_tables()[1])
                            if form.name in names)) for part in PARTS)
     return "".join(f"use a64_forms::{part}::{{{', '.join(found)}}};\n" for part, found in parts
                    if found)
 
 
-def crate_text(said: str, blocks: Sequence[Block], words: Mapping[int, int],
-               taken: Mapping[int, Iterable[int]]) -> str:
-    """The source of the crate."""
-    names = {found[0] for block in blocks for address in block.addresses
-             if (found := form_of(words[address]))}
-    types = "".join(block_types(number, block, words, loops(block, taken))
-                    for number, block in enumerate(blocks, start=1))
-    groups, after = [], "Nothing"
-    for first in reversed(range(0, len(blocks), GROUP)):
-        last = min(first + GROUP, len(blocks))
-        kind = after
-        for number in reversed(range(first, last)):
-            kind = f"Blocks<B{number + 1}, {kind}>"
-        after = f"G{first + 1}" if first else "Hot"
-        groups.append(IMAGE.format(name=after, type=kind, said=f"Blocks from {first + 1} on.",
-                                   numbers="0" if first else numbers(blocks)))
-    return HEAD.format(said=said, forms=imports(names)) + types + "".join(groups)
+def texts_of(blocks: Sequence[Block]) -> dict[str, str]:
+    """The sources of the crate, by their names."""
+    counted = list(enumerate(blocks, start=1))
+    names = [name for number, block in counted for name in part_names(number, block)]
+    parts = HEAD.format(said="The parts of blocks: instructions in a row.",
+                        used="Code, Last, Seq", more=form_imports(blocks))
+    types = HEAD.format(said="Blocks and their numbers.",
+                        used="Again, Blocks, Cat, Code, Image, Nothing",
+                        more=f"use crate::parts::{{{', '.join(names)}}};\n")
+    return {"lib.rt": ROOT,
+            "parts.rt": parts + "".join(part_types(*it) for it in counted),
+            "blocks.rt": types + "".join(block_type(*it) for it in counted)
+                         + group_types(blocks)}

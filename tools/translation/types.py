@@ -49,6 +49,10 @@ def own_effect(row: str, values: dict[str, int]) -> tuple[str, list[int]] | None
         return name, [values["rn"], values["rd"], mask_of(values)]
     if row == "Hint":
         return "Hint", []
+    if row == "LogShift" and values["rd"] != NO_REGISTER and (
+            values["opc"], values["shift"], values["n"], values["imm6"], values["rm"],
+            values["rn"]) == (1, 0, 0, 0, NO_REGISTER, NO_REGISTER):
+        return "Constant", [values["rd"], 0]
     if row == "Bitfield" and values["opc"] == 2 and values["imms"] + 1 == values["immr"]:
         if NO_REGISTER in (values["rn"], values["rd"]):
             return None

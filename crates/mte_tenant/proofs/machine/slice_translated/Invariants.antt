@@ -14,7 +14,7 @@ invariant-loop-left g l = record {
       after_attempts l.left (machine_of l.parts (g.M.Tagged.memory l.memory))
       ≡ after_attempts l.fn.steps (machine_of l.fn.parts (g.M.Tagged.memory l.fn.memory));
   known : Knows (g.M.Tagged.memory l.memory) l.ops;
-  found : g.T.knows l.blocks (g.M.Tagged.memory l.memory);
+  found : g.T.Translation.knows l.blocks (g.M.Tagged.memory l.memory);
   ready : IsReady l.parts (g.M.Tagged.memory l.memory);
   kept : g.M.Tagged.kept l.fn.memory l.memory;
 }
