@@ -7,7 +7,7 @@ from a64 import calls, table
 from a64.calls import Call, Sources
 from a64.dispatch import BRANCHES, ROW_FAMILIES, UNFOLDED, WRITTEN
 from a64.forms import FROM_FORMS, Forms, by_module, check_passed, of_table
-from a64.layout import applied, comment, form_names, form_pattern, functions_used
+from a64.layout import WIDTH, applied, comment, form_names, form_pattern, functions_used
 from a64.table import FIRST_TABLE, Form, TableError
 
 CRATE = "crates/a64_forms"
@@ -61,8 +61,11 @@ ghost use Rattle.a64_ops.specs.declared.op.Op.TheVariants as op;
 
 %(used)s"""
 
+# A line that is longer than the formatter's.
+SKIP = "#[rattlefmt::skip]\n"
+
 TYPE = """
-%(doc)spub struct %(name)s%(declared)s;
+%(doc)s%(skip)spub struct %(name)s%(declared)s;
 
 #[rattlefmt::skip]
 impl%(declared)s Form for %(name)s%(applied)s {
@@ -135,6 +138,8 @@ def type_of(form: Form, sources: Sources) -> str:
             "body": "".join(f"        {line}\n" for line in lines),
             "pattern": form_pattern(form),
             "same": " && ".join(f"{name} == {constant(name)}" for name in names) or "true"}
+    line = f"pub struct {form.name}{said['declared']};"
+    said["skip"] = SKIP if len(line) > WIDTH else ""
     used = set(re.findall(r"\w+", " ".join(lines)))
     said |= {name: name if name in used else f"_{name}"
              for name in ("pc", "regs", "memory", "outcome")}

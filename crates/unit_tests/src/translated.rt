@@ -24,8 +24,11 @@ static DIFFERENCE: [u32; 6] = [
 ];
 
 type Test = Seq<SubsImm<1, 3, 3>, 0x10008, 0xF1000463, Last<JumpNe<-3>, 0x1000C, 0x54FFFFA1>>;
+
 type Turn = Seq<Load<0, 1, 2>, 0x10000, 0xF9400022, Seq<Add<0, 2, 0>, 0x10004, 0x8B000040, Test>>;
+
 type Whole = Cat<Again<Turn>, Last<Store<0, 1, 0>, 0x10010, 0xF9000020>>;
+
 type Sum = Blocks<Whole, Blocks<Turn, Nothing>>;
 
 /// What a run tells of its instructions, as one number of each kind.
@@ -51,11 +54,17 @@ impl Edges for Told {
     }
 
     fn attempting(&mut self, pc: u64, word: u32, regs: &Regs) {
-        self.attempted = joined(joined(joined(self.attempted, pc), u64::from(word)), regs.x[0]);
+        self.attempted = joined(
+            joined(joined(self.attempted, pc), u64::from(word)),
+            regs.x[0],
+        );
     }
 
     fn completed(&mut self, pc: u64, word: u32, regs: &Regs) {
-        self.completed = joined(joined(joined(self.completed, pc), u64::from(word)), regs.x[0]);
+        self.completed = joined(
+            joined(joined(self.completed, pc), u64::from(word)),
+            regs.x[0],
+        );
     }
 }
 
@@ -103,7 +112,14 @@ fn ran<T: Translation>(rt: &HostRuntime, words: &[u32]) -> Result<(Regs, u64, To
     };
     let mut outcome = Outcome::Next;
     kept.begin_run();
-    let left = T::begin().run(&mut kept, &mut regs, &mut memory, &mut told, &mut outcome, 100);
+    let left = T::begin().run(
+        &mut kept,
+        &mut regs,
+        &mut memory,
+        &mut told,
+        &mut outcome,
+        100,
+    );
     if outcome != Outcome::Svc {
         return Err(Fail::from("no call of the supervisor"));
     }
@@ -133,8 +149,7 @@ fn numbers_have_blocks(rt: HostRuntime) -> Result<(), Fail> {
         if !Sum::is_there(number, &mut memory) {
             return Err(Fail::from("a block is not there"));
         }
-        let left =
-            Sum::run_number(number, &mut regs, &mut memory, &mut told, &mut outcome, 100);
+        let left = Sum::run_number(number, &mut regs, &mut memory, &mut told, &mut outcome, 100);
         assert!(rt; left == 100 - steps);
     }
     assert!(rt; !Sum::is_there(0, &mut memory) && !Sum::is_there(3, &mut memory));
