@@ -19,7 +19,8 @@ from collections.abc import Iterator
 
 import findings
 from a64 import (
-    absent, accesses, compare, dispatch, groups, kept_memory, meaning, pages, rows, table,
+    absent, accesses, compare, dispatch, form_types, groups, kept_memory, meaning, pages, rows,
+    table,
 )
 from a64.table import Form, Rows
 
@@ -28,7 +29,8 @@ def written_files(all_rows: Rows, all_forms: list[Form]) -> dict[str, str]:
     """What every file must be, by its path."""
     return {**rows.written(all_rows), **groups.written(all_rows),
             **dispatch.written(all_rows, all_forms), **accesses.written(all_rows),
-            **kept_memory.written(all_rows), **pages.written(all_rows, all_forms),
+            **form_types.written(all_forms), **kept_memory.written(all_rows),
+            **pages.written(all_rows, all_forms),
             **absent.written(absent.read_families())}
 
 

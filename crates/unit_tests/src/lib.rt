@@ -24,3 +24,5 @@ mod streams;
 mod tenants;
 #[cfg(test)]
 mod texts;
+#[cfg(test)]
+mod translated;
