@@ -21,6 +21,7 @@ ACCESSES = ("ld_st_imm", "ld_st_unscaled", "ld_st_post", "ld_st_pre", "ld_st_reg
 BRANCHES = ("branch", "branch_cond", "cmp_branch", "test_branch")
 TABLE = {data[0]: Row(data) for data in ROWS}
 RETURN = 0xD65F0000 | LINK << 5
+RESET = instructions.add(ADDRESS, CHUNK, 1024)
 
 
 def draw_register(source: random.Random) -> int:
@@ -40,17 +41,22 @@ def draw_data(source: random.Random) -> int:
             return word
 
 
-def draw_access(source: random.Random) -> int:
-    """A load or a store, which seldom leaves the chunk, at an address that may have been moved."""
+def draw_access(source: random.Random) -> list[int]:
+    """A load or a store, which seldom leaves the chunk or meets another tag, at an address that may
+    have been moved."""
     row = TABLE[source.choice(ACCESSES)]
     while True:
-        drawn = draw_fields(source, row)
+        drawn = draw_fields(source, row) | {"rn": ADDRESS, "rm": OFFSET}
         drawn |= {name: draw_register(source) for name in ("rt", "rt2") if name in drawn}
-        drawn |= {"rn": ADDRESS, "rm": OFFSET} | ({"imm12": drawn["imm12"] % 64}
-                                                 if "imm12" in drawn else {})
+        begin = [RESET] * (source.random() < 0.5)
+        if "imm12" in drawn:
+            drawn["imm12"] %= 64
+        if row.name in ("ldg", "st_g") and source.random() < 0.98:
+            drawn |= {"rt": ADDRESS, "imm9": source.randint(0, 15)}
+            begin = [RESET]
         word = row.word({name: drawn[name] for name, _, _ in row.fields})
         if row.has(word):
-            return word
+            return [*begin, word]
 
 
 def draw_branch(source: random.Random, most: int) -> int:
@@ -65,15 +71,14 @@ def draw_branch(source: random.Random, most: int) -> int:
 
 def draw_block(source: random.Random) -> list[int]:
     """The words of a block."""
-    length = source.randint(4, WORDS - 3)
-    words = [instructions.add(ADDRESS, CHUNK, 1024)]
+    length = source.randint(4, WORDS - 4)
+    words = [RESET]
     while len(words) < length:
         kind, more = source.random(), length - len(words)
         if kind < 0.6:
             words.append(draw_data(source))
         elif kind < 0.85 or more < 3:
-            words += [instructions.add(ADDRESS, CHUNK, 1024)][:more - 1] * (source.random() < 0.5)
-            words.append(draw_access(source))
+            words += draw_access(source)
         else:
             words.append(draw_branch(source, more - 1))
     return [*words, *[instructions.NOTHING] * source.randint(0, 1), RETURN]
