@@ -1,0 +1,1 @@
+"""Blocks of images as types: which ones, and the crate of them."""

@@ -174,8 +174,8 @@ impl SnapshotTenant {
         );
     }
 
-    /// A slice of at most `steps` instructions, whatever watches it. Blocks that were translated are
-    /// run where only branches are counted.
+    /// A slice of at most `steps` instructions, whatever watches it. Where branches alone are
+    /// counted, it runs blocks that were translated.
     pub fn slice_with<T: Translation>(&mut self, watch: &mut RunWatch<'_>, steps: u32)
         ensures machine { machine_of self.new.parts self.new.memory.now
             ≡ after_slice steps (machine_of self.old.parts self.old.memory.now) }
