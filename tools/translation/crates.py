@@ -1,7 +1,5 @@
 """The crate of the blocks of images: nothing but types."""
 
-import itertools
-from collections import defaultdict
 from collections.abc import Iterable, Sequence
 
 from a64.form_types import PARTS, in_part
@@ -106,11 +104,6 @@ impl Image for {name} {{
         {numbers}
     }}
 
-    #[inline(always)]
-    fn next({number}: u16) -> u16 {{
-        {nexts}
-    }}
-
     ghost stays = {{ ⟦<{name}Blocks as Image>⟧.stays }};
 }}
 """
@@ -163,13 +156,14 @@ def match(asked: str, answers: Iterable[tuple[int, int]]) -> str:
     return f"match {asked} {{\n{arms}            _ => 0,\n        }}" if arms else "0"
 
 
+def place_of(block: Block) -> int:
+    """Where the number of a block is looked up."""
+    return block.start // BYTES % PLACES
+
+
 def group_types(blocks: Sequence[Block]) -> str:
     """The types from numbers to blocks, the last first."""
-    places: dict[int, list[int]] = defaultdict(list)
-    for number, block in enumerate(blocks, start=1):
-        places[block.start // BYTES % PLACES].append(number)
-    firsts = [(place, numbers[0]) for place, numbers in places.items()]
-    nexts = [pair for numbers in places.values() for pair in itertools.pairwise(numbers)]
+    places = [(place_of(block), number) for number, block in enumerate(blocks, start=1)]
     texts, after = [], "Nothing"
     for first in reversed(range(0, len(blocks), GROUP)):
         kind = after
@@ -178,9 +172,8 @@ def group_types(blocks: Sequence[Block]) -> str:
         after = f"From{first + 1}" if first else "Images"
         texts.append(IMAGE.format(
             name=after, type=kind, said=f"The blocks from number {first + 1} on.",
-            pc="_pc" if first else "pc", number="_number" if first or not nexts else "number",
-            numbers="0" if first else match(f"pc / {BYTES} % {PLACES}", firsts),
-            nexts="0" if first else match("number", nexts)))
+            pc="_pc" if first else "pc",
+            numbers="0" if first else match(f"pc / {BYTES} % {PLACES}", places)))
     return "".join(texts)
 
 
@@ -194,7 +187,8 @@ def form_imports(blocks: Iterable[Block]) -> str:
 
 
 def texts_of(blocks: Sequence[Block]) -> dict[str, str]:
-    """The sources of the crate, by their names."""
+    """The sources of the crate, by their names. Of blocks at one place the first is there."""
+    blocks = list({place_of(block): block for block in reversed(blocks)}.values())[::-1]
     counted = list(enumerate(blocks, start=1))
     names = [name for number, block in counted for name in part_names(number, block)]
     parts = HEAD.format(said="The parts of blocks: instructions in a row.",
