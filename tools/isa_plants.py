@@ -23,8 +23,8 @@ from typing import Optional
 
 ROOT = pathlib.Path(__file__).resolve().parents[1]
 CRATES = ("a64_bits", "a64_instr", "a64_asm", "a64_decode", "a64_registers", "a64_access",
-          "a64_step", "a64_ops", "a64_execute", "a64_run", "a64_text", "tombolopan", "run_records",
-          "run_cause")
+          "a64_step", "a64_ops", "a64_execute", "a64_forms", "a64_run", "a64_text", "tombolopan",
+          "run_records", "run_cause")
 FOLDERS = ["isa", "tools", "docs", *(f"crates/{name}" for name in CRATES)]
 DEFINITIONS = {"crates/a64_asm/specs/Encoding.antt": r"^(word_of|tests) |^    ",
                "crates/a64_step/specs/Steps.antt": r"^step_of_instr \(instr"}
