@@ -6,6 +6,7 @@ import struct
 from tests.support import instructions
 from tests.support.drawn_words import Row, draw_fields
 from disassembly.rows import ROWS
+from translation.types import form_of
 
 # What each byte of the input chooses from, and the words of each.
 BLOCKS, WORDS = 48, 32
@@ -28,24 +29,28 @@ def draw_register(source: random.Random) -> int:
     return 31 if source.random() < 0.1 else source.randrange(OWN)
 
 
+def has_type(source: random.Random, word: int) -> bool:
+    """Whether a block may have an instruction; seldom one that may not."""
+    return form_of(word) is not None or source.random() < 0.02
+
+
 def draw_data(source: random.Random) -> int:
     """An instruction between registers."""
-    row = TABLE[source.choice(DATA)]
     while True:
+        row = TABLE[source.choice(DATA)]
         drawn = draw_fields(source, row)
         drawn |= {name: draw_register(source) for name in ("rd", "rn", "rm", "ra") if name in drawn}
         word = row.word(drawn)
-        # SP stays what it is.
-        if row.has(word) and not (drawn.get("rd") == 31 and row.name in ("add_sub_imm", "log_imm",
-                                                                         "add_sub_ext")):
+        moves_sp = drawn.get("rd") == 31 and row.name in ("add_sub_imm", "log_imm", "add_sub_ext")
+        if row.has(word) and has_type(source, word) and not moves_sp:
             return word
 
 
 def draw_access(source: random.Random) -> list[int]:
     """A load or a store, which seldom leaves the chunk or meets another tag, at an address that may
     have been moved."""
-    row = TABLE[source.choice(ACCESSES)]
     while True:
+        row = TABLE[source.choice(ACCESSES)]
         drawn = draw_fields(source, row) | {"rn": ADDRESS, "rm": OFFSET}
         drawn |= {name: draw_register(source) for name in ("rt", "rt2") if name in drawn}
         begin = [RESET] * (source.random() < 0.5)
@@ -55,7 +60,7 @@ def draw_access(source: random.Random) -> list[int]:
             drawn |= {"rt": ADDRESS, "imm9": source.randint(0, 15)}
             begin = [RESET]
         word = row.word({name: drawn[name] for name, _, _ in row.fields})
-        if row.has(word):
+        if row.has(word) and has_type(source, word):
             return [*begin, word]
 
 

@@ -15,9 +15,9 @@ NO_REGISTER = 31
 
 @functools.cache
 def read_tables() -> tuple[table.Rows, list[table.Form]]:
-    """The rows and the forms of `Op`."""
+    """The rows and the forms."""
     rows = table.read_rows()
-    return rows, [form for form in table.read_forms(rows) if not form.table.held]
+    return rows, table.read_forms(rows)
 
 
 def mask_of(values: dict[str, int]) -> int:
@@ -75,7 +75,10 @@ def form_of(word: int) -> tuple[str, tuple[int, ...]] | None:
     if found := own_effect(row.name, values):
         return found[0], tuple(found[1])
     form = matching_form(row, values, forms, rows)
-    return (form.name, tuple(values[name] for name, _ in form.kept)) if form else None
+    # The rare ones are not in `Op`, and have no types.
+    if form is None or form.table.held:
+        return None
+    return form.name, tuple(values[name] for name, _ in form.kept)
 
 
 def written(form: tuple[str, tuple[int, ...]]) -> str:
