@@ -177,9 +177,9 @@ def group_types(blocks: Sequence[Block]) -> str:
     return "".join(texts)
 
 
-def form_imports(blocks: Iterable[Block]) -> str:
-    """What imports the forms of blocks."""
-    names = {form[0] for block in blocks for word in block.words if (form := form_of(word))}
+def form_imports(words: Iterable[int]) -> str:
+    """What imports the forms of words."""
+    names = {form[0] for word in words if (form := form_of(word))}
     parts = ((part, sorted(form.name for form in in_part(part, read_tables()[1])
                            if form.name in names)) for part in PARTS)
     return "".join(f"use a64_forms::{part}::{{{', '.join(found)}}};\n" for part, found in parts
@@ -191,8 +191,9 @@ def texts_of(blocks: Sequence[Block]) -> dict[str, str]:
     blocks = list({place_of(block): block for block in reversed(blocks)}.values())[::-1]
     counted = list(enumerate(blocks, start=1))
     names = [name for number, block in counted for name in part_names(number, block)]
+    forms = form_imports(word for block in blocks for word in block.words)
     parts = HEAD.format(said="The parts of blocks: instructions in a row.",
-                        used="Code, Last, Seq", more=form_imports(blocks))
+                        used="Code, Last, Seq", more=forms)
     types = HEAD.format(said="Blocks and their numbers.",
                         used="Again, Blocks, Cat, Code, Image, Nothing",
                         more=f"use crate::parts::{{{', '.join(names)}}};\n")
