@@ -23,7 +23,6 @@ from collections.abc import Iterable, Mapping
 ROOT = pathlib.Path(__file__).resolve().parent.parent
 sys.path.insert(0, str(ROOT / "examples" / "embed"))
 
-# pylint: disable=wrong-import-position
 from tombolopan_profile import counts as run_counts  # noqa: E402
 from tombolopan_profile import forms  # noqa: E402
 from translation import choosing, crates  # noqa: E402
