@@ -6,8 +6,8 @@ them.
 
 COUNTS is what `mte_run --profile` wrote of runs of an image; several files may be of one image or
 of several. The N blocks (200) that take the most steps become types of a64_forms and a64_blocks in
-a copy of this checkout in FOLDER, and tools/build.sh of the copy builds the program: mte_host,
-mte_run or libtombolopan_c.a (mte_host). It is in FOLDER then.
+a copy of this checkout in FOLDER, and tools/build.sh of the copy builds the program: mte_host, or
+libtombolopan_c.a, whose fuzzed runs take them (mte_host). It is in FOLDER then.
 
 Reports are those of the program without blocks, for any image: a run takes a block only where its
 words are in memory, on pages without WRITE. With --proved this is proved of the program, as of any
@@ -30,7 +30,7 @@ from translation import choosing, crates  # noqa: E402
 CRATE = "translated_image"
 USES = "a64_forms a64_registers a64_run a64_step a64_blocks mte_tags"
 # The programs, and the crates that say which blocks their runs take.
-PROGRAMS = {"mte_host": "mte_host", "mte_run": "tenant_run", "libtombolopan_c.a": "tombolopan_c"}
+PROGRAMS = {"mte_host": "mte_host", "libtombolopan_c.a": "tombolopan_c"}
 ALIAS = """\
 //! The blocks that runs take before their tables of decoded instructions.
 

@@ -4,13 +4,12 @@ ghost use Rattle.std.specs.Prelude.{◌≡◌, ◌<◌, Some, false, IfOk, IfErr
 ghost use Rattle.common.specs.Obstacles.{IfRefused};
 ghost use Rattle.mte_svc.specs.Ready.{IsReady};
 
-use crate::blocks::Hot;
 use a64_run::{NoEdges, OpCache};
 use common::Obstacle;
 use mte_flat::Flat;
 use mte_tenant::{
-    Admission, AdmitError, Lone, Notes, Status, TenantParts, slice_noted, slice_translated,
-    slice_watched,
+    Admission, AdmitError, Lone, Notes, Status, TenantParts, slice_noted, slice_watched,
+    slice_with_edges,
 };
 use std::alloc::Global;
 
@@ -103,8 +102,7 @@ impl TenantBench {
         let (parts, memory) = (&mut self.parts, &mut self.memory);
         match watch.shown() {
             WatchLevel::Nothing => {
-                let edges = &mut NoEdges;
-                slice_translated::<_, _, Hot>(&mut self.words, parts, memory, edges, steps)
+                slice_with_edges(&mut self.words, parts, memory, &mut NoEdges, steps)
             }
             WatchLevel::Branches | WatchLevel::Accesses => {
                 let last = watch.begin(parts, steps);

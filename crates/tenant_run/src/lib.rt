@@ -2,7 +2,6 @@
 #![tactic(auto)]
 
 mod bench;
-mod blocks;
 mod ending;
 mod line_log;
 mod lone;
