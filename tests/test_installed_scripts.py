@@ -36,8 +36,7 @@ CALLED = {"tools/batch/__main__.py": "batch", "examples/many/run.sh": "batch"}
 WRONG = {"tenant-cc": "--stack=none", "tenant-c++": "--stack=none"}
 
 # What commands of pages name and is not installed: it builds and measures a checkout.
-CHECKOUT = {"tests/quick.sh", "tests/run.sh", "tools/build.sh", "tools/speed/measure.py",
-            "tools/translate.py"}
+CHECKOUT = {"tests/quick.sh", "tests/run.sh", "tools/build.sh", "tools/speed/measure.py"}
 
 
 @pytest.fixture
