@@ -403,6 +403,17 @@ def test_an_output_of_tenant_run_that_nobody_reads(
     assert found[0] == found[1]
 
 
+def added(files: list[pathlib.Path]) -> tuple[run_counts.Counts, list[run_counts.Counts]]:
+    """The counts of files together, whose executions are the sums, and those of each."""
+    each = [run_counts.read_files([file]) for file in files]
+    whole = run_counts.read_files(files)
+    sums: Counter[int] = Counter()
+    for one in each:
+        sums.update(one.executions())
+    assert whole.executions() == sums
+    return whole, each
+
+
 def test_runs_add_up(alone: pathlib.Path, tmp_path: pathlib.Path) -> None:
     """Of several runs each count is the sum; counts of another image are refused."""
     files = []
@@ -410,12 +421,7 @@ def test_runs_add_up(alone: pathlib.Path, tmp_path: pathlib.Path) -> None:
         (tmp_path / "input").write_text(act)
         files.append(tmp_path / f"counts.{act}")
         run([alone, "--input", tmp_path / "input", "--profile", files[-1], IMAGES[0]])
-    each = [run_counts.read_files([file]) for file in files]
-    whole = run_counts.read_files(files)
-    sums: Counter[int] = Counter()
-    for one in each:
-        sums.update(one.executions())
-    assert whole.executions() == sums
+    whole, each = added(files)
     own: Counter[tuple[int, ...]] = Counter()
     for one in each:
         own.update(own_steps(one))
@@ -437,12 +443,7 @@ def test_runs_of_an_image_without_names_add_up(alone: pathlib.Path,
         (tmp_path / "input").write_bytes(bytes([block]))
         files.append(tmp_path / f"counts.{block}")
         run([alone, "--input", tmp_path / "input", "--profile", files[-1], image])
-    each = [run_counts.read_files([file]) for file in files]
-    whole = run_counts.read_files(files)
-    sums: Counter[int] = Counter()
-    for one in each:
-        sums.update(one.executions())
-    assert whole.executions() == sums
+    whole, each = added(files)
     assert {entry for entry, _ in whole.functions} == {
         entry for one in each for entry, _ in one.functions}
     assert len(whole.functions) > drawn_blocks.BLOCKS // 2

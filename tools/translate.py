@@ -10,8 +10,9 @@ a copy of this checkout in FOLDER, and tools/build.sh of the copy builds the pro
 libtombolopan_c.a, whose fuzzed runs take them (mte_host). It is in FOLDER then.
 
 Reports are those of the program without blocks, for any image: a run takes a block only where its
-words are in memory, on pages without WRITE. With --proved this is proved of the program, as of any
-other; no proof is written for an image. What such a program is worth is in docs/SPEED.md.
+words are in memory, on pages without WRITE. a64_blocks proves that for all blocks. --proved proves
+the types and the program too, which was not tried yet; no proof is written for an image. What such
+a program is worth is in docs/SPEED.md.
 """
 import argparse
 import pathlib
