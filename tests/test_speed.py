@@ -23,7 +23,7 @@ def test_a_step_calls_nothing(host: pathlib.Path) -> None:
     then takes twice as much."""
     need("nm")
     names = succeed(["nm", "-C", host]).output
-    assert "slice_translated" in names
+    assert "slice_with_blocks" in names
     assert not re.search(r"op_cache::run_known\b", names)
     assert not re.search(r"execute_op::execute_op\b", names)
 

@@ -5,7 +5,7 @@ ghost use Rattle.mte_program.specs.Conclusions.{Concluded};
 use crate::files::Files;
 use crate::program::Program;
 use crate::running::run_program;
-use a64_run::Translation;
+use a64_run::CompiledBlocks;
 use mte_session::{Ending, Sink, finish};
 use std::alloc::Global;
 
@@ -22,7 +22,7 @@ pub enum Invocation {
 
 /// Runs the session that was requested, if one was, writes the line for standard error, if there is
 /// one, and returns the exit status.
-pub fn conclude<F: Files, W: Sink, E: Sink, T: Translation>(
+pub fn conclude<F: Files, W: Sink, E: Sink, T: CompiledBlocks>(
     alloc: Global,
     invocation: &Invocation,
     files: &mut F,

@@ -4,13 +4,13 @@ ghost use Rattle.mte_program.specs.Runs.{Ran};
 
 use crate::files::{Files, read_files};
 use crate::program::Program;
-use a64_run::Translation;
-use mte_session::{Ending, Sink, run_session_translated};
+use a64_run::CompiledBlocks;
+use mte_session::{Ending, Sink, run_session_with_blocks};
 use std::alloc::Global;
 
 /// Reads the script and then each file, in order, runs the session, and returns how it ended. The
 /// first file that cannot be read ends it, and then nothing was written.
-pub fn run_program<'a, F: Files, W: Sink, T: Translation>(
+pub fn run_program<'a, F: Files, W: Sink, T: CompiledBlocks>(
     alloc: Global,
     program: &'a Program,
     files: &mut F,
@@ -25,7 +25,7 @@ pub fn run_program<'a, F: Files, W: Sink, T: Translation>(
     };
     let script = whole[0].as_slice();
     let files = &whole.as_slice()[1..];
-    match run_session_translated::<W, T>(alloc, program.frames, script, files, out) {
+    match run_session_with_blocks::<W, T>(alloc, program.frames, script, files, out) {
         Ok(()) => Ending::Done,
         Err(error) => Ending::from(error),
     }

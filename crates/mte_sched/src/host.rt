@@ -19,7 +19,7 @@ use crate::index::Index;
 use crate::memory::start_memory;
 use crate::tenant::{Caches, Holding, Live, Tenant};
 use crate::turns::{slice_at, stop_at};
-use a64_run::{NoTranslation, OpCache, Translation};
+use a64_run::{CompiledBlocks, NoBlocks, OpCache};
 use common::{MAX_FRAMES, Obstacle};
 use mte_arena::{Arena, ArenaError, FRAME_BYTES};
 use mte_frames::FramePool;
@@ -140,9 +140,13 @@ impl Host {
 
     /// Lets a live tenant attempt at most `steps` instructions; one that has ended does nothing. It
     /// is refused if and only if no live tenant has the number, and then changes nothing. No list
-    /// of the host takes memory. Blocks that were translated change nothing of it.
+    /// of the host takes memory. Blocks that were compiled change nothing of it.
     #[tactic(auto, unfolding(crate::specs::Contents::after_slice_of))]
-    pub fn slice_translated<T: Translation>(&mut self, id: u16, steps: u32) -> Result<(), NotLive>
+    pub fn slice_with_blocks<T: CompiledBlocks>(
+        &mut self,
+        id: u16,
+        steps: u32,
+    ) -> Result<(), NotLive>
         ensures live { IsOk result ↔ (list_any (has_live_id id) (ledger_in self.old) ≡ true) }
         ensures ok { OnOk result (content_of self.new
             ≡ after_slice_of (content_of self.old) id steps) }
@@ -165,7 +169,7 @@ impl Host {
         ensures err { OnErr result (content_of self.new ≡ content_of self.old) }
         ensures rooms { rooms_of self.new ≡ rooms_of self.old }
     {
-        self.slice_translated::<NoTranslation>(id, steps)
+        self.slice_with_blocks::<NoBlocks>(id, steps)
     }
 
     /// Stops a live tenant; its record stays. It is refused if and only if no live tenant has the

@@ -16,13 +16,13 @@ ghost use Rattle.mte_sched.specs.Memories.{memory_at, IsTenantMemory, IsPlanned,
 ghost use Rattle.mte_svc.specs.Ready.{IsReady};
 
 use crate::tenant::{Caches, Live};
-use a64_run::{NoEdges, Translation};
+use a64_run::{CompiledBlocks, NoEdges};
 use common::MAX_PAGES;
 use mte_elf::Plan;
 use mte_frames::{FramePool, Quota};
 use mte_space::{RememberedPages, Space, Tenancy, pages_of_a_space, unmap_all};
 use mte_tags::{TagMode, TagState};
-use mte_tenant::{Admission, charge, fill, slice_translated};
+use mte_tenant::{Admission, charge, fill, slice_with_blocks};
 use mte_translate::{Table, Tlb};
 
 /// A live tenant's table, its quota, its tag state, and where its last accesses found their pages.
@@ -166,7 +166,7 @@ fn fill_memory(
 
 impl Live {
     /// Lets it attempt at most `steps` instructions.
-    pub(crate) fn slice<T: Translation>(
+    pub(crate) fn slice<T: CompiledBlocks>(
         &mut self,
         pool: &mut FramePool,
         caches: &mut Caches,
@@ -206,7 +206,7 @@ impl Live {
                 pages: pages as usize,
             },
         );
-        slice_translated::<_, _, T>(
+        slice_with_blocks::<_, _, T>(
             &mut caches.ops,
             &mut *self.parts,
             &mut space,

@@ -8,14 +8,14 @@ ghost use Rattle.mte_sched.specs.Sharing.{IsSharing, HasLiveAt};
 
 use crate::memory::stop_memory;
 use crate::tenant::{Caches, Holding, Live, Tenant};
-use a64_run::Translation;
+use a64_run::CompiledBlocks;
 use mte_frames::FramePool;
 use mte_svc::TenantParts;
 use mte_tenant::halt;
 use mte_translate::Tlb;
 
 /// A slice of the tenant that has the number, and of no other.
-pub(crate) fn slice_at<T: Translation>(
+pub(crate) fn slice_at<T: CompiledBlocks>(
     pool: &mut FramePool,
     caches: &mut Caches,
     tenants: &mut [Tenant],

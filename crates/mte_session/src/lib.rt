@@ -18,4 +18,4 @@ pub use mte_script::{Event, ScriptError, ScriptFault, parse_script};
 pub use mte_streams::{ReadFault, Sink, Source, StreamError, WriteFault, read_whole, write_all};
 pub use refusals::write_refusal;
 pub use report::write_report;
-pub use session::{SessionError, run_session, run_session_translated};
+pub use session::{SessionError, run_session, run_session_with_blocks};

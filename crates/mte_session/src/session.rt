@@ -16,7 +16,7 @@ ghost use Rattle.mte_session.specs.Outcomes.{session_error, Reported, Failed};
 use crate::files::admission_of;
 use crate::refusals::write_refusal;
 use crate::report::write_report;
-use a64_run::{NoTranslation, Translation};
+use a64_run::{CompiledBlocks, NoBlocks};
 use common::Obstacle;
 use mte_sched::{Host, Refusal, Refused, Tenant, ledger_follows, tenants_are_alone};
 use mte_script::{Event, ScriptError, ScriptFault, parse_script};
@@ -44,9 +44,9 @@ pub enum SessionError {
 ///
 /// On `Ok` the report was written, and nothing else; on `Write` a prefix of it, and a write failed.
 /// On `Script`, the script's first faulty line with its first fault, and on `OutOfMemory`, which
-/// comes only where an allocation failed, no write was made. Blocks that were translated change
+/// comes only where an allocation failed, no write was made. Blocks that were compiled change
 /// nothing of it.
-pub fn run_session_translated<W: Sink, T: Translation>(
+pub fn run_session_with_blocks<W: Sink, T: CompiledBlocks>(
     alloc: Global,
     frames: u32,
     script: &[u8],
@@ -92,7 +92,7 @@ pub fn run_session<W: Sink>(
         (record { frames = frames; files = contents files.now; script = script.now })
         (W.log out.old) (W.log out.new)) }
 {
-    run_session_translated::<W, NoTranslation>(alloc, frames, script, files, out)
+    run_session_with_blocks::<W, NoBlocks>(alloc, frames, script, files, out)
 }
 
 /// Writes the report of what became of a host.
@@ -127,7 +127,7 @@ fn write_refusals<W: Sink>(refused: &[Refused], out: &mut W) -> Result<(), Write
 
 /// Executes the events in order, and returns those that were refused. What it keeps of them is
 /// reserved before the first event, so that none fails for want of it.
-fn run_events<T: Translation>(
+fn run_events<T: CompiledBlocks>(
     alloc: Global,
     host: &mut Host,
     events: &[Event],
@@ -165,7 +165,7 @@ fn run_events<T: Translation>(
         mte_sched::specs::Contents::after_stop_of
     )
 )]
-fn play<T: Translation>(
+fn play<T: CompiledBlocks>(
     alloc: Global,
     host: &mut Host,
     event: &Event,
@@ -188,7 +188,7 @@ fn play<T: Translation>(
                 Err(Obstacle::Refused(error)) => Err(Obstacle::Refused(Refusal::Admit(error))),
             }
         }
-        Event::Slice { id, steps } => match host.slice_translated::<T>(id, steps) {
+        Event::Slice { id, steps } => match host.slice_with_blocks::<T>(id, steps) {
             Ok(()) => Ok(()),
             Err(_) => Err(Obstacle::Refused(Refusal::NotLive)),
         },

@@ -16,7 +16,7 @@ pub use admission::{
 };
 pub use alone::{Watch, admit_alone, attempt, slice_watched};
 pub use lone::{Lone, run_alone};
-pub use machine::{fill, halt, settle, slice, slice_translated, slice_with_edges, start_parts};
+pub use machine::{fill, halt, settle, slice, slice_with_blocks, slice_with_edges, start_parts};
 pub use mte_svc::{Output, Record, Status, TenantParts};
 pub use noted::{AccessUse, MOST_UNSEEN, NotedAccess, Notes, NotesAccesses};
 pub use noted_slice::slice_noted;

@@ -18,7 +18,7 @@ ghost use Rattle.mte_tenant.specs.Machines.{after_slice, after_attempts, after_s
 ghost use Rattle.mte_tenant.specs.Machines.{after_outcome, after_stop, continues, with_service};
 
 use crate::admission::Admission;
-use a64_run::{Edges, NoEdges, NoTranslation, OpCache, Translation, known_words_stay};
+use a64_run::{CompiledBlocks, Edges, NoBlocks, NoEdges, OpCache, known_words_stay};
 use a64_step::{Outcome, Regs, steps_keep_pages};
 use common::{MAX_PAGES, PAGE_SIZE, STACK_END, STACK_PAGES, STACK_START};
 use mte_elf::{Plan, load};
@@ -83,9 +83,9 @@ pub fn fill<M: Paged>(plan: &Plan, image: &[u8], pages: u32, mode: TagMode, memo
 /// Lets a tenant attempt at most `steps` instructions while it is running and does not yield. It
 /// ends where its flag is set then. A table may serve any number of slices, of any tenants. A slice
 /// is one run of decoded instructions, since no service changes a page without WRITE. What counts
-/// the branches that it takes changes nothing of it, nor do blocks that were translated.
+/// the branches that it takes changes nothing of it, nor do blocks that were compiled.
 #[inline(never)]
-pub fn slice_translated<M: Paged, E: Edges, T: Translation>(
+pub fn slice_with_blocks<M: Paged, E: Edges, T: CompiledBlocks>(
     ops: &mut OpCache,
     parts: &mut TenantParts,
     memory: &mut M,
@@ -122,7 +122,7 @@ pub fn slice_with_edges<M: Paged, E: Edges>(
     ensures ready { IsReady parts.new (M.Tagged.memory memory.new) }
     ensures kept { M.Tagged.kept memory.old memory.new }
 {
-    slice_translated::<M, E, NoTranslation>(ops, parts, memory, edges, steps);
+    slice_with_blocks::<M, E, NoBlocks>(ops, parts, memory, edges, steps);
 }
 
 /// Lets a tenant attempt at most `steps` instructions while it is running and does not yield. It
@@ -141,7 +141,7 @@ pub fn slice<M: Paged>(ops: &mut OpCache, parts: &mut TenantParts, memory: &mut 
 /// Runs to the next service, fault or end, or for `left` instructions; returns how many the slice
 /// has left, 0 after a yield.
 #[inline(always)]
-fn run_on<M: Paged, E: Edges, T: Translation>(
+fn run_on<M: Paged, E: Edges, T: CompiledBlocks>(
     ops: &mut OpCache,
     parts: &mut TenantParts,
     memory: &mut M,

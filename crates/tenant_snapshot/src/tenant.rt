@@ -12,13 +12,13 @@ ghost use Rattle.mte_tenant.specs.Ledger.{is_bad};
 use crate::compared_edges::ComparedEdges;
 use crate::exact_watch::ExactWatch;
 use crate::run_watch::RunWatch;
-use a64_run::{Edges, NoTranslation, OpCache, Translation};
+use a64_run::{CompiledBlocks, Edges, NoBlocks, OpCache};
 use common::Obstacle;
 use heap_bounds::Bounds;
 use mte_flat::SnapshotMemory;
 use mte_svc::{Input, TenantParts};
 use mte_tags::{MemFault, Tagged};
-use mte_tenant::{Admission, AdmitError, Lone, slice_noted, slice_translated};
+use mte_tenant::{Admission, AdmitError, Lone, slice_noted, slice_with_blocks};
 use std::alloc::{AllocError, Global};
 
 /// Copies bytes out of pages with READ, whatever their tags; the memory stays.
@@ -109,15 +109,15 @@ impl SnapshotTenant {
     }
 
     /// A slice of at most `steps` instructions, whatever counts the branches that it takes and
-    /// whatever blocks were translated.
-    pub fn slice_translated<E: Edges, T: Translation>(&mut self, edges: &mut E, steps: u32)
+    /// whatever blocks were compiled.
+    pub fn slice_with_blocks<E: Edges, T: CompiledBlocks>(&mut self, edges: &mut E, steps: u32)
         ensures machine { machine_of self.new.parts self.new.memory.now
             ≡ after_slice steps (machine_of self.old.parts self.old.memory.now) }
         ensures saved { machine_of self.new.saved self.new.memory.saved
             ≡ machine_of self.old.saved self.old.memory.saved }
         ensures chunks { self.new.chunks ≡ self.old.chunks }
     {
-        slice_translated::<_, _, T>(
+        slice_with_blocks::<_, _, T>(
             &mut self.words,
             &mut self.parts,
             &mut self.memory,
@@ -134,7 +134,7 @@ impl SnapshotTenant {
             ≡ machine_of self.old.saved self.old.memory.saved }
         ensures chunks { self.new.chunks ≡ self.old.chunks }
     {
-        self.slice_translated::<E, NoTranslation>(edges, steps);
+        self.slice_with_blocks::<E, NoBlocks>(edges, steps);
     }
 
     /// A slice of at most `steps` instructions whose accesses are judged, whatever is found.
@@ -175,8 +175,8 @@ impl SnapshotTenant {
     }
 
     /// A slice of at most `steps` instructions, whatever watches it. Where branches alone are
-    /// counted, it runs blocks that were translated.
-    pub fn slice_with<T: Translation>(&mut self, watch: &mut RunWatch<'_>, steps: u32)
+    /// counted, it runs blocks that were compiled.
+    pub fn slice_with<T: CompiledBlocks>(&mut self, watch: &mut RunWatch<'_>, steps: u32)
         ensures machine { machine_of self.new.parts self.new.memory.now
             ≡ after_slice steps (machine_of self.old.parts self.old.memory.now) }
         ensures saved { machine_of self.new.saved self.new.memory.saved
@@ -184,7 +184,7 @@ impl SnapshotTenant {
         ensures chunks { self.new.chunks ≡ self.old.chunks }
     {
         match watch {
-            RunWatch::Edges(edges) => self.slice_translated::<_, T>(edges, steps),
+            RunWatch::Edges(edges) => self.slice_with_blocks::<_, T>(edges, steps),
             RunWatch::Exact(exact) => self.slice_exact(exact, steps),
         }
     }

@@ -5,6 +5,8 @@
 #[cfg(test)]
 mod commands;
 #[cfg(test)]
+mod compiled_blocks;
+#[cfg(test)]
 mod doubles;
 #[cfg(test)]
 mod embedding;
@@ -24,5 +26,3 @@ mod streams;
 mod tenants;
 #[cfg(test)]
 mod texts;
-#[cfg(test)]
-mod translated;

@@ -17,5 +17,5 @@ returns g c =
     let first : c.as_slice-script.result.now ≡ t.items = search rules in
     let read : ReadInOrder (names_of c.args.program.now.names.items) (c.as_slice-script.result.now ∷ contents (drop 1 c.in-Ok.whole.items)) (g.F.Files.log c.args.files.now) (g.F.Files.log c.read_files.new.files) = rw (first, ← parts) all in
     let rest = rest_whole c.in-Ok.whole.items c.as_slice-2.result.now c.as_slice-2.ensures.value in
-    let failed : Failed (record { frames = c.args.program.now.frames; files = contents (drop 1 c.in-Ok.whole.items); script = c.as_slice-script.result.now }) (g.W.Sink.log c.args.out.now) (g.W.Sink.log c.run_session_translated.new.out) c.in-Err-run_session_translated.error = rw rest at c.in-Err-run_session_translated.ensures.failed in
-    rw c.from.ensures (ran_failed c.args.program.now _ _ _ _ c.as_slice-script.result.now (contents (drop 1 c.in-Ok.whole.items)) c.in-Err-run_session_translated.error read failed)
+    let failed : Failed (record { frames = c.args.program.now.frames; files = contents (drop 1 c.in-Ok.whole.items); script = c.as_slice-script.result.now }) (g.W.Sink.log c.args.out.now) (g.W.Sink.log c.run_session_with_blocks.new.out) c.in-Err-run_session_with_blocks.error = rw rest at c.in-Err-run_session_with_blocks.ensures.failed in
+    rw c.from.ensures (ran_failed c.args.program.now _ _ _ _ c.as_slice-script.result.now (contents (drop 1 c.in-Ok.whole.items)) c.in-Err-run_session_with_blocks.error read failed)

@@ -55,8 +55,8 @@ returns-else-handle-clause-known g c =
 
 pub returns-then-handle-clause-found : goal.returns-then-handle-clause-found
 returns-then-handle-clause-found g c =
-    g.met.T.Translation.stays c.run-rest.new.self (g.M.Tagged.memory c.run-rest.new.memory) (g.M.Tagged.memory c.handle.new.memory) c.handle.ensures.fixed c.run-rest.ensures.found
+    g.met.T.CompiledBlocks.stays c.run-rest.new.self (g.M.Tagged.memory c.run-rest.new.memory) (g.M.Tagged.memory c.handle.new.memory) c.handle.ensures.fixed c.run-rest.ensures.found
 
 pub returns-else-handle-clause-found : goal.returns-else-handle-clause-found
 returns-else-handle-clause-found g c =
-    g.met.T.Translation.stays c.run-rest.new.self (g.M.Tagged.memory c.run-rest.new.memory) (g.M.Tagged.memory c.handle.new.memory) c.handle.ensures.fixed c.run-rest.ensures.found
+    g.met.T.CompiledBlocks.stays c.run-rest.new.self (g.M.Tagged.memory c.run-rest.new.memory) (g.M.Tagged.memory c.handle.new.memory) c.handle.ensures.fixed c.run-rest.ensures.found

@@ -9,7 +9,7 @@ use Rattle.mte_sched.specs.Sharing.{IsIndexed}
 use Rattle.mte_sched.specs.Hosts.{ledger_in}
 use Rattle.mte_sched.proofs.EachLemmas.{ledger_is, live_there}
 use Rattle.mte_sched.proofs.IndexLemmas.{sliced_entries}
-use Rattle.mte_sched.proofs.host.Host.slice_translated.Goals as goal
+use Rattle.mte_sched.proofs.host.Host.slice_with_blocks.Goals as goal
 
 pub returns-in_default-clause-live : goal.returns-in_default-clause-live
 returns-in_default-clause-live g c =

@@ -2,7 +2,7 @@ use Rattle.std.proofs.Common.{map}
 use Rattle.std.proofs.lemmas.List.{length-map}
 use Rattle.mte_sched.specs.Hosts.{content_of}
 use Rattle.mte_session.proofs.SessionLemmas.{session_text_is}
-use Rattle.mte_session.proofs.session.run_session_translated.Goals as goal
+use Rattle.mte_session.proofs.session.run_session_with_blocks.Goals as goal
 
 pub returns-clause-failed : goal.returns-clause-failed
 returns-clause-failed g c =

@@ -1,11 +1,11 @@
 //! Blocks of an image as types: a run is the same with and without them.
 
 use crate::images::image;
-use a64_blocks::{Again, Blocks, Cat, Code, Image, Last, Nothing, Seq, Translated};
+use a64_blocks::{Again, Blocks, Cat, Code, Image, ImageBlocks, Last, Nothing, Seq};
 use a64_forms::accesses::{Load, Store};
 use a64_forms::branches::JumpNe;
 use a64_forms::sums::{Add, SubsImm};
-use a64_run::{Edges, NoEdges, NoTranslation, Translation};
+use a64_run::{CompiledBlocks, Edges, NoBlocks, NoEdges};
 use std::test::Fail;
 use tombolopan::{
     Admission, Attrs, Flat, Lone, OpCache, Outcome, Paged, Regs, TagMode, Tagged, Terms,
@@ -99,7 +99,7 @@ fn before_sum() -> Regs {
 }
 
 /// What a run of some words leaves and tells.
-fn ran<T: Translation>(rt: &HostRuntime, words: &[u32]) -> Result<(Regs, u64, Told), Fail> {
+fn ran<T: CompiledBlocks>(rt: &HostRuntime, words: &[u32]) -> Result<(Regs, u64, Told), Fail> {
     let mut memory = memory_of(rt, words)?;
     let mut kept = OpCache::new(rt.alloc())?;
     let _ = memory.write(0x3FFF_F000, &7u64.to_le_bytes(), false);
@@ -129,12 +129,12 @@ fn ran<T: Translation>(rt: &HostRuntime, words: &[u32]) -> Result<(Regs, u64, To
 /// The block is taken where its words are in memory, and not where others are.
 #[test]
 fn blocks_change_nothing(rt: HostRuntime) -> Result<(), Fail> {
-    let (regs, left, told) = ran::<Translated<Sum>>(&rt, &SUM)?;
+    let (regs, left, told) = ran::<ImageBlocks<Sum>>(&rt, &SUM)?;
     assert!(rt; regs.x[0] == 35 && left == 100 - 22);
-    assert!(rt; ran::<NoTranslation>(&rt, &SUM)? == (regs, left, told));
-    let (regs, left, told) = ran::<Translated<Sum>>(&rt, &DIFFERENCE)?;
+    assert!(rt; ran::<NoBlocks>(&rt, &SUM)? == (regs, left, told));
+    let (regs, left, told) = ran::<ImageBlocks<Sum>>(&rt, &DIFFERENCE)?;
     assert!(rt; regs.x[0] == 0u64.wrapping_sub(35) && left == 100 - 22);
-    assert!(rt; ran::<NoTranslation>(&rt, &DIFFERENCE)? == (regs, left, told));
+    assert!(rt; ran::<NoBlocks>(&rt, &DIFFERENCE)? == (regs, left, told));
     Ok(())
 }
 

@@ -1,8 +1,8 @@
 use Rattle.std.proofs.Common.{◌≡◌, ◌∙◌, sym, ap, arith}
 use Rattle.mte_tenant.specs.Machines.{Machine, machine_of, after_attempts, after_slice_end, after_slice}
 use Rattle.mte_tenant.proofs.MachineLemmas.{after-attempts-ended, attempts_none}
-use Rattle.mte_tenant.proofs.machine.slice_translated.Goals.{then-loop-left-test+else-is_running, else-loop-left-test}
-use Rattle.mte_tenant.proofs.machine.slice_translated.Goals as goal
+use Rattle.mte_tenant.proofs.machine.slice_with_blocks.Goals.{then-loop-left-test+else-is_running, else-loop-left-test}
+use Rattle.mte_tenant.proofs.machine.slice_with_blocks.Goals as goal
 
 pub returns-clause-machine : goal.returns-clause-machine
 unfolding after_slice
