@@ -26,20 +26,20 @@ sys.path.insert(0, str(ROOT / "examples" / "embed"))
 
 from tombolopan_profile import counts as run_counts  # noqa: E402
 from tombolopan_profile import forms  # noqa: E402
-from translation import choosing, crates  # noqa: E402
+from compiled_blocks import choosing, crates  # noqa: E402
 
-CRATE = "translated_image"
+CRATE = "compiled_image"
 USES = "a64_forms a64_registers a64_run a64_step a64_blocks mte_tags"
 # The programs, and the crates that say which blocks their runs take.
 PROGRAMS = {"mte_host": "mte_host", "libtombolopan_c.a": "tombolopan_c"}
 ALIAS = """\
 //! The blocks that runs take before their tables of decoded instructions.
 
-use a64_blocks::Translated;
-use translated_image::Images;
+use a64_blocks::ImageBlocks;
+use compiled_image::Images;
 
 /// Those of images.
-pub type Hot = Translated<Images>;
+pub type Hot = ImageBlocks<Images>;
 """
 
 

@@ -6,7 +6,7 @@ import struct
 from tests.support import instructions
 from tests.support.drawn_words import Row, draw_fields
 from disassembly.rows import ROWS
-from translation.types import form_of
+from compiled_blocks.types import form_of
 
 # What each byte of the input chooses from, and the words of each.
 BLOCKS, WORDS = 48, 32

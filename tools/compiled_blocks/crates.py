@@ -4,13 +4,14 @@ from collections.abc import Iterable, Sequence
 
 from a64.form_types import PARTS, in_part
 from tombolopan_profile.counts import BYTES
-from translation.choosing import Block
-from translation.types import form_of, read_tables, written
+from compiled_blocks.choosing import Block, region_of
+from compiled_blocks.types import form_of, read_tables, written
 
 PART = 6  # the most instructions of a type: the prover's time grows with the depth of types
 GROUP = 16  # blocks of a type, for the same reason
 MOST = 1000  # blocks: a run has a place for as many (a64_blocks)
 PLACES = 4096  # of the table from addresses to numbers
+HOT = 0.003  # of all steps: blocks with regions of their own
 
 ROOT = """\
 //! The hottest blocks of images. Written by tools/translate.py.
@@ -141,14 +142,28 @@ def part_names(number: int, block: Block) -> list[str]:
     return [f"B{number}P{at}" for at in range(len(in_rows(block)))]
 
 
-def block_type(number: int, block: Block) -> str:
-    """The type of a block."""
+def block_types(number: int, block: Block, others: Sequence[int]) -> str:
+    """The type of a block, and of the region that begins with it."""
     names = part_names(number, block)
     kind = names[-1]
     for name in reversed(names[:-1]):
         kind = f"Cat<{name}, {kind}>"
-    return CODE.format(name=f"B{number}", type=f"Again<{kind}>" if block.again else kind,
-                       inline="never", said=f"The block at {block.start:#x}.")
+    text = CODE.format(name=f"B{number}", type=kind, inline="always",
+                       said=f"The block at {block.start:#x}.")
+    kind = "Nothing"
+    for other in reversed(others):
+        kind = f"Path<B{other}, {kind}>"
+    return text + CODE.format(name=f"R{number}", type=f"Region<B{number}, {kind}>", inline="never",
+                              said="The same with those that it leads to.")
+
+
+def regions_of(blocks: Sequence[Block]) -> list[list[int]]:
+    """The numbers of the other blocks of each one's region; rare ones are alone."""
+    numbers = {it.start: number for number, it in enumerate(blocks, start=1)}
+    starts = {it.start: it for it in blocks}
+    hot = sum(it.steps for it in blocks) * HOT
+    return [[numbers[it.start] for it in region_of(block, starts)] if block.steps > hot else []
+            for block in blocks]
 
 
 def match(asked: str, answers: Iterable[tuple[int, int]]) -> str:
@@ -168,7 +183,7 @@ def group_types(blocks: Sequence[Block]) -> str:
     for first in reversed(range(0, len(blocks), GROUP)):
         kind = after
         for at in reversed(range(first, min(first + GROUP, len(blocks)))):
-            kind = f"Blocks<B{at + 1}, {kind}>"
+            kind = f"Blocks<R{at + 1}, {kind}>"
         after = f"From{first + 1}" if first else "Images"
         texts.append(IMAGE.format(
             name=after, type=kind, said=f"The blocks from number {first + 1} on.",
@@ -195,9 +210,10 @@ def texts_of(blocks: Sequence[Block]) -> dict[str, str]:
     parts = HEAD.format(said="The parts of blocks: instructions in a row.",
                         used="Code, Last, Seq", more=forms)
     types = HEAD.format(said="Blocks and their numbers.",
-                        used="Again, Blocks, Cat, Code, Image, Nothing",
+                        used="Blocks, Cat, Code, Image, Nothing, Path, Region",
                         more=f"use crate::parts::{{{', '.join(names)}}};\n")
     return {"lib.rt": ROOT,
             "parts.rt": parts + "".join(part_types(*it) for it in counted),
-            "blocks.rt": types + "".join(block_type(*it) for it in counted)
+            "blocks.rt": types + "".join(block_types(*it, other)
+                                      for it, other in zip(counted, regions_of(blocks)))
                          + group_types(blocks)}

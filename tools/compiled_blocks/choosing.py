@@ -1,4 +1,4 @@
-"""The blocks of images that are worth a translation, by the counts of their runs."""
+"""The blocks of images that are worth compiling, by the counts of their runs."""
 
 from __future__ import annotations
 
@@ -7,9 +7,11 @@ from collections.abc import Iterable, Mapping
 from dataclasses import dataclass
 
 from tombolopan_profile.counts import BYTES, Counts
-from translation.types import JUMPS, form_of
+from compiled_blocks.types import JUMPS, form_of
 
 LONGEST = 48  # the most instructions of a block
+# Of a region the blocks next to the first, their instructions, and the rarest way in of all.
+MEMBERS, LARGEST, RARE = 8, 160, 0.01
 DIRECT = {"Jump", "Call"}  # the jumps that lead to one address
 
 
@@ -17,13 +19,13 @@ DIRECT = {"Jump", "Call"}  # the jumps that lead to one address
 class Block:
     """Instructions that are executed one after another: their addresses and words, how many steps
     they are expected to take of the counted runs, how often control goes on behind the last one,
-    and whether it comes back to the first."""
+    and how often it leaves them over jumps to other addresses."""
 
     addresses: tuple[int, ...]
     words: tuple[int, ...]
     steps: float
     goes_on: float
-    again: bool
+    exits: tuple[tuple[int, float], ...]
 
     @property
     def start(self) -> int:
@@ -33,6 +35,11 @@ class Block:
     def behind(self) -> int:
         """Where control goes on."""
         return following(self.addresses[-1], self.words[-1])
+
+    @property
+    def ways(self) -> Counter[int]:
+        """How often control comes from it to each address."""
+        return Counter(dict(self.exits)) + Counter({self.behind: self.goes_on})
 
 
 def following(address: int, word: int) -> int:
@@ -67,6 +74,7 @@ class Profile:
         """The block from an address on, where control comes so often: over direct jumps, up to any
         other jump, or to an instruction that has no type or is in it already."""
         found: list[int] = []
+        exits: defaultdict[int, float] = defaultdict(float)
         steps, share, address = 0.0, float(entered), start
         while len(found) < LONGEST and address in self.words and address not in found:
             form = form_of(self.words[address])
@@ -74,15 +82,15 @@ class Profile:
                 break
             found.append(address)
             steps += share
-            if form[0] in JUMPS and form[0] not in DIRECT:
-                share = 0
-            elif form[0] not in DIRECT:
-                share *= self.goes_on(address)
+            if form[0] not in DIRECT:
+                for target, count in self.taken[address].items():
+                    exits[target] += share * count / self.executed[address]
+                share *= form[0] not in JUMPS and self.goes_on(address)
             address = following(address, self.words[address])
         if not found:
             return None
-        again = any(start in self.taken[it] for it in found)
-        return Block(tuple(found), tuple(self.words[it] for it in found), steps, share, again)
+        words = tuple(self.words[it] for it in found)
+        return Block(tuple(found), words, steps, share, tuple(exits.items()))
 
     def blocks(self) -> list[Block]:
         """The blocks at all addresses to which control comes when there are such blocks."""
@@ -100,6 +108,23 @@ class Profile:
             if share >= 1 and after not in found:
                 waiting[after] += round(share)
         return [it for it in found.values() if it is not None]
+
+
+def region_of(first: Block, blocks: Mapping[int, Block]) -> list[Block]:
+    """Blocks by their starts to which control comes from a first one and among which it stays, each
+    by the hottest way from those before it."""
+    found, ways = [first], first.ways
+    room = LARGEST - len(first.addresses)
+    for _ in range(MEMBERS):
+        known = {it.start for it in found}
+        fits = [(count, start) for start, count in ways.items() if start not in known
+                and start in blocks and len(blocks[start].addresses) <= room]
+        if not fits or max(fits)[0] < sum(ways.values()) * RARE:
+            break
+        found.append(blocks[max(fits)[1]])
+        room -= len(found[-1].addresses)
+        ways += found[-1].ways
+    return found[1:]
 
 
 def choose(profiles: Iterable[Profile], most: int) -> list[Block]:
