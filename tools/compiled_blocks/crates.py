@@ -19,8 +19,9 @@ ROOT = """\
 
 mod blocks;
 mod parts;
+mod regions;
 
-pub use blocks::Images;
+pub use regions::Images;
 """
 
 HEAD = """\
@@ -142,19 +143,23 @@ def part_names(number: int, block: Block) -> list[str]:
     return [f"B{number}P{at}" for at in range(len(in_rows(block)))]
 
 
-def block_types(number: int, block: Block, others: Sequence[int]) -> str:
-    """The type of a block, and of the region that begins with it."""
+def block_type(number: int, block: Block) -> str:
+    """The type of a block."""
     names = part_names(number, block)
     kind = names[-1]
     for name in reversed(names[:-1]):
         kind = f"Cat<{name}, {kind}>"
-    text = CODE.format(name=f"B{number}", type=kind, inline="always",
+    return CODE.format(name=f"B{number}", type=kind, inline="always",
                        said=f"The block at {block.start:#x}.")
+
+
+def region_type(number: int, block: Block, others: Sequence[int]) -> str:
+    """The type of a block with those that it leads to."""
     kind = "Nothing"
     for other in reversed(others):
         kind = f"Path<B{other}, {kind}>"
-    return text + CODE.format(name=f"R{number}", type=f"Region<B{number}, {kind}>", inline="never",
-                              said="The same with those that it leads to.")
+    return CODE.format(name=f"R{number}", type=f"Region<B{number}, {kind}>", inline="never",
+                       said=f"The region at {block.start:#x}.")
 
 
 def regions_of(blocks: Sequence[Block]) -> list[list[int]]:
@@ -209,11 +214,15 @@ def texts_of(blocks: Sequence[Block]) -> dict[str, str]:
     forms = form_imports(word for block in blocks for word in block.words)
     parts = HEAD.format(said="The parts of blocks: instructions in a row.",
                         used="Code, Last, Seq", more=forms)
-    types = HEAD.format(said="Blocks and their numbers.",
-                        used="Blocks, Cat, Code, Image, Nothing, Path, Region",
+    types = HEAD.format(said="Blocks.", used="Cat, Code",
                         more=f"use crate::parts::{{{', '.join(names)}}};\n")
+    used = ", ".join(f"B{number}" for number, _ in counted)
+    regions = HEAD.format(said="Regions of blocks, and their numbers.",
+                          used="Blocks, Code, Image, Nothing, Path, Region",
+                          more=f"use crate::blocks::{{{used}}};\n")
     return {"lib.rt": ROOT,
             "parts.rt": parts + "".join(part_types(*it) for it in counted),
-            "blocks.rt": types + "".join(block_types(*it, other)
-                                      for it, other in zip(counted, regions_of(blocks)))
-                         + group_types(blocks)}
+            "blocks.rt": types + "".join(block_type(*it) for it in counted),
+            "regions.rt": regions + "".join(region_type(*it, others)
+                                            for it, others in zip(counted, regions_of(blocks)))
+                          + group_types(blocks)}
