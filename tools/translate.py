@@ -2,12 +2,15 @@
 """Compiles the hottest blocks of images for the machine of the host, and builds a program with
 them.
 
-    translate.py [--blocks N] [--program NAME] [--proved] --out FOLDER COUNTS...
+    translate.py [--blocks N] [--input FILE].. [--program NAME] [--proved] --out FOLDER FILE...
 
-COUNTS is what `mte_run --profile` wrote of runs of an image; several files may be of one image or
-of several. The N blocks (200) that take the most steps become types of a64_forms and a64_blocks in
-a copy of this checkout in FOLDER, and tools/build.sh of the copy builds the program: mte_host, or
-libtombolopan_c.a, whose fuzzed runs take them (mte_host). It is in FOLDER then.
+FILE is an image, which this checkout's mte_run runs with each input and counts, or what
+`mte_run --profile` wrote of other runs; several files may be of one image or of several. The N
+blocks (200) that take the most steps become types of a64_forms and a64_blocks in a copy of this
+checkout in FOLDER, and tools/build.sh of the copy builds the program: mte_host, or
+libtombolopan_c.a, whose fuzzed runs take them (mte_host). It is in FOLDER then, and kept in
+$XDG_CACHE_HOME/tombolopan (~/.cache/tombolopan) for the next time that the same blocks are to be
+in the same sources.
 
 Reports are those of the program without blocks, for any image: a run takes a block only where its
 words are in memory, on pages without WRITE. a64_blocks proves that for all blocks. --proved proves
@@ -15,11 +18,14 @@ the types and the program too, which was not tried yet; no proof is written for 
 a program is worth is in docs/SPEED.md.
 """
 import argparse
+import hashlib
+import os
 import pathlib
 import shutil
 import subprocess
 import sys
-from collections.abc import Iterable, Mapping
+import tempfile
+from collections.abc import Iterable, Mapping, Sequence
 
 ROOT = pathlib.Path(__file__).resolve().parent.parent
 sys.path.insert(0, str(ROOT / "examples" / "embed"))
@@ -28,6 +34,8 @@ from tombolopan_profile import counts as run_counts  # noqa: E402
 from tombolopan_profile import forms  # noqa: E402
 from compiled_blocks import choosing, crates  # noqa: E402
 
+MTE_RUN = ROOT / "crates" / "mte_run" / "out" / "mte_run"
+STEPS = "1000000000"
 CRATE = "compiled_image"
 USES = "a64_forms a64_registers a64_run a64_step a64_blocks mte_tags"
 # The programs, and the crates that say which blocks their runs take.
@@ -48,6 +56,37 @@ def leave(text: str) -> int:
     return 2
 
 
+class NotCounted(Exception):
+    """A run of an image that was not counted, and why."""
+
+
+def count_runs(image: pathlib.Path, inputs: Sequence[pathlib.Path],
+               folder: pathlib.Path) -> list[pathlib.Path]:
+    """What mte_run counts of an image's runs with some inputs, or of one without input."""
+    if not MTE_RUN.exists():
+        raise NotCounted(f"there is no {MTE_RUN.relative_to(ROOT)} (tools/build.sh)")
+    found = []
+    for words in [["--input", str(it)] for it in inputs] or [[]]:
+        found.append(folder / f"{len(os.listdir(folder))}.counts")
+        ran = subprocess.run([MTE_RUN, "--profile", found[-1], "--steps", STEPS, *words,
+                              image.resolve()], stdout=subprocess.DEVNULL, stderr=subprocess.PIPE,
+                             text=True, errors="replace")
+        if not found[-1].exists():
+            raise NotCounted(f"{image}: {ran.stderr.strip()}")
+    return found
+
+
+def counts_of(files: Iterable[pathlib.Path], inputs: Sequence[pathlib.Path],
+              folder: pathlib.Path) -> list[pathlib.Path]:
+    """The counts of runs: those of files, and of images as they run here."""
+    found = []
+    for file in files:
+        with open(file, "rb") as opened:
+            is_image = opened.read(4) == b"\x7fELF"
+        found += count_runs(file, inputs, folder) if is_image else [file]
+    return found
+
+
 def read_profiles(files: Iterable[pathlib.Path]) -> list[choosing.Profile]:
     """The images of some counts, with all that were counted of each."""
     groups: dict[str, list[pathlib.Path]] = {}
@@ -58,15 +97,30 @@ def read_profiles(files: Iterable[pathlib.Path]) -> list[choosing.Profile]:
             for image, group in groups.items()]
 
 
-def copy_checkout(folder: pathlib.Path) -> None:
-    """A copy of the files of this checkout."""
+def listed_files() -> list[str]:
+    """The files of this checkout."""
     listed = subprocess.run(["git", "ls-files", "-z"], cwd=ROOT, stdout=subprocess.PIPE, text=True,
                             check=True).stdout
-    for name in listed.rstrip("\0").split("\0"):
+    return [name for name in listed.rstrip("\0").split("\0") if (ROOT / name).is_file()]
+
+
+def kept_place(texts: Mapping[str, str], words: Sequence[str]) -> pathlib.Path:
+    """Where the program with some blocks is kept that these sources and this toolchain make."""
+    total = hashlib.sha256(repr([sorted(texts.items()), words]).encode())
+    total.update(subprocess.run(["rt", "version"], stdout=subprocess.PIPE, check=True).stdout)
+    for name in listed_files():
+        if name.startswith(("crates", "tools", "VERSION")):
+            total.update(name.encode() + b"\0" + (ROOT / name).read_bytes())
+    base = os.environ.get("XDG_CACHE_HOME") or os.path.expanduser("~/.cache")
+    return pathlib.Path(base) / "tombolopan" / f"blocks-{total.hexdigest()}"
+
+
+def copy_checkout(folder: pathlib.Path) -> None:
+    """A copy of the files of this checkout."""
+    for name in listed_files():
         place = folder / name
         place.parent.mkdir(parents=True, exist_ok=True)
-        if (ROOT / name).exists():
-            shutil.copy2(ROOT / name, place)
+        shutil.copy2(ROOT / name, place)
 
 
 def put_crate(folder: pathlib.Path, texts: Mapping[str, str], user: str) -> None:
@@ -86,37 +140,58 @@ def put_crate(folder: pathlib.Path, texts: Mapping[str, str], user: str) -> None
     listed.write_text("\n".join(lines) + "\n")
 
 
-def main() -> int:
+def build(texts: Mapping[str, str], program: str, proved: bool, folder: pathlib.Path) -> bool:
+    """Puts the program with some blocks into a folder, and says whether it was built."""
+    words = [] if proved else ["--unproved"]
+    kept = kept_place(texts, [program, *words])
+    if not kept.exists():
+        copy = folder / "checkout"
+        copy_checkout(copy)
+        put_crate(copy, texts, PROGRAMS[program])
+        if subprocess.run([copy / "tools" / "build.sh", *words, "--only", program]).returncode:
+            return False
+        crate = program.removeprefix("lib").removesuffix(".a")
+        kept.parent.mkdir(parents=True, exist_ok=True)
+        part = kept.with_name(f"{kept.name}.{os.getpid()}")
+        shutil.copy2(copy / "crates" / crate / "out" / program, part)
+        part.replace(kept)
+    shutil.copy2(kept, folder / program)
+    return True
+
+
+def read_command() -> argparse.Namespace:
     parser = argparse.ArgumentParser(description=__doc__,
                                      formatter_class=argparse.RawDescriptionHelpFormatter)
-    parser.add_argument("--blocks", metavar="N", type=int, default=200,
-                        help="how many blocks, at most %d (200)" % crates.MOST)
-    parser.add_argument("--program", choices=PROGRAMS, default="mte_host")
-    parser.add_argument("--proved", action="store_true", help="prove the types and the program")
-    parser.add_argument("--out", metavar="FOLDER", type=pathlib.Path, required=True,
-                        help="a folder that is not there")
-    parser.add_argument("counts", metavar="COUNTS", type=pathlib.Path, nargs="+")
-    options = parser.parse_args()
+    add = parser.add_argument
+    add("--blocks", metavar="N", type=int, default=200,
+        help="how many blocks, at most %d (200)" % crates.MOST)
+    add("--input", metavar="FILE", type=pathlib.Path, action="append", default=[],
+        help="an input of the images' runs; none: one run without input")
+    add("--program", choices=PROGRAMS, default="mte_host")
+    add("--proved", action="store_true", help="prove the types and the program")
+    add("--out", metavar="FOLDER", type=pathlib.Path, required=True,
+        help="a folder that is not there")
+    add("files", metavar="FILE", type=pathlib.Path, nargs="+", help="an image, or counts")
+    return parser.parse_args()
+
+
+def main() -> int:
+    options = read_command()
     if not 0 < options.blocks <= crates.MOST:
         return leave(f"--blocks takes 1 to {crates.MOST}")
     try:
-        profiles = read_profiles(options.counts)
+        with tempfile.TemporaryDirectory() as made:
+            counts = counts_of(options.files, options.input, pathlib.Path(made))
+            profiles = read_profiles(counts)
         options.out.mkdir(parents=True)
-    except (OSError, run_counts.WrongCounts) as error:
+    except (OSError, NotCounted, run_counts.WrongCounts) as error:
         return leave(str(error))
     blocks = choosing.choose(profiles, options.blocks)
     steps = sum(it.steps for it in profiles)
     print(f"{len(blocks)} blocks of {sum(len(it.addresses) for it in blocks)} instructions, about "
           f"{min(1, sum(it.steps for it in blocks) / steps):.0%} of {steps} steps", flush=True)
-    copy = options.out / "checkout"
-    copy_checkout(copy)
-    put_crate(copy, crates.texts_of(blocks), PROGRAMS[options.program])
-    words = [] if options.proved else ["--unproved"]
-    ran = subprocess.run([copy / "tools" / "build.sh", *words, "--only", options.program])
-    if ran.returncode:
+    if not build(crates.texts_of(blocks), options.program, options.proved, options.out):
         return leave("the program was not built")
-    crate = options.program.removeprefix("lib").removesuffix(".a")
-    shutil.copy2(copy / "crates" / crate / "out" / options.program, options.out)
     return 0
 
 

@@ -10,8 +10,10 @@ from tombolopan_profile.counts import BYTES, Counts
 from compiled_blocks.types import JUMPS, form_of
 
 LONGEST = 48  # the most instructions of a block
-# Of a region the blocks next to the first, their instructions, and the rarest way in of all.
-MEMBERS, LARGEST, RARE = 8, 160, 0.01
+# Of a region the blocks next to the first, and the rarest way in of all.
+MEMBERS, RARE = 6, 0.01
+# What an instruction takes of the lines up to which the compiler takes code in line, and these.
+ACCESS, OTHER, MOST_LINES = 2_700, 150, 6_000
 DIRECT = {"Jump", "Call"}  # the jumps that lead to one address
 
 
@@ -40,6 +42,13 @@ class Block:
     def ways(self) -> Counter[int]:
         """How often control comes from it to each address."""
         return Counter(dict(self.exits)) + Counter({self.behind: self.goes_on})
+
+
+def lines_of(words: Iterable[int]) -> int:
+    """About how many lines the compiler has of some instructions."""
+    names = (form[0] for word in words if (form := form_of(word)))
+    return sum((ACCESS if name.startswith(("Load", "Store")) else OTHER) * (1 + ("Pair" in name))
+               for name in names)
 
 
 def following(address: int, word: int) -> int:
@@ -114,15 +123,15 @@ def region_of(first: Block, blocks: Mapping[int, Block]) -> list[Block]:
     """Blocks by their starts to which control comes from a first one and among which it stays, each
     by the hottest way from those before it."""
     found, ways = [first], first.ways
-    room = LARGEST - len(first.addresses)
+    room = MOST_LINES - lines_of(first.words)
     for _ in range(MEMBERS):
         known = {it.start for it in found}
         fits = [(count, start) for start, count in ways.items() if start not in known
-                and start in blocks and len(blocks[start].addresses) <= room]
+                and start in blocks and lines_of(blocks[start].words) <= room]
         if not fits or max(fits)[0] < sum(ways.values()) * RARE:
             break
         found.append(blocks[max(fits)[1]])
-        room -= len(found[-1].addresses)
+        room -= lines_of(found[-1].words)
         ways += found[-1].ways
     return found[1:]
 

@@ -11,7 +11,6 @@ PART = 6  # the most instructions of a type: the prover's time grows with the de
 GROUP = 16  # blocks of a type, for the same reason
 MOST = 1000  # blocks: a run has a place for as many (a64_blocks)
 PLACES = 4096  # of the table from addresses to numbers
-HOT = 0.003  # of all steps: blocks with regions of their own
 
 ROOT = """\
 //! The hottest blocks of images. Written by tools/translate.py.
@@ -143,32 +142,38 @@ def part_names(number: int, block: Block) -> list[str]:
     return [f"B{number}P{at}" for at in range(len(in_rows(block)))]
 
 
-def block_type(number: int, block: Block) -> str:
-    """The type of a block."""
+def block_kind(number: int, block: Block) -> str:
+    """A block as its parts one after another."""
     names = part_names(number, block)
     kind = names[-1]
     for name in reversed(names[:-1]):
         kind = f"Cat<{name}, {kind}>"
-    return CODE.format(name=f"B{number}", type=kind, inline="always",
+    return kind
+
+
+def block_type(number: int, block: Block) -> str:
+    """The type of a block of a region."""
+    return CODE.format(name=f"B{number}", type=block_kind(number, block), inline="always",
                        said=f"The block at {block.start:#x}.")
 
 
 def region_type(number: int, block: Block, others: Sequence[int]) -> str:
-    """The type of a block with those that it leads to."""
+    """The type of a block with those that it leads to, and again where it leads to itself."""
     kind = "Nothing"
     for other in reversed(others):
         kind = f"Path<B{other}, {kind}>"
-    return CODE.format(name=f"R{number}", type=f"Region<B{number}, {kind}>", inline="never",
-                       said=f"The region at {block.start:#x}.")
+    own = f"B{number}" if others else block_kind(number, block)
+    again = others or block.ways[block.start] >= 1
+    return CODE.format(name=f"R{number}", type=f"Region<{own}, {kind}>" if again else own,
+                       inline="never", said=f"The region at {block.start:#x}.")
 
 
-def regions_of(blocks: Sequence[Block]) -> list[list[int]]:
-    """The numbers of the other blocks of each one's region; rare ones are alone."""
+def regions_of(blocks: Sequence[Block]) -> dict[int, list[int]]:
+    """The numbers of the other blocks of each one's region."""
     numbers = {it.start: number for number, it in enumerate(blocks, start=1)}
     starts = {it.start: it for it in blocks}
-    hot = sum(it.steps for it in blocks) * HOT
-    return [[numbers[it.start] for it in region_of(block, starts)] if block.steps > hot else []
-            for block in blocks]
+    return {numbers[block.start]: [numbers[it.start] for it in region_of(block, starts)]
+            for block in blocks}
 
 
 def match(asked: str, answers: Iterable[tuple[int, int]]) -> str:
@@ -214,15 +219,17 @@ def texts_of(blocks: Sequence[Block]) -> dict[str, str]:
     forms = form_imports(word for block in blocks for word in block.words)
     parts = HEAD.format(said="The parts of blocks: instructions in a row.",
                         used="Code, Last, Seq", more=forms)
-    types = HEAD.format(said="Blocks.", used="Cat, Code",
+    regions = regions_of(blocks)
+    members = {it for number, others in regions.items() if others for it in [number, *others]}
+    types = HEAD.format(said="Blocks of regions.", used="Cat, Code",
                         more=f"use crate::parts::{{{', '.join(names)}}};\n")
-    used = ", ".join(f"B{number}" for number, _ in counted)
-    regions = HEAD.format(said="Regions of blocks, and their numbers.",
-                          used="Blocks, Code, Image, Nothing, Path, Region",
-                          more=f"use crate::blocks::{{{used}}};\n")
+    used = ", ".join(f"B{number}" for number in sorted(members))
+    heads = HEAD.format(said="Regions of blocks, and their numbers.",
+                        used="Blocks, Cat, Code, Image, Nothing, Path, Region",
+                        more=f"use crate::blocks::{{{used}}};\n"
+                             f"use crate::parts::{{{', '.join(names)}}};\n")
     return {"lib.rt": ROOT,
             "parts.rt": parts + "".join(part_types(*it) for it in counted),
-            "blocks.rt": types + "".join(block_type(*it) for it in counted),
-            "regions.rt": regions + "".join(region_type(*it, others)
-                                            for it, others in zip(counted, regions_of(blocks)))
+            "blocks.rt": types + "".join(block_type(*it) for it in counted if it[0] in members),
+            "regions.rt": heads + "".join(region_type(*it, regions[it[0]]) for it in counted)
                           + group_types(blocks)}
