@@ -10,10 +10,6 @@ from tombolopan_profile.counts import BYTES, Counts
 from compiled_blocks.types import JUMPS, form_of
 
 LONGEST = 48  # the most instructions of a block
-# Of a region the blocks next to the first, and the rarest way in of all.
-MEMBERS, RARE = 6, 0.01
-# What an instruction takes of the lines up to which the compiler takes code in line, and these.
-ACCESS, OTHER, MOST_LINES = 2_700, 150, 6_000
 DIRECT = {"Jump", "Call"}  # the jumps that lead to one address
 
 
@@ -21,13 +17,13 @@ DIRECT = {"Jump", "Call"}  # the jumps that lead to one address
 class Block:
     """Instructions that are executed one after another: their addresses and words, how many steps
     they are expected to take of the counted runs, how often control goes on behind the last one,
-    and how often it leaves them over jumps to other addresses."""
+    and whether it comes back to the first."""
 
     addresses: tuple[int, ...]
     words: tuple[int, ...]
     steps: float
     goes_on: float
-    exits: tuple[tuple[int, float], ...]
+    again: bool
 
     @property
     def start(self) -> int:
@@ -37,18 +33,6 @@ class Block:
     def behind(self) -> int:
         """Where control goes on."""
         return following(self.addresses[-1], self.words[-1])
-
-    @property
-    def ways(self) -> Counter[int]:
-        """How often control comes from it to each address."""
-        return Counter(dict(self.exits)) + Counter({self.behind: self.goes_on})
-
-
-def lines_of(words: Iterable[int]) -> int:
-    """About how many lines the compiler has of some instructions."""
-    names = (form[0] for word in words if (form := form_of(word)))
-    return sum((ACCESS if name.startswith(("Load", "Store")) else OTHER) * (1 + ("Pair" in name))
-               for name in names)
 
 
 def following(address: int, word: int) -> int:
@@ -83,7 +67,6 @@ class Profile:
         """The block from an address on, where control comes so often: over direct jumps, up to any
         other jump, or to an instruction that has no type or is in it already."""
         found: list[int] = []
-        exits: defaultdict[int, float] = defaultdict(float)
         steps, share, address = 0.0, float(entered), start
         while len(found) < LONGEST and address in self.words and address not in found:
             form = form_of(self.words[address])
@@ -91,15 +74,15 @@ class Profile:
                 break
             found.append(address)
             steps += share
-            if form[0] not in DIRECT:
-                for target, count in self.taken[address].items():
-                    exits[target] += share * count / self.executed[address]
-                share *= form[0] not in JUMPS and self.goes_on(address)
+            if form[0] in JUMPS and form[0] not in DIRECT:
+                share = 0
+            elif form[0] not in DIRECT:
+                share *= self.goes_on(address)
             address = following(address, self.words[address])
         if not found:
             return None
-        words = tuple(self.words[it] for it in found)
-        return Block(tuple(found), words, steps, share, tuple(exits.items()))
+        again = any(start in self.taken[it] for it in found)
+        return Block(tuple(found), tuple(self.words[it] for it in found), steps, share, again)
 
     def blocks(self) -> list[Block]:
         """The blocks at all addresses to which control comes when there are such blocks."""
@@ -117,23 +100,6 @@ class Profile:
             if share >= 1 and after not in found:
                 waiting[after] += round(share)
         return [it for it in found.values() if it is not None]
-
-
-def region_of(first: Block, blocks: Mapping[int, Block]) -> list[Block]:
-    """Blocks by their starts to which control comes from a first one and among which it stays, each
-    by the hottest way from those before it."""
-    found, ways = [first], first.ways
-    room = MOST_LINES - lines_of(first.words)
-    for _ in range(MEMBERS):
-        known = {it.start for it in found}
-        fits = [(count, start) for start, count in ways.items() if start not in known
-                and start in blocks and lines_of(blocks[start].words) <= room]
-        if not fits or max(fits)[0] < sum(ways.values()) * RARE:
-            break
-        found.append(blocks[max(fits)[1]])
-        room -= lines_of(found[-1].words)
-        ways += found[-1].ways
-    return found[1:]
 
 
 def choose(profiles: Iterable[Profile], most: int) -> list[Block]:

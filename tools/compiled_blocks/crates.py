@@ -4,7 +4,7 @@ from collections.abc import Iterable, Sequence
 
 from a64.form_types import PARTS, in_part
 from tombolopan_profile.counts import BYTES
-from compiled_blocks.choosing import Block, region_of
+from compiled_blocks.choosing import Block
 from compiled_blocks.types import form_of, read_tables, written
 
 PART = 6  # the most instructions of a type: the prover's time grows with the depth of types
@@ -18,9 +18,8 @@ ROOT = """\
 
 mod blocks;
 mod parts;
-mod regions;
 
-pub use regions::Images;
+pub use blocks::Images;
 """
 
 HEAD = """\
@@ -142,38 +141,14 @@ def part_names(number: int, block: Block) -> list[str]:
     return [f"B{number}P{at}" for at in range(len(in_rows(block)))]
 
 
-def block_kind(number: int, block: Block) -> str:
-    """A block as its parts one after another."""
+def block_type(number: int, block: Block) -> str:
+    """The type of a block."""
     names = part_names(number, block)
     kind = names[-1]
     for name in reversed(names[:-1]):
         kind = f"Cat<{name}, {kind}>"
-    return kind
-
-
-def block_type(number: int, block: Block) -> str:
-    """The type of a block of a region."""
-    return CODE.format(name=f"B{number}", type=block_kind(number, block), inline="always",
-                       said=f"The block at {block.start:#x}.")
-
-
-def region_type(number: int, block: Block, others: Sequence[int]) -> str:
-    """The type of a block with those that it leads to, and again where it leads to itself."""
-    kind = "Nothing"
-    for other in reversed(others):
-        kind = f"Path<B{other}, {kind}>"
-    own = f"B{number}" if others else block_kind(number, block)
-    again = others or block.ways[block.start] >= 1
-    return CODE.format(name=f"R{number}", type=f"Region<{own}, {kind}>" if again else own,
-                       inline="never", said=f"The region at {block.start:#x}.")
-
-
-def regions_of(blocks: Sequence[Block]) -> dict[int, list[int]]:
-    """The numbers of the other blocks of each one's region."""
-    numbers = {it.start: number for number, it in enumerate(blocks, start=1)}
-    starts = {it.start: it for it in blocks}
-    return {numbers[block.start]: [numbers[it.start] for it in region_of(block, starts)]
-            for block in blocks}
+    return CODE.format(name=f"B{number}", type=f"Again<{kind}>" if block.again else kind,
+                       inline="never", said=f"The block at {block.start:#x}.")
 
 
 def match(asked: str, answers: Iterable[tuple[int, int]]) -> str:
@@ -193,7 +168,7 @@ def group_types(blocks: Sequence[Block]) -> str:
     for first in reversed(range(0, len(blocks), GROUP)):
         kind = after
         for at in reversed(range(first, min(first + GROUP, len(blocks)))):
-            kind = f"Blocks<R{at + 1}, {kind}>"
+            kind = f"Blocks<B{at + 1}, {kind}>"
         after = f"From{first + 1}" if first else "Images"
         texts.append(IMAGE.format(
             name=after, type=kind, said=f"The blocks from number {first + 1} on.",
@@ -219,17 +194,10 @@ def texts_of(blocks: Sequence[Block]) -> dict[str, str]:
     forms = form_imports(word for block in blocks for word in block.words)
     parts = HEAD.format(said="The parts of blocks: instructions in a row.",
                         used="Code, Last, Seq", more=forms)
-    regions = regions_of(blocks)
-    members = {it for number, others in regions.items() if others for it in [number, *others]}
-    types = HEAD.format(said="Blocks of regions.", used="Cat, Code",
+    types = HEAD.format(said="Blocks and their numbers.",
+                        used="Again, Blocks, Cat, Code, Image, Nothing",
                         more=f"use crate::parts::{{{', '.join(names)}}};\n")
-    used = ", ".join(f"B{number}" for number in sorted(members))
-    heads = HEAD.format(said="Regions of blocks, and their numbers.",
-                        used="Blocks, Cat, Code, Image, Nothing, Path, Region",
-                        more=f"use crate::blocks::{{{used}}};\n"
-                             f"use crate::parts::{{{', '.join(names)}}};\n")
     return {"lib.rt": ROOT,
             "parts.rt": parts + "".join(part_types(*it) for it in counted),
-            "blocks.rt": types + "".join(block_type(*it) for it in counted if it[0] in members),
-            "regions.rt": heads + "".join(region_type(*it, regions[it[0]]) for it in counted)
-                          + group_types(blocks)}
+            "blocks.rt": types + "".join(block_type(*it) for it in counted)
+                         + group_types(blocks)}

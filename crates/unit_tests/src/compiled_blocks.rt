@@ -1,7 +1,7 @@
 //! Blocks of an image as types: a run is the same with and without them.
 
 use crate::images::image;
-use a64_blocks::{Blocks, Cat, Code, Image, ImageBlocks, Last, Nothing, Path, Region, Seq};
+use a64_blocks::{Again, Blocks, Cat, Code, Image, ImageBlocks, Last, Nothing, Seq};
 use a64_forms::accesses::{Load, Store};
 use a64_forms::branches::JumpNe;
 use a64_forms::sums::{Add, SubsImm};
@@ -27,9 +27,7 @@ type Test = Seq<SubsImm<1, 3, 3>, 0x10008, 0xF1000463, Last<JumpNe<-3>, 0x1000C,
 
 type Turn = Seq<Load<0, 1, 2>, 0x10000, 0xF9400022, Seq<Add<0, 2, 0>, 0x10004, 0x8B000040, Test>>;
 
-type End = Last<Store<0, 1, 0>, 0x10010, 0xF9000020>;
-
-type Whole = Cat<Region<Turn, Nothing>, End>;
+type Whole = Cat<Again<Turn>, Last<Store<0, 1, 0>, 0x10010, 0xF9000020>>;
 
 type Sum = Blocks<Whole, Blocks<Turn, Nothing>>;
 
