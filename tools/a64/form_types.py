@@ -1,4 +1,4 @@
-"""Writes a64_forms: each form of `Op` as a type, with its fields as constants."""
+"""Writes a64_forms: forms of `Op` as types, with their fields as constants."""
 
 import re
 from dataclasses import dataclass
@@ -45,6 +45,20 @@ PARTS = {
     "any_registers": Part("Forms of any registers, executed by the functions of their rows.",
                           {"is_any_sum", "is_far_access"}),
 }
+
+# Forms without a type: a block ends before one. Each takes less than 0.1 % of the steps of the
+# programs of tools/speed/real_programs.py, on the average of their counts.
+UNTYPED = frozenset("""
+    AddLsl32 AddLsr AddsImm SubSp Orr Orr32 Bic Bic32 OrrMask EorMask EorMask32 AndsMask Movk32
+    Asr Bfm Extr32 Msub Msub32 Csinc Adc Sbcs Lslv Lsrv Asrv Asrv32 Ccmp AnyAdcSbc AnyLogShift
+    AnyLogShift32 AnyCondCmp AnyCondSel JumpIf StoreSp32 LoadSigned32 LoadSigned16 LoadSigned8
+    LoadSigned16To32 LoadSigned8To32 StoreRegUxtw64 StoreRegUxtw32 LoadRegUxtw16 StoreRegUxtw8
+    LoadRegSxtw64 StoreRegSxtw64 LoadRegSxtw32 StoreRegSxtw32 LoadRegSxtw16 StoreRegSxtw16
+    LoadRegSxtw8 StoreRegSxtw8 StoreUnscaled LoadUnscaled32 StoreUnscaled32 LoadUnscaled16
+    StoreUnscaled16 StoreUnscaled8 StorePost StorePost32 LoadPre StorePre StorePre32 LoadPre16
+    StorePre16 StorePre8 LoadPairPre AnyReg AnyRegUxtw AnyRegSxtw AnyRegSxtx AnyUnscaled AnyPost
+    AnyPre AnyPairOffset AnyPairPost AnyPairPre Svc
+""".split())
 
 # The functions that are called in execute_op, and their bodies, which are taken in line.
 IN_LINE = {"load": "load_in_line", "store": "store_in_line"}
@@ -96,8 +110,13 @@ def constant(field: str) -> str:
     return "OPERATION" if field == "op" else field.upper()
 
 
+def with_types(all_forms: Forms) -> Forms:
+    """The forms that have types."""
+    return [form for form in of_table(all_forms, FIRST_TABLE) if form.name not in UNTYPED]
+
+
 def in_part(name: str, all_forms: Forms) -> Forms:
-    return [form for form in of_table(all_forms, FIRST_TABLE)
+    return [form for form in with_types(all_forms)
             if (form.family or form.function) in PARTS[name].names]
 
 
@@ -163,8 +182,11 @@ def part_file(name: str, all_forms: Forms, sources: Sources) -> str:
 
 
 def check_parts(all_forms: Forms) -> None:
-    """Whether each form is in one file."""
-    for form in of_table(all_forms, FIRST_TABLE):
+    """Whether each form with a type is in one file, and each other one is a form."""
+    names = {form.name for form in of_table(all_forms, FIRST_TABLE)}
+    if wrong := sorted(UNTYPED - names):
+        raise TableError(f"{table.FORMS}: it has no {', '.join(wrong)} ({CRATE})")
+    for form in with_types(all_forms):
         found = [name for name in PARTS if form in in_part(name, all_forms)]
         if len(found) != 1:
             raise form.error(f"it is in {len(found)} files of {CRATE}: "

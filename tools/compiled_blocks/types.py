@@ -3,10 +3,11 @@
 import functools
 
 from a64 import table
+from a64.form_types import UNTYPED
 from a64.pages import matching_form
 
 # Forms after which the next instruction in memory never comes.
-JUMPS = {"Jump", "Call", "JumpReg", "CallReg", "Ret", "Svc"}
+JUMPS = {"Jump", "Call", "JumpReg", "CallReg", "Ret"}
 # The forms of masks, by the bit sf and opc.
 MASKS = {(sf, opc): f"{name}Mask{'' if sf else '32'}"
          for opc, name in enumerate(("And", "Orr", "Eor", "Ands")) for sf in (0, 1)}
@@ -64,21 +65,27 @@ def own_effect(row: str, values: dict[str, int]) -> tuple[str, list[int]] | None
     return None
 
 
-@functools.cache
-def form_of(word: int) -> tuple[str, tuple[int, ...]] | None:
-    """The form of a word and its fields; none where it has no type."""
+def any_form(row: table.Row, word: int) -> tuple[str, tuple[int, ...]] | None:
+    """The form of a row's word and its fields; none where `Op` has none."""
     rows, forms = read_tables()
-    row = table.decode(word, rows)
-    if row is None or row.refusals(word):
-        return None
     values = row.values(word)
     if found := own_effect(row.name, values):
         return found[0], tuple(found[1])
     form = matching_form(row, values, forms, rows)
-    # The rare ones are not in `Op`, and have no types.
+    # The rare ones are not in `Op`.
     if form is None or form.table.held:
         return None
     return form.name, tuple(values[name] for name, _ in form.kept)
+
+
+@functools.cache
+def form_of(word: int) -> tuple[str, tuple[int, ...]] | None:
+    """The form of a word and its fields; none where it has no type."""
+    row = table.decode(word, read_tables()[0])
+    if row is None or row.refusals(word):
+        return None
+    form = any_form(row, word)
+    return None if form is None or form[0] in UNTYPED else form
 
 
 def written(form: tuple[str, tuple[int, ...]]) -> str:

@@ -29,8 +29,8 @@ COUNTED = "system_slice"
 SMALL = (
     "a64_text", "clap", "command_run", "cxx_tree", "debug_info", "debug_lines", "debug_variables",
     "debuggee", "elf_sections", "elf_symbols", "gdb_front", "gdb_packets", "gdb_travel",
-    "heap_picture", "hex", "mte_backtrace", "mte_elf", "mte_program", "mte_report", "mte_script",
-    "mte_session", "report_documents", "run_options", "run_terms", "strsim", "tenant_map",
+    "heap_picture", "hex", "mte_backtrace", "mte_elf", "mte_report", "mte_script", "mte_session",
+    "report_documents", "run_options", "run_terms", "strsim", "tenant_map",
 )
 IS_SMALL = re.compile(rf'^(define [^\n]*@"<?(?:core::fmt|std_io|{"|".join(SMALL)})::[^\n]*) \{{$',
                       re.M)

@@ -3,8 +3,7 @@
 use crate::session_course::SessionCourse;
 use crate::session_replay::events_of;
 use common::Obstacle;
-use mte_program::StreamSource;
-use mte_session::read_whole;
+use mte_session::{StreamSource, read_whole};
 use run_terms::{Failure, FileFault, Options, Replay, Suppressions};
 use std::fs::File;
 use std::str;

@@ -1,9 +1,8 @@
 //! A session of which one tenant is replayed.
 
 use crate::replay::{Replayed, replay_tenant};
-use mte_program::StreamSink;
 use mte_sched::Host;
-use mte_session::{Event, Sink, parse_script};
+use mte_session::{Event, Sink, StreamSink, parse_script};
 use run_terms::{Failure, Options, Replay};
 use std::alloc::Global;
 use std::io::{BufWriter, sink};

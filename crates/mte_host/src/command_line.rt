@@ -4,13 +4,12 @@ ghost use Rattle.std.specs.Prelude.{◌≡◌, ◌≤◌, IfOk, IfSome, false};
 ghost use Rattle.clap.specs.Matches.{found_of};
 ghost use Rattle.clap.specs.Simple.{app_of, matches_of};
 ghost use Rattle.clap.specs.Walk.{rows_of, rule_of};
-ghost use Rattle.mte_program.specs.Reads.{names_of};
+ghost use Rattle.mte_session.specs.Reads.{names_of};
 ghost use Rattle.mte_host.specs.CommandLine.{form, frames_rule, script_rule, files_rule, names_in};
 
 use clap::error::ErrorKind;
 use clap::{Arg, ArgAction, ArgMatches, Command, Error, value_parser};
-use mte_program::{Invocation, Program, StreamSink, collect_names, collect_words};
-use mte_session::write_all;
+use mte_session::{Invocation, Program, StreamSink, collect_names, collect_words, write_all};
 use std::alloc::{AllocError, Global};
 use std::{env, io};
 

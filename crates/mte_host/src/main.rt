@@ -7,8 +7,7 @@ mod system;
 
 use blocks::Hot;
 use command_line::read_command_line;
-use mte_program::{StreamSink, conclude};
-use mte_session::{Ending, finish};
+use mte_session::{Ending, StreamSink, conclude, finish};
 use std::io::BufWriter;
 use std::process::ExitCode;
 use system::SystemFiles;

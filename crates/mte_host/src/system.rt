@@ -2,8 +2,7 @@
 
 ghost use Rattle.std.specs.Prelude.{None};
 
-use mte_program::{Files, StreamSource};
-use mte_session::{ReadFault, read_whole};
+use mte_session::{Files, ReadFault, StreamSource, read_whole};
 use std::alloc::Global;
 use std::fs::File;
 

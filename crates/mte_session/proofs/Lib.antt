@@ -2,3 +2,4 @@ pub mod ReportLemmas
 mod PartLemmas
 pub mod SessionLemmas
 mod HeadlineLemmas
+pub mod FileLemmas

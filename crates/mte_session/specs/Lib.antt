@@ -6,3 +6,7 @@ pub mod Progress
 pub mod Outcomes
 pub mod Endings
 pub mod Headline
+pub mod Reads
+pub mod Runs
+pub mod Conclusions
+pub mod Streams

@@ -6,7 +6,7 @@ use crate::values::options_of;
 use clap::error::ErrorKind;
 use clap::{Arg, ArgAction, ArgMatches, Command, Error};
 use common::{Obstacle, build_info};
-use mte_program::{EarlyEnd, print_answer, read_words};
+use mte_session::{EarlyEnd, print_answer, read_words};
 use run_terms::Options;
 use std::alloc::Global;
 use std::convert::AsStr;

@@ -9,4 +9,4 @@ mod table;
 mod values;
 
 pub use command_line::{parse, read_command_line};
-pub use mte_program::EarlyEnd;
+pub use mte_session::EarlyEnd;

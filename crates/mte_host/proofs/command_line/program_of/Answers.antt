@@ -1,6 +1,6 @@
 use Rattle.std.proofs.Common.{◌≡◌, ◌∷◌, ◌∙◌, codes, sym, rules}
 use Rattle.clap.specs.Matches.{found_of, matched_of, first_value}
-use Rattle.mte_program.specs.Reads.{names_of}
+use Rattle.mte_session.specs.Reads.{names_of}
 use Rattle.mte_host.proofs.RowLemmas.{text_or_none, texts_of, names_found}
 use Rattle.mte_host.proofs.command_line.program_of.Goals as goal
 

@@ -1,7 +1,7 @@
 //! The words of a command line, and the names among them.
 
 ghost use Rattle.std.specs.Prelude.{◌≡◌, ◌∷◌, ◌≤◌, map, length, IfOk};
-ghost use Rattle.mte_program.specs.Reads.{names_of};
+ghost use Rattle.mte_session.specs.Reads.{names_of};
 
 use common::PrintableLines;
 use std::alloc::{AllocError, Global};

@@ -4,11 +4,11 @@ use Rattle.mte_streams.specs.Writing.{WriteLog, WroteAll, WrotePart}
 use Rattle.mte_session.specs.declared.ending.Ending.{Ending}
 use Rattle.mte_session.specs.declared.ending.Ending.TheVariants.{Memory}
 use Rattle.mte_session.specs.Endings.{status_of, ending_text}
-use Rattle.mte_program.specs.declared.program.Program.{Program}
-use Rattle.mte_program.specs.declared.invocation.Invocation.{Invocation}
-use Rattle.mte_program.specs.declared.invocation.Invocation.TheVariants.{Run, Exit, OutOfMemory}
-use Rattle.mte_program.specs.Reads.{FilesLog}
-use Rattle.mte_program.specs.Runs.{Ran}
+use Rattle.mte_session.specs.declared.program.Program.{Program}
+use Rattle.mte_session.specs.declared.invocation.Invocation.{Invocation}
+use Rattle.mte_session.specs.declared.invocation.Invocation.TheVariants.{Run, Exit, OutOfMemory}
+use Rattle.mte_session.specs.Reads.{FilesLog}
+use Rattle.mte_session.specs.Runs.{Ran}
 
 -- The bytes that were read and written, as far as they are known.
 pub record Logs : Type 0 where

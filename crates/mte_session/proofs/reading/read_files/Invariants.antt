@@ -1,7 +1,7 @@
 use Rattle.std.proofs.Common.{take}
 use Rattle.mte_session.specs.Files.{contents}
-use Rattle.mte_program.specs.Reads.{names_of, ReadInOrder}
-use Rattle.mte_program.proofs.files.read_files.Given as goal
+use Rattle.mte_session.specs.Reads.{names_of, ReadInOrder}
+use Rattle.mte_session.proofs.reading.read_files.Given as goal
 
 abbrev pub invariant-loop-name : goal.invariant-loop-name
 invariant-loop-name g l =

@@ -1,11 +1,13 @@
 //! A run of the program.
 
-ghost use Rattle.mte_program.specs.Runs.{Ran};
+ghost use Rattle.mte_session.specs.Runs.{Ran};
 
-use crate::files::{Files, read_files};
+use crate::ending::Ending;
 use crate::program::Program;
+use crate::reading::{Files, read_files};
+use crate::session::run_session_with_blocks;
 use a64_run::CompiledBlocks;
-use mte_session::{Ending, Sink, run_session_with_blocks};
+use mte_streams::Sink;
 use std::alloc::Global;
 
 /// Reads the script and then each file, in order, runs the session, and returns how it ended. The

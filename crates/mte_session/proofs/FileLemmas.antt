@@ -11,9 +11,9 @@ use Rattle.mte_session.specs.Outcomes.{Failed}
 use Rattle.mte_session.specs.declared.session.SessionError.{SessionError}
 use Rattle.mte_session.specs.declared.session.SessionError.TheVariants as error
 use Rattle.mte_streams.specs.Writing.{WriteLog}
-use Rattle.mte_program.specs.declared.program.Program.{Program}
-use Rattle.mte_program.specs.Runs.{Ran}
-use Rattle.mte_program.specs.Reads.{names_of, FileRead, FilesLog, with_reads, after_file, whole_reads, ReadInOrder, ReadSome, StoppedAt, Stopped}
+use Rattle.mte_session.specs.declared.program.Program.{Program}
+use Rattle.mte_session.specs.Runs.{Ran}
+use Rattle.mte_session.specs.Reads.{names_of, FileRead, FilesLog, with_reads, after_file, whole_reads, ReadInOrder, ReadSome, StoppedAt, Stopped}
 
 pub with_reads-nil : (log : FilesLog) → with_reads log [] ≡ log
 with_reads-nil None = refl

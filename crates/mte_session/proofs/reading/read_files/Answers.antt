@@ -3,9 +3,9 @@ use Rattle.std.specs.declared.string.String.{String}
 use Rattle.std.specs.declared.alloc.Global.{Global}
 use Rattle.std.proofs.lemmas.List.{map-append}
 use Rattle.mte_session.specs.Files.{contents}
-use Rattle.mte_program.specs.Reads.{ReadInOrder, StoppedAt}
-use Rattle.mte_program.proofs.FileLemmas.{read_none, read_more, read_some, stopped_next, stopped_by}
-use Rattle.mte_program.proofs.files.read_files.Goals as goal
+use Rattle.mte_session.specs.Reads.{ReadInOrder, StoppedAt}
+use Rattle.mte_session.proofs.FileLemmas.{read_none, read_more, read_some, stopped_next, stopped_by}
+use Rattle.mte_session.proofs.reading.read_files.Goals as goal
 
 pub loop-name-init : goal.loop-name-init
 loop-name-init g c = rw c.new-whole.ensures.items (read_none _)

@@ -1,6 +1,6 @@
 use Rattle.std.proofs.Common.{◌≡◌, ◌∷◌, ◌≤◌, map, take, length}
-use Rattle.mte_program.specs.Reads.{names_of}
-use Rattle.mte_program.proofs.words.collect_names.Given as goal
+use Rattle.mte_session.specs.Reads.{names_of}
+use Rattle.mte_session.proofs.words.collect_names.Given as goal
 
 abbrev pub invariant-loop-name : goal.invariant-loop-name
 invariant-loop-name l = record {

@@ -2,9 +2,10 @@
 
 ghost use Rattle.std.specs.Prelude.{◌≡◌, map, IfOk, IfErr};
 ghost use Rattle.mte_session.specs.Files.{contents};
-ghost use Rattle.mte_program.specs.Reads.{FilesLog, after_file, names_of, ReadInOrder, Stopped};
+ghost use Rattle.mte_session.specs.Reads.{FilesLog, after_file, names_of, ReadInOrder, Stopped};
 
-use mte_session::{Ending, ReadFault};
+use crate::ending::Ending;
+use mte_streams::ReadFault;
 use std::alloc::Global;
 
 /// Where files are found by their names.

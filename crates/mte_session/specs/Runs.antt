@@ -6,8 +6,8 @@ use Rattle.mte_session.specs.declared.ending.Ending.{Ending}
 use Rattle.mte_session.specs.declared.ending.Ending.TheVariants.{Done, Script, Memory, Read, Write}
 use Rattle.mte_session.specs.declared.session.SessionError.TheVariants as error
 use Rattle.mte_session.specs.Outcomes.{Input, Reported, Failed, Unwritten}
-use Rattle.mte_program.specs.declared.program.Program.{Program}
-use Rattle.mte_program.specs.Reads.{FilesLog, names_of, ReadInOrder, Stopped}
+use Rattle.mte_session.specs.declared.program.Program.{Program}
+use Rattle.mte_session.specs.Reads.{FilesLog, names_of, ReadInOrder, Stopped}
 
 -- All files were read, and something holds of the session that they are.
 pub record OfSession (p : Program) (old new : FilesLog) (Holds : Input → Type 0) : Type 0 where

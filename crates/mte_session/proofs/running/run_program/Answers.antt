@@ -2,9 +2,9 @@ use Rattle.std.proofs.Common.{◌≡◌, rules, get_or, drop, ◌∷◌, ◌≤�
 use Rattle.std.specs.declared.alloc.Global.{Global}
 use Rattle.mte_session.specs.Files.{contents}
 use Rattle.mte_session.specs.Outcomes.{Failed}
-use Rattle.mte_program.specs.Reads.{names_of, ReadInOrder}
-use Rattle.mte_program.proofs.FileLemmas.{with_first, not_empty, rest_whole, ran_failed}
-use Rattle.mte_program.proofs.running.run_program.Goals as goal
+use Rattle.mte_session.specs.Reads.{names_of, ReadInOrder}
+use Rattle.mte_session.proofs.FileLemmas.{with_first, not_empty, rest_whole, ran_failed}
+use Rattle.mte_session.proofs.running.run_program.Goals as goal
 
 pub returns : goal.returns
 returns g c =

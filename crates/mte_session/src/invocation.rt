@@ -1,12 +1,13 @@
 //! The request of a command line, and the program's work after it.
 
-ghost use Rattle.mte_program.specs.Conclusions.{Concluded};
+ghost use Rattle.mte_session.specs.Conclusions.{Concluded};
 
-use crate::files::Files;
+use crate::ending::{Ending, finish};
 use crate::program::Program;
+use crate::reading::Files;
 use crate::running::run_program;
 use a64_run::CompiledBlocks;
-use mte_session::{Ending, Sink, finish};
+use mte_streams::Sink;
 use std::alloc::Global;
 
 /// The request of a command line.

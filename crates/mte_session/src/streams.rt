@@ -4,11 +4,11 @@
 ghost use Rattle.std.specs.Prelude.{◌≡◌, ◌≤◌, length, IfOk};
 ghost use Rattle.std.specs.Io.Buffered.{writer_contents};
 ghost use Rattle.std.specs.Io.KnownBytes.{Keeps, ReadConsumes, WriteAppends};
-ghost use Rattle.mte_program.specs.Streams.{count_or_failure};
+ghost use Rattle.mte_session.specs.Streams.{count_or_failure};
 ghost use Rattle.mte_streams.specs.Reading.{unknown_reads, after_read};
 ghost use Rattle.mte_streams.specs.Writing.{unknown_writes, after_write};
 
-use mte_session::{Sink, Source, StreamError, WriteFault};
+use mte_streams::{Sink, Source, StreamError, WriteFault};
 use std::io;
 use std::io::{BufWriter, Read, Write};
 

@@ -1,4 +1,0 @@
-pub mod Reads
-pub mod Runs
-pub mod Conclusions
-pub mod Streams
