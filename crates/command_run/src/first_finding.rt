@@ -44,26 +44,26 @@ fn found_by<'a>(
 }
 
 /// Runs a tenant from its first instruction, and returns how many steps it attempted.
-fn run_cuts<'a>(
+fn run_cuts<'a, O: Watcher>(
     alloc: Global,
     admission: &Admission<'_>,
     cuts: &Cuts<'_>,
-    observer: &mut Observer<'_>,
+    watcher: &mut O,
 ) -> Result<u64, Failure<'a>> {
     match TenantBench::new(alloc, admission) {
-        Ok(mut bench) => Ok(run_bench(&mut bench, cuts, observer)),
+        Ok(mut bench) => Ok(run_bench(&mut bench, cuts, watcher)),
         Err(_) => Err(Failure::Memory),
     }
 }
 
 /// Runs a tenant to its end or that of its slices, and returns how many steps it attempted.
-fn run_bench(bench: &mut TenantBench, cuts: &Cuts<'_>, observer: &mut Observer<'_>) -> u64 {
+fn run_bench<O: Watcher>(bench: &mut TenantBench, cuts: &Cuts<'_>, watcher: &mut O) -> u64 {
     for slices in 0..u64::MAX {
         let steps = cuts.next(slices, bench.parts.history.steps);
-        if steps == 0 || observer.has_ended() || !bench.parts.is_running() {
+        if steps == 0 || watcher.has_ended() || !bench.parts.is_running() {
             break;
         }
-        bench.slice(observer, steps);
+        bench.slice(watcher, steps);
     }
     bench.parts.history.steps
 }

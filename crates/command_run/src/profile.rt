@@ -2,19 +2,19 @@
 
 use crate::request::RunRequest;
 use mte_svc::TenantParts;
-use run_profile::ProfileFile;
+use run_profile::{ProfileFile, RunProfile};
 use run_terms::Failure;
 use std::io;
-use tenant_run::{Observer, WholeFile};
+use tenant_run::WholeFile;
 
 /// Writes the profile of a run of an image into the file that is named, if one is.
 pub fn write_profile<'a>(
     request: &RunRequest<'a, '_>,
     image: &str,
     parts: &TenantParts,
-    observer: &Observer<'_>,
+    profile: Option<&RunProfile<'_>>,
 ) -> Result<(), Failure<'a>> {
-    let (Some(name), Some(profile)) = (&request.options.output.profile, observer.profile()) else {
+    let (Some(name), Some(profile)) = (&request.options.output.profile, profile) else {
         return Ok(());
     };
     let account = ProfileFile {

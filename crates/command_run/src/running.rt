@@ -59,7 +59,7 @@ fn tell_run<'a>(
     observer: &mut Observer<'_>,
 ) -> Result<u8, Failure<'a>> {
     if let Err(Failure::Write) = ran {
-        write_profile(request, run.image.name, parts, observer)?;
+        write_profile(request, run.image.name, parts, observer.profile())?;
     }
     ran?;
     tell_end(request, run, parts, memory, observer)

@@ -46,7 +46,7 @@ impl<'a, 'x> SessionReplay<'a, 'x> {
     ) -> Result<(), Failure<'a>> {
         self.find_store(alloc, found, observer)?;
         if observer.wants_branches() {
-            let _again = self.replayed(alloc, observer, &mut StreamSink(sink()))?;
+            self.show_again(alloc, observer)?;
         }
         observer.end_profile(found.bench.parts.history.steps);
         Ok(())
@@ -99,8 +99,15 @@ impl<'a, 'x> SessionReplay<'a, 'x> {
             return Ok(());
         };
         let mut watcher = StoreWatcher::new(load);
-        let _again = self.replayed(alloc, &mut watcher, &mut StreamSink(sink()))?;
+        self.show_again(alloc, &mut watcher)?;
         observer.store = watcher.found();
+        Ok(())
+    }
+
+    /// Shows one more run of the tenant, which is dropped in this one place: that is what a proof
+    /// pays for.
+    fn show_again<O: Watcher>(&self, alloc: Global, watcher: &mut O) -> Result<(), Failure<'a>> {
+        let _again = self.replayed(alloc, watcher, &mut StreamSink(sink()))?;
         Ok(())
     }
 

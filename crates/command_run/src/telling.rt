@@ -14,10 +14,20 @@ use mte_flat::Flat;
 use mte_report::Report;
 use mte_svc::TenantParts;
 use report_documents::Document;
+use run_profile::RunProfile;
 use run_terms::{Failure, Options};
 use std::io;
 use std::io::{BufWriter, Write};
 use tenant_run::{Observer, WholeFile};
+
+/// What a watch has for other files than the report's.
+#[derive(Clone, Copy)]
+struct SideFiles<'x> {
+    /// The profile of the run, if it is requested.
+    profile: Option<&'x RunProfile<'x>>,
+    /// Why not all lines of a trace could be written.
+    lines_fault: Option<io::ErrorKind>,
+}
 
 /// Writes what happened to a tenant, and returns the exit status.
 pub fn tell_end<'a>(
@@ -76,12 +86,19 @@ fn tell_parts<'a>(
         options,
         lost: lost.as_slice(),
     };
-    tell(request, &account, &subject, memory, observer)
+    let side = SideFiles {
+        profile: observer.profile(),
+        lines_fault: observer.lines_fault(),
+    };
+    tell(request, &account, &subject, memory, side)
 }
 
 /// The failure to write the lines of a trace, if there was one.
-fn end_lines<'a>(options: &'a Options, observer: &Observer<'_>) -> Result<(), Failure<'a>> {
-    match (observer.lines_fault(), &options.output.trace_file) {
+fn end_lines<'a>(
+    options: &'a Options,
+    lines_fault: Option<io::ErrorKind>,
+) -> Result<(), Failure<'a>> {
+    match (lines_fault, &options.output.trace_file) {
         (None, _) => Ok(()),
         (Some(_), None) => Err(Failure::Write),
         (Some(kind), Some(name)) => {
@@ -96,10 +113,10 @@ fn tell<'a>(
     account: &RunAccount<'_>,
     subject: &CoreSubject<'_>,
     memory: &mut Flat,
-    observer: &Observer<'_>,
+    side: SideFiles<'_>,
 ) -> Result<u8, Failure<'a>> {
     let mut out = BufWriter::new(request.rt.alloc(), request.rt.stderr())?;
-    tell_into(request, account, subject, memory, observer, &mut out)
+    tell_into(request, account, subject, memory, side, &mut out)
 }
 
 /// Writes so, with the lines to a writer.
@@ -108,7 +125,7 @@ fn tell_into<'a, W: Write>(
     account: &RunAccount<'_>,
     subject: &CoreSubject<'_>,
     memory: &mut Flat,
-    observer: &Observer<'_>,
+    side: SideFiles<'_>,
     out: &mut W,
 ) -> Result<u8, Failure<'a>> {
     let (rt, options) = (request.rt, request.options);
@@ -118,8 +135,8 @@ fn tell_into<'a, W: Write>(
     let status = account.status();
     write_files(rt, account.report, options, status, memory)?;
     dump_core(request, subject, memory)?;
-    write_profile(request, subject.name, subject.parts, observer)?;
-    end_lines(options, observer)?;
+    write_profile(request, subject.name, subject.parts, side.profile)?;
+    end_lines(options, side.lines_fault)?;
     let _ = account.write_end(out);
     let _ = out.flush();
     Ok(status)

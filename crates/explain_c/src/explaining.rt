@@ -10,7 +10,7 @@ use mte_report::PictureForm;
 use mte_svc::TenantParts;
 use report_documents::Document;
 use run_cause::CheckTerms;
-use run_profile::ProfileFile;
+use run_profile::{ProfileFile, RunProfile};
 use run_terms::{Failure, Options, Suppressions};
 use std::alloc::Global;
 use std::io;
@@ -142,7 +142,8 @@ fn tell_parts<'a>(
         lost: lost.as_slice(),
     };
     let mut text = Vec::new(alloc);
-    write_answer(alloc, &mut text, asked, &account, memory, observer)?;
+    let profile = observer.profile();
+    write_answer(alloc, &mut text, asked, &account, memory, profile)?;
     Ok(Answer {
         text,
         steps: parts.history.steps,
@@ -158,7 +159,7 @@ fn write_answer(
     asked: &Asked<'_>,
     account: &RunAccount<'_>,
     memory: &mut Flat,
-    observer: &Observer<'_>,
+    profile: Option<&RunProfile<'_>>,
 ) -> io::Result<()> {
     let report = account.report;
     let document = Document {
@@ -178,7 +179,7 @@ fn write_answer(
             report.draw(alloc, out, title.as_str(), PictureForm::Svg, memory)
         }
         AnswerForm::Profile => {
-            let Some(profile) = observer.profile() else {
+            let Some(profile) = profile else {
                 return Ok(());
             };
             let file = ProfileFile {

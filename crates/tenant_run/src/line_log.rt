@@ -1,6 +1,6 @@
 //! Where the lines go that are written while a tenant runs.
 
-use crate::observer::{Observer, checker_of, exact_of, turns_of};
+use crate::observer::{Observer, WatchLists, checker_of, exact_of};
 use crate::survey::silent_observer;
 use crate::tracer::Tracer;
 use crate::whole_file::replace_file;
@@ -44,9 +44,7 @@ pub fn quiet_observer<'i>(
     output: &OutputOptions,
     terms: &CheckTerms<'i>,
 ) -> Result<Observer<'i>, AllocError> {
-    let mut observer = observer_with(alloc, output, None, terms)?;
-    observer.sees_all = output.traced.is_some();
-    Ok(observer)
+    observer_with(alloc, output, None, terms)
 }
 
 /// What finds, in a tenant of an image, what the options forbid beyond its tags, and remembers
@@ -73,17 +71,29 @@ fn observer_with<'i>(
     tracer: Option<Tracer<'i>>,
     terms: &CheckTerms<'i>,
 ) -> Result<Observer<'i>, AllocError> {
-    let turns = turns_of(alloc, output.turns)?;
+    let lists = WatchLists::new(alloc, output.last, output.turns)?;
     let checker = checker_of(alloc, terms)?;
+    let profile = profile_of(alloc, output, terms.image)?;
     let exact = exact_of(alloc, output.exact);
-    let mut observer = Observer::new(alloc, output.last, exact, tracer, turns, checker)?;
+    let mut observer = Observer::new(alloc, lists, exact, tracer, checker, profile);
+    observer.sees_all = output.traced.is_some();
     if output.statistics {
         observer.count();
     }
-    if output.profile.is_some() {
-        observer.count_branches(RunProfile::new(alloc, terms.image)?);
-    }
     Ok(observer)
+}
+
+/// The profile of a run of an image, where it is requested.
+fn profile_of<'i>(
+    alloc: Global,
+    output: &OutputOptions,
+    image: &'i [u8],
+) -> Result<Option<RunProfile<'i>>, AllocError> {
+    if output.profile.is_none() {
+        return Ok(None);
+    }
+    let profile = RunProfile::new(alloc, image)?;
+    Ok(Some(profile))
 }
 
 /// The writer of some lines, with the names of an image's functions.

@@ -2,7 +2,7 @@
 
 ghost use Rattle.std.specs.Prelude.{◌<◌};
 
-use crate::bench::{TenantBench, WatchLevel};
+use crate::bench::{TenantBench, WatchLevel, Watcher};
 use crate::ending::TenantEnding;
 use crate::observer::Observer;
 use crate::output_stream::OutputStream;
@@ -105,15 +105,33 @@ impl<'x> LoneTenant<'x> {
         }
     }
 
-    /// Puts the tenant back at its first instruction. The value is assigned in this one place,
+    /// Runs the tenant from its first instruction again. The value is assigned in this one place,
     /// since dropping the old one is what a proof pays for.
-    fn restart<'a>(
+    fn rerun<'a, O: Watcher>(
         &self,
         alloc: Global,
         options: &Options,
         bench: &mut TenantBench,
+        watcher: &mut O,
+        out: &mut OutputStream<'_>,
+        limit: u64,
     ) -> Result<(), Failure<'a>> {
         *bench = self.bench_again(alloc, options)?;
+        run_slices(bench, watcher, out, options, limit);
+        Ok(())
+    }
+
+    /// Shows one more run of the tenant, whose machine is dropped in this one place.
+    fn show_again<'a, O: Watcher>(
+        &self,
+        alloc: Global,
+        options: &Options,
+        watcher: &mut O,
+        limit: u64,
+    ) -> Result<(), Failure<'a>> {
+        let mut again = self.bench_again(alloc, options)?;
+        let mut out = OutputStream::silent();
+        run_slices(&mut again, watcher, &mut out, options, limit);
         Ok(())
     }
 
@@ -181,14 +199,7 @@ impl<'x> LoneTenant<'x> {
     ) -> Result<(), Failure<'a>> {
         let steps = bench.parts.history.steps;
         if observer.wants_branches() {
-            let mut again = self.bench_again(alloc, options)?;
-            run_slices(
-                &mut again,
-                observer,
-                &mut OutputStream::silent(),
-                options,
-                steps,
-            );
+            self.show_again(alloc, options, observer, steps)?;
         }
         observer.end_profile(steps);
         Ok(())
@@ -204,9 +215,7 @@ impl<'x> LoneTenant<'x> {
         out: &mut OutputStream<'_>,
     ) -> Result<(), Failure<'a>> {
         observer.restart(alloc, bench.parts.history.steps)?;
-        self.restart(alloc, options, bench)?;
-        run_slices(bench, observer, out, options, options.length.steps);
-        Ok(())
+        self.rerun(alloc, options, bench, observer, out, options.length.steps)
     }
 
     /// Puts the tenant after the access that ends it beyond what its tags forbid, if one does: its
@@ -224,9 +233,7 @@ impl<'x> LoneTenant<'x> {
             None => return Ok(()),
         };
         observer.shown = WatchLevel::Nothing;
-        self.restart(alloc, options, bench)?;
-        run_slices(bench, observer, out, options, step);
-        Ok(())
+        self.rerun(alloc, options, bench, observer, out, step)
     }
 
     /// Finds what wrote the target last of the jump to no code that ended the tenant, if one did,
@@ -241,10 +248,8 @@ impl<'x> LoneTenant<'x> {
         let Some(load) = observer.target_load(&bench.parts.history.status) else {
             return Ok(());
         };
-        let mut again = self.bench_again(alloc, options)?;
         let mut watcher = StoreWatcher::new(load);
-        let mut out = OutputStream::silent();
-        run_slices(&mut again, &mut watcher, &mut out, options, load.step);
+        self.show_again(alloc, options, &mut watcher, load.step)?;
         observer.store = watcher.found();
         Ok(())
     }

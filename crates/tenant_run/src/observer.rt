@@ -84,24 +84,46 @@ impl<'a> Drop for Observer<'a> {
     }
 }
 
+/// The lists of what is remembered.
+#[derive(Drop)]
+pub struct WatchLists {
+    book: Book,
+    last: HeapCircularBuffer<Moment>,
+    turns: Option<HeapCircularBuffer<Turn>>,
+}
+
+impl WatchLists {
+    /// Empty ones: for the last `count` instructions, and as many as a cause is found by; and for
+    /// the last `turns` calls and returns, where there are to be any.
+    pub fn new(alloc: Global, count: usize, turns: usize) -> Result<WatchLists, AllocError> {
+        Ok(WatchLists {
+            book: Book::new(alloc)?,
+            last: HeapCircularBuffer::with_capacity(alloc, count.max(LEAST))?,
+            turns: turns_of(alloc, turns)?,
+        })
+    }
+}
+
 impl<'a> Observer<'a> {
-    /// One that remembers the last `count` instructions, and as many as a cause is found by; the
-    /// calls and returns for which there is a list; and what a checker finds.
+    /// One that remembers into lists, and what a checker finds, and counts branches where there is
+    /// a profile. Nothing can fail here, where much would have to be dropped: that is what a proof
+    /// pays for.
     pub fn new(
         alloc: Global,
-        count: usize,
+        lists: WatchLists,
         exact: Option<Exact>,
         tracer: Option<Tracer<'a>>,
-        turns: Option<HeapCircularBuffer<Turn>>,
         checker: Option<Checker<'a>>,
-    ) -> Result<Observer<'a>, AllocError> {
-        Ok(Observer {
+        profile: Option<RunProfile<'a>>,
+    ) -> Observer<'a> {
+        let WatchLists { book, last, turns } = lists;
+        Observer {
             shown: WatchLevel::Attempts,
             shown_after: u64::MAX,
             passed: 0,
             suspect: None,
-            book: Book::new(alloc)?,
-            last: HeapCircularBuffer::with_capacity(alloc, count.max(LEAST))?,
+            book,
+            last,
             turns,
             tracer,
             sees_all: false,
@@ -111,13 +133,8 @@ impl<'a> Observer<'a> {
             statistics: None,
             is_cut: false,
             store: None,
-            profile: None,
-        })
-    }
-
-    /// Counts the branches that the tenant takes, too.
-    pub fn count_branches(&mut self, profile: RunProfile<'a>) {
-        self.profile = Some(profile);
+            profile,
+        }
     }
 
     /// Whether the branches have to be counted by one more run, of which it is shown them alone.
@@ -134,22 +151,6 @@ impl<'a> Observer<'a> {
     /// The profile of the run, if it is requested.
     pub fn profile(&self) -> Option<&RunProfile<'a>> {
         self.profile.as_ref()
-    }
-
-    /// A slice of the profile begins.
-    fn begin_profile(&mut self, parts: &TenantParts) {
-        if let Some(profile) = &mut self.profile {
-            profile.begin_slice(parts);
-        }
-    }
-
-    /// Notes an attempt after which there is no next instruction, where the branches are counted.
-    fn note_attempt(&mut self, parts: &TenantParts) {
-        if self.shown == WatchLevel::Branches {
-            if let Some(profile) = &mut self.profile {
-                profile.note_attempt(parts);
-            }
-        }
     }
 
     /// Ends the profile after all steps of the run.
@@ -321,7 +322,9 @@ impl<'a> Watcher for Observer<'a> {
 
     fn begin(&mut self, parts: &TenantParts, steps: u32) -> u32 {
         if self.shown == WatchLevel::Branches {
-            self.begin_profile(parts);
+            if let Some(profile) = &mut self.profile {
+                profile.begin_slice(parts);
+            }
             return 0;
         }
         let before = parts.history.steps;
@@ -447,7 +450,7 @@ impl<'a> Watch for Observer<'a> {
 
     fn after<M: Paged>(&mut self, parts: &TenantParts, memory: &mut M) {
         if self.is_over() {
-            self.note_attempt(parts);
+            note_attempt(self.shown, &mut self.profile, parts);
             return;
         }
         let call = self.book.note(parts, memory);
@@ -475,6 +478,15 @@ impl<'a> Watch for Observer<'a> {
     }
 }
 
+/// Notes an attempt after which there is no next instruction, where the branches are counted.
+fn note_attempt(shown: WatchLevel, profile: &mut Option<RunProfile<'_>>, parts: &TenantParts) {
+    if shown == WatchLevel::Branches {
+        if let Some(profile) = profile {
+            profile.note_attempt(parts);
+        }
+    }
+}
+
 /// Remembers the call or return that an instruction made, where they are requested.
 fn note_turn(turns: &mut Option<HeapCircularBuffer<Turn>>, moment: &Moment, parts: &TenantParts) {
     let Some(turns) = turns else {
@@ -495,10 +507,7 @@ fn cuts_output(moment: &Moment, parts: &TenantParts) -> bool {
 }
 
 /// A list for the last `count` calls and returns, where there are to be any.
-pub fn turns_of(
-    alloc: Global,
-    count: usize,
-) -> Result<Option<HeapCircularBuffer<Turn>>, AllocError> {
+fn turns_of(alloc: Global, count: usize) -> Result<Option<HeapCircularBuffer<Turn>>, AllocError> {
     if count == 0 {
         return Ok(None);
     }

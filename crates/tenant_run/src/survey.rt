@@ -1,9 +1,9 @@
 //! How a tenant ends under several seeds.
 
-use crate::bench::{TenantBench, WatchLevel};
+use crate::bench::{TenantBench, WatchLevel, Watcher};
 use crate::ending::{ENDINGS, TenantEnding, ending_at};
 use crate::lone::admission_of;
-use crate::observer::{Observer, checker_of, exact_of};
+use crate::observer::{Observer, WatchLists, checker_of, exact_of};
 use crate::output_stream::OutputStream;
 use crate::seeds::seed_of_run;
 use crate::slices::run_slices;
@@ -92,12 +92,15 @@ fn ending_by(
     admission: &Admission<'_>,
     observer: &mut Observer<'_>,
 ) -> Result<TenantEnding, Obstacle<AdmitError>> {
-    let ending = ending_of(alloc, options, admission, observer)?;
-    if observer.shown != WatchLevel::Accesses || !observer.is_suspicious() {
-        return Ok(ending);
+    let mut ending = ending_of(alloc, options, admission, observer)?;
+    if observer.shown == WatchLevel::Accesses && observer.is_suspicious() {
+        observer.restart(alloc, u64::MAX)?;
+        ending = ending_of(alloc, options, admission, observer)?;
     }
-    observer.restart(alloc, u64::MAX)?;
-    ending_of(alloc, options, admission, observer)
+    match observer.finding() {
+        Some(_) => Ok(TenantEnding::Exact),
+        None => Ok(ending),
+    }
 }
 
 /// The watch of a run of which only the ending, or what is found, counts.
@@ -106,33 +109,25 @@ pub(crate) fn silent_observer<'x>(
     options: &Options,
     terms: &CheckTerms<'x>,
 ) -> Result<Observer<'x>, AllocError> {
+    let lists = WatchLists::new(alloc, 1, 0)?;
     let checker = checker_of(alloc, terms)?;
     let exact = exact_of(alloc, options.output.exact);
-    let mut observer = Observer::new(alloc, 1, exact, None, None, checker)?;
+    let mut observer = Observer::new(alloc, lists, exact, None, checker, None);
     observer.shown = observer.needs();
     Ok(observer)
 }
 
-/// How a tenant ends that is run to its end. Its machine is made and dropped here: an early end
-/// with two of them alive is dear to prove.
-fn ending_of(
+/// How a tenant ends that is run to its end, whatever its watch finds. Its machine is made and
+/// dropped here: an early end with two of them alive is dear to prove.
+fn ending_of<O: Watcher>(
     alloc: Global,
     options: &Options,
     admission: &Admission<'_>,
-    observer: &mut Observer<'_>,
+    watcher: &mut O,
 ) -> Result<TenantEnding, Obstacle<AdmitError>> {
     let mut bench = TenantBench::new(alloc, admission)?;
     let mut out = OutputStream::silent();
-    run_slices(
-        &mut bench,
-        observer,
-        &mut out,
-        options,
-        options.length.steps,
-    );
-    if observer.finding().is_some() {
-        return Ok(TenantEnding::Exact);
-    }
+    run_slices(&mut bench, watcher, &mut out, options, options.length.steps);
     Ok(TenantEnding::of(&bench.parts.history, options.limit()))
 }
 
