@@ -1,5 +1,6 @@
 /*
- * libtombolopan_c.a: why a tenant ended, as `mte_run` tells it, from bytes to bytes in memory.
+ * libtombolopan_c.a: why a tenant ended, as `mte_run` tells it, from bytes to bytes in memory; and
+ * how much work a tenant's slices are.
  *
  * The rules of tombolopan.h hold: no pointer is null, all memory is the caller's, nothing is kept
  * between calls, and any number of threads may call at once. What is told is in no contract.
@@ -49,8 +50,20 @@ typedef struct tb_explain_end {
     uint32_t status; /* the status that mte_run exits with */
 } tb_explain_end;
 
+/* How much work a tenant alone did. */
+typedef struct tb_work_end {
+    uint64_t slices;  /* how many of its slices it ran */
+    uint64_t steps;   /* how many instructions it attempted in them */
+    uint64_t bytes;   /* how many bytes its services touched */
+    uint64_t work;    /* steps, and one for each 2048 of these bytes */
+    uint64_t before;  /* the work before the last of these slices */
+    uint32_t code;    /* what tb_work answered */
+    uint32_t running; /* 1 where it would go on with a next slice, else 0 */
+} tb_work_end;
+
 TB_ASSERT(sizeof(tb_question) == 72 && offsetof(tb_question, form) == 64);
 TB_ASSERT(sizeof(tb_explain_end) == 24 && offsetof(tb_explain_end, code) == 16);
+TB_ASSERT(sizeof(tb_work_end) == 48 && offsetof(tb_work_end, code) == 40);
 
 /*
  * Runs an image alone, and copies as much as `answer` holds of what mte_run tells of it, from its
@@ -61,6 +74,15 @@ TB_ASSERT(sizeof(tb_explain_end) == 24 && offsetof(tb_explain_end, code) == 16);
  */
 uint32_t tb_explain(const tb_question *question, uint8_t *answer, size_t room,
                     tb_explain_end *end);
+
+/*
+ * Runs a tenant alone for its slices, as tb_alone does, while it is running and has done less than
+ * `most` work, and tells how much it did. No slice is cut short, so the last one may pass `most`.
+ * The bytes that services touch are those that are written and read, and of each chunk that is made
+ * its size, with the alignment of memalign; this pays for its end too. TB_OK, TB_REFUSED,
+ * TB_OUT_OF_MEMORY: with these two all else in `end` is 0.
+ */
+uint32_t tb_work(const tb_terms *terms, uint64_t most, tb_work_end *end);
 
 #ifdef __cplusplus
 }

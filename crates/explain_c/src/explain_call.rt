@@ -3,6 +3,7 @@
 ghost use Rattle.std.specs.Prelude.{◌≡◌, drop, length};
 
 use crate::answer::Answer;
+use crate::codes::{BAD_ARGUMENT, NO_ROOM, OK, OUT_OF_MEMORY};
 use crate::explaining::{Question, explain};
 use crate::form::AnswerForm;
 use crate::words::{wants_system, words_of};
@@ -12,14 +13,6 @@ use run_terms::{Failure, Options};
 use std::alloc::{AllocError, Global};
 use std::str;
 
-/// The answer is whole.
-const OK: u32 = 0;
-/// The answer has more bytes than the buffer.
-const NO_ROOM: u32 = 7;
-/// The words are no command line, or the form is none; the answer says what is wrong.
-const BAD_ARGUMENT: u32 = 8;
-/// An allocation failed.
-const OUT_OF_MEMORY: u32 = 10;
 /// The exit status of `mte_run` where an allocation failed.
 const MEMORY_STATUS: u32 = 4;
 
