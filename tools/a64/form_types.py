@@ -46,18 +46,16 @@ PARTS = {
                           {"is_any_sum", "is_far_access"}),
 }
 
-# Forms without a type: a block ends before one. Each takes less than 0.1 % of the steps of the
-# programs of tools/speed/real_programs.py, on the average of their counts.
+# Forms without a type: a block ends before one. Each takes less than 0.2 % of the steps of each of the
+# programs of tools/speed/real_programs.py.
 UNTYPED = frozenset("""
-    AddLsl32 AddLsr AddsImm SubSp Orr Orr32 Bic Bic32 OrrMask EorMask EorMask32 AndsMask Movk32
-    Asr Bfm Extr32 Msub Msub32 Csinc Adc Sbcs Lslv Lsrv Asrv Asrv32 Ccmp AnyAdcSbc AnyLogShift
-    AnyLogShift32 AnyCondCmp AnyCondSel JumpIf StoreSp32 LoadSigned32 LoadSigned16 LoadSigned8
-    LoadSigned16To32 LoadSigned8To32 StoreRegUxtw64 StoreRegUxtw32 LoadRegUxtw16 StoreRegUxtw8
-    LoadRegSxtw64 StoreRegSxtw64 LoadRegSxtw32 StoreRegSxtw32 LoadRegSxtw16 StoreRegSxtw16
-    LoadRegSxtw8 StoreRegSxtw8 StoreUnscaled LoadUnscaled32 StoreUnscaled32 LoadUnscaled16
-    StoreUnscaled16 StoreUnscaled8 StorePost StorePost32 LoadPre StorePre StorePre32 LoadPre16
-    StorePre16 StorePre8 LoadPairPre AnyReg AnyRegUxtw AnyRegSxtw AnyRegSxtx AnyUnscaled AnyPost
-    AnyPre AnyPairOffset AnyPairPost AnyPairPre Svc
+    AddLsl32 AddLsr AddsImm Bic OrrMask EorMask EorMask32 AndsMask Movk32 Asr Bfm Msub Msub32
+    Csinc Adc Sbcs Asrv Asrv32 Ccmp AnyAdcSbc AnyLogShift AnyLogShift32 AnyCondCmp AnyCondSel
+    JumpIf LoadSigned16 LoadSigned8 LoadSigned16To32 LoadSigned8To32 StoreRegUxtw64
+    StoreRegUxtw8 LoadRegSxtw64 StoreRegSxtw64 LoadRegSxtw16 StoreRegSxtw16 StoreUnscaled32
+    StoreUnscaled8 LoadPre StorePre StorePre32 LoadPre16 StorePre16 StorePre8 LoadPairPre
+    AnyRegUxtw AnyRegSxtw AnyRegSxtx AnyUnscaled AnyPost AnyPre AnyPairOffset AnyPairPost
+    AnyPairPre Svc
 """.split())
 
 # The functions that are called in execute_op, and their bodies, which are taken in line.
