@@ -46,8 +46,8 @@ PARTS = {
                           {"is_any_sum", "is_far_access"}),
 }
 
-# Forms without a type: a block ends before one. Each takes less than 0.2 % of the steps of each of the
-# programs of tools/speed/real_programs.py.
+# Forms without a type: a block ends before one. Each takes less than 0.2 % of the steps of each
+# program of tools/speed/real_programs.py.
 UNTYPED = frozenset("""
     AddLsl32 AddLsr AddsImm Bic OrrMask EorMask EorMask32 AndsMask Movk32 Asr Bfm Msub Msub32
     Csinc Adc Sbcs Asrv Asrv32 Ccmp AnyAdcSbc AnyLogShift AnyLogShift32 AnyCondCmp AnyCondSel
