@@ -10,7 +10,7 @@ from compiled_blocks.types import form_of, read_tables, written
 PART = 6  # the most instructions of a type: the prover's time grows with the depth of types
 GROUP = 16  # blocks of a type, for the same reason
 MOST = 1000  # blocks: a run has a place for as many (a64_blocks)
-PLACES = 4096  # of the table from addresses to numbers
+PLACES = 65_536  # of the table from addresses to numbers
 
 ROOT = """\
 //! The hottest blocks of images. Written by tools/translate.py.
