@@ -87,9 +87,9 @@ def needs_library(name: str) -> bool:
 
 
 def place(item: pytest.Item, slow: set[str]) -> int:
-    """The page is made first, by one worker. Cases that need the library come after the others,
-    and those that open the page last: both take minutes to make."""
-    if item.name == "test_the_page_is_made":
+    """The page is made first, by one worker, and programs with compiled blocks. Cases that need the
+    library come after the others, and those that open the page last: all take minutes to make."""
+    if item.name == "test_the_page_is_made" or module_of(item) == "tests.test_translate":
         return 0
     if "whole" in getattr(item, "fixturenames", ()):
         return 3
