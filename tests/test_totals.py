@@ -17,9 +17,9 @@ import pytest
 
 from tests.support.batches import Batch, summary
 from tests.support.drawn_sessions import MOST_STEPS, back, write_sessions
-from tests.support.embedding import folders
 from tests.support.host_sessions import admission
 from tests.support.instructions import call, move, program, subtract_with_flags
+from tests.support.led_sessions import check_script, run_over, write_led
 from tests.support.library import shared_object
 from tests.support.places import EXAMPLES, ROOT
 from tests.support.running import Ran, run
@@ -27,7 +27,7 @@ from tests.support.running import Ran, run
 sys.path.insert(0, str(ROOT / "tools"))
 from batch.answers import after_further  # noqa: E402
 from batch.further import Run, count_of, lead, lines_of, runs_of, slices_of  # noqa: E402
-from batch.reports import refused_of, tenants_of  # noqa: E402
+from batch.reports import tenants_of  # noqa: E402
 
 DRAWN = int(os.environ.get("TOMBOLOPAN_DRAWN", "300"))
 TOTALS = [900, 40_000, 2_500_000]
@@ -91,12 +91,6 @@ def test_slices_of_a_model(seed: int) -> None:
 
 # The scripts that are written
 
-def run_over(host: pathlib.Path, folder: pathlib.Path, script: pathlib.Path) -> Ran:
-    """What mte_host writes of a session by another script."""
-    words = folders.words_of(folder)
-    return run([host, *words[:2], script, *(folder / it for it in words[3:])])
-
-
 def check_tenants(before: bytes, after: Sequence[dict[str, Any]], total: int) -> None:
     """Each tenant has its total, or what its own slices give it, or has ended; one that was stopped
     or had ended is as it was."""
@@ -110,24 +104,11 @@ def check_tenants(before: bytes, after: Sequence[dict[str, Any]], total: int) ->
             assert old["steps"] <= new["steps"] <= most, new
 
 
-def check_script(host: pathlib.Path, folder: pathlib.Path, reports: pathlib.Path,
-                 told: dict[str, Any], total: int) -> None:
-    """The script of a session is its own and further slices, mte_host has the report over it, and
-    nothing else is refused than before."""
-    own, before = (folder / "script").read_text(), run_over(host, folder, folder / "script").out
+def check_led(host: pathlib.Path, folder: pathlib.Path, reports: pathlib.Path,
+              told: dict[str, Any], total: int) -> None:
+    """The script of a session is as it should be, and so are its tenants."""
+    before = check_script(host, folder, reports, told)
     check_tenants(before, told.get("tenants", ()), total)
-    assert refused_of(before) == told.get("refused", [])
-    script = reports / f"{folder.name}.script"
-    if told["verdict"] == "no script":
-        assert not script.exists()
-        return
-    text = script.read_text()
-    assert text.startswith(own)
-    more = [it.split() for it in text[len(own):].splitlines() if it]
-    assert all(len(it) == 3 and it[0] == "slice" for it in more)
-    ran = run_over(host, folder, script)
-    assert ran.out == (reports / f"{folder.name}.out").read_bytes()
-    assert (ran.status, ran.errors) == (0, "") and tenants_of(ran.out) == told.get("tenants", [])
 
 
 @pytest.mark.parametrize("total", TOTALS)
@@ -143,7 +124,7 @@ def test_drawn_sessions(host: pathlib.Path, library: dict[str, str], tmp_path: p
     words = {it["verdict"] for it in told["sessions"]}
     assert "answered" in words and words <= {"answered", "no script"}
     for it in told["sessions"]:
-        check_script(host, batch.sessions / it["name"], tmp_path / "reports", it, total)
+        check_led(host, batch.sessions / it["name"], tmp_path / "reports", it, total)
     again = batch.run()
     assert summary(again)[1] == f"0 run, {len(seeds)} kept"
 
@@ -160,11 +141,7 @@ def test_many_yields(host: pathlib.Path, library: dict[str, str], tmp_path: path
     """Of a tenant that yields a million times, steps, status and output are as they are, though no
     script has as many slices; one that yields some thousand times has a script."""
     folder = tmp_path / "sessions" / "one"
-    folder.mkdir(parents=True)
-    image = counting(times)
-    (folder / "image").write_bytes(image)
-    (folder / "script").write_text("".join(f"{admission(number)}\n" for number in (1, 2)))
-    (folder / "args").write_text("--frames\n22\nscript\nimage\n")
+    write_led(folder, [counting(times)], [admission(number) for number in (1, 2)], 22)
     turn, first = len(call(YIELD)) + 2, len(move(20, times))
     whole = first + turn * times + len(call(EXIT, 7))
     for total in (turn * times // 2, 10 * whole):
@@ -175,7 +152,7 @@ def test_many_yields(host: pathlib.Path, library: dict[str, str], tmp_path: path
         status = {"kind": "exit", "code": 7} if ended else {"kind": "running"}
         assert [(it["steps"], it["status"], it["output"]["bytes"]) for it in told["tenants"]] == [
             (whole if ended else total, status, 0)] * 2
-        check_script(host, folder, tmp_path / "reports", told, total)
+        check_led(host, folder, tmp_path / "reports", told, total)
 
 
 # Runs the search for the only tenant of each script of a folder, over its files, by the library.

@@ -108,6 +108,8 @@ def parser_of_all() -> Parser:
         "commands like mte_split for these")
     add("--steps", type=positive, metavar="N",
         help="lead each tenant on to N steps in all, over its yields")
+    add("--work", type=positive, metavar="N",
+        help="the same to N of work: steps, and one more for each 2,048 bytes that services touch")
     add("--quota", type=positive, metavar="N",
         help="run nothing where the sessions of a user, the first folder of their names, allow "
         "more than N steps in all")
@@ -119,7 +121,7 @@ def parser_of_all() -> Parser:
         help="a command like mte_host, as `ssh other mte_host`")
     add("--got", action="store_true", help="write got.out, got.err and got.status beside `args`")
     add("--reports", type=pathlib.Path, metavar="FOLDER",
-        help="write them there, as NAME.out, NAME.err and NAME.status; with --steps NAME.script")
+        help="write them there, as NAME.out, NAME.err and NAME.status; with --steps or --work NAME.script")
     add("--json", type=pathlib.Path, metavar="FILE", help="write what came of each as JSON")
     add("--junit", type=pathlib.Path, metavar="FILE", help="write it as JUnit's XML")
     return parser
@@ -131,10 +133,13 @@ def parse(words: Sequence[str] | None) -> argparse.Namespace:
     given = parser.parse_args(words)
     if given.sample and not given.elsewhere:
         parser.error("--sample needs --elsewhere COMMAND")
-    if given.steps and (given.sample or given.share and given.split):
-        parser.error("--steps takes neither --sample nor --split with --share")
-    if given.steps and given.program and not given.split:
-        parser.error("--steps takes no --program without --split")
+    if given.steps and given.work:
+        parser.error("--steps takes no --work")
+    led = "--work" if given.work else "--steps" if given.steps else ""
+    if led and (given.sample or given.share and given.split):
+        parser.error(f"{led} takes neither --sample nor --split with --share")
+    if led and given.program and not given.split:
+        parser.error(f"{led} takes no --program without --split")
     if given.dask is not None and (given.program or given.timeout):
         parser.error("--dask takes neither --program nor --timeout")
     if given.store is None:
@@ -228,7 +233,7 @@ def writer(given: argparse.Namespace,
         raise Usage(f"--reports: the name {it!r} leads out of the folder")
     if not given.got and not given.reports:
         return None
-    has_script = given.steps is not None
+    has_script = bool(given.steps or given.work)
     return lambda session, answer: write_parts(begins(session.name), session, answer, has_script)
 
 
@@ -242,9 +247,9 @@ def batch_of(given: argparse.Namespace, program: str, store: Store, total: int) 
     """Sessions on their way, by the plans that are asked for."""
     batch = Batch(program, store, given.tries, progress(total))
     batch.work.program = program
-    if given.steps:
+    if given.steps or given.work:
         from batch.totals import Totals
-        totals = Totals(batch, given.steps)
+        totals = Totals(batch, given.steps or given.work, bool(given.work))
         batch.read = totals.read
         batch.plans.append(totals)
     if given.split:
@@ -260,7 +265,8 @@ def batch_of(given: argparse.Namespace, program: str, store: Store, total: int) 
 def run(given: argparse.Namespace) -> tuple[list[Verdict], Work]:
     """Runs the sessions."""
     found = places_of(given.sessions)
-    if given.quota and (beyond := beyond_quota(found, given.quota, given.steps or 0)):
+    total = given.steps or given.work or 0
+    if given.quota and (beyond := beyond_quota(found, given.quota, total)):
         raise Usage(beyond)
     if given.share and not given.split:
         found = share_of(found, *given.share)

@@ -81,11 +81,7 @@ def trimmed(run: Callable[[list[Run]], "Tenant"], last: list[Run], used: int) ->
 def alone(own: Own, files: Sequence[bytes]) -> Callable[[list[Run]], "Tenant"]:
     """What runs a tenant alone by its own slices and further ones."""
     import tombolopan
-    image, given = ([b"", *files][number] for number in own.files)
-    seed, pages, room = int(own.admission[7], 16), *map(int, own.admission[9::2][:2])
-    is_asynchronous = own.admission[12:] == [b"async"]
-    return lambda runs: tombolopan.alone(image, given, own.slices + slices_of(runs), seed, pages,
-                                         room, is_asynchronous)
+    return lambda runs: tombolopan.alone(*own.terms(files, slices_of(runs)))
 
 
 def found_for(script: bytes, files: Sequence[bytes], total: int) -> bytes:

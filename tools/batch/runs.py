@@ -19,7 +19,7 @@ import tempfile
 from collections.abc import Callable, Sequence
 from dataclasses import replace
 
-from batch import further
+from batch import effort, further
 from batch.answers import OK, SCRIPT, Answer, Lost, Reply, checked
 from batch.sessions import Job
 
@@ -90,7 +90,8 @@ def run_one(job: Job) -> Reply:
     import tombolopan  # loads the library, which only a process that runs sessions needs
     try:
         if job.total:
-            return checked(Answer(OK, further.found_for(job.script, job.files, job.total), b""))
+            found_for = effort.found_for if job.is_of_work else further.found_for
+            return checked(Answer(OK, found_for(job.script, job.files, job.total), b""))
         return checked(Answer(OK, tombolopan.session(job.frames, job.script, job.files), b""))
     except tombolopan.ScriptError as error:
         return checked(Answer(SCRIPT, b"", f"mte_host: {error}\n".encode()))

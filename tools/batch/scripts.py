@@ -49,6 +49,10 @@ def without_its_steps(found: re.Match[bytes]) -> bytes:
     return found[0] if int(found[2]) > MOST_STEPS else found[1] + b"0"
 
 
+# What the library takes of a tenant alone: image, input, slices, seed, pages, room, mode.
+Terms = tuple[bytes, bytes, list[int], int, int, int, bool]
+
+
 @dataclass
 class Own:
     """The events of a tenant that the host accepts: the words of its admission, the steps of its
@@ -69,9 +73,20 @@ class Own:
         return [int(self.admission[3]), int(self.admission[5])]
 
     @property
+    def pages(self) -> int:
+        """How many pages its reservation has."""
+        return int(self.admission[9])
+
+    @property
     def charge(self) -> int:
         """How many frames its reservation takes."""
-        return 2 * int(self.admission[9]) + 1
+        return 2 * self.pages + 1
+
+    def terms(self, files: Sequence[bytes], further: list[int]) -> Terms:
+        """What it is admitted with alone, and its slices, which further ones follow."""
+        image, given = ([b"", *files][number] for number in self.files)
+        return (image, given, self.slices + further, int(self.admission[7], 16), self.pages,
+                int(self.admission[11]), self.admission[12:] == [b"async"])
 
     def lines(self, image: int, given: int) -> list[bytes]:
         """Its lines of a script whose files have these numbers."""

@@ -36,8 +36,9 @@ class Place:
 @dataclass(frozen=True)
 class Job:
     """What decides a report, and its sum. A part of a session has the tenants whose lines these
-    are. With a total of steps it asks for the slices that lead the only tenant on to these
-    (further.py). What is passing is no session of the user's, so it is not kept."""
+    are. With a total, of steps (further.py) or of work (effort.py), it asks for the slices that
+    lead the only tenant on to it. What is passing is no session of the user's, so it is not
+    kept."""
 
     key: str
     frames: int
@@ -45,6 +46,7 @@ class Job:
     files: tuple[bytes, ...]
     tenants: tuple[int, ...] = ()
     total: int = 0
+    is_of_work: bool = False
     is_passing: bool = False
 
     def is_answered_by(self, answer: Answer) -> bool:

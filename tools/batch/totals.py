@@ -1,6 +1,7 @@
 """Leads the tenants of each session on to a total of steps, over their yields: first by slices for
 a tenant that does not yield; those that do are run alone, which finds their slices (further.py);
-then by the script that has all of these. Where no script has room, the report is put together."""
+then by the script that has all of these. Where no script has room, the report is put together.
+To a total of work, with the bytes that services touch, each is run alone (effort.py)."""
 
 import functools
 from collections.abc import Callable, Iterable
@@ -18,10 +19,11 @@ from batch.sessions import Job, Place, Session, make_key, read_session
 
 @dataclass
 class Totals(Plan):
-    """Runs of sessions of which each tenant may take so many steps in all."""
+    """Runs of sessions of which each tenant may take so many steps, or do so much work, in all."""
 
     batch: Batch
     total: int
+    is_of_work: bool = False
     reports: dict[str, Answer] = field(default_factory=dict)
 
     def read(self, place: Place, program: str) -> Session:
@@ -29,8 +31,9 @@ class Totals(Plan):
         session = read_session(place, program)
         if session.job is None:
             return session
-        key = make_key(session.job.key, ("--steps", str(self.total)), [])
-        asked = replace(session.job, key=key, total=self.total)
+        option = "--work" if self.is_of_work else "--steps"
+        key = make_key(session.job.key, (option, str(self.total)), [])
+        asked = replace(session.job, key=key, total=self.total, is_of_work=self.is_of_work)
         return Session(session.name, asked,
                        taken=lambda reply, source: self._judge(session, key, reply, source))
 
@@ -112,7 +115,7 @@ class Journey:
 
     def _learn(self, ledger: Answer) -> None:
         """Learns who is admitted, and gives each tenant the slices that it needs if it does not
-        yield, where they have room. A faulty script stays as it is."""
+        yield, where they have room; for a total of work none. A faulty script stays as it is."""
         if ledger.status != OK:
             self._end(self._text())
             return
@@ -121,7 +124,7 @@ class Journey:
         self.further = {number: filling(self.totals.total - own.steps)
                         for number, own in self.owns.items()
                         if not own.is_stopped and own.steps < self.totals.total}
-        if not self._has_room():
+        if self.totals.is_of_work or not self._has_room():
             self.further = {}
         script = longer(self.job.script, self.further)
         steps = self.totals.total * len(self.further)
@@ -133,9 +136,12 @@ class Journey:
         return events <= MOST_EVENTS
 
     def _short(self) -> list[int]:
-        """The tenants that run on and have not had all of their steps."""
+        """The tenants that run on and have not had all of their steps, or may not have done all of
+        their work."""
+        ended = self.found if self.totals.is_of_work else set()
         return [it["id"] for block in self.blocks.values() for it in tenants_of(block)
-                if it["status"]["kind"] == "running" and it["steps"] < self.totals.total]
+                if it["status"]["kind"] == "running" and it["steps"] < self.totals.total
+                and it["id"] not in ended]
 
     def _look(self, answer: Answer) -> None:
         """Looks which tenants yielded, by the session's first report."""
@@ -153,7 +159,8 @@ class Journey:
         for number in sorted(self.asked):
             part = part_of([self.owns[number]], self.job.frames, self.job.files)
             key = make_key(self.job.key, ("tenant", str(number)), [])
-            job = Job(key, part.frames, part.script, part.files, total=self.totals.total)
+            job = Job(key, part.frames, part.script, part.files, total=self.totals.total,
+                      is_of_work=self.totals.is_of_work)
             find = functools.partial(self._find, number)
             self._enter(f"tenant {number}", job, find, self.totals.total)
 

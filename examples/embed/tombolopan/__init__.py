@@ -150,6 +150,7 @@ from .runs import Stop, run, step
 from .sessions import Session, session
 from .tenants import HeapCall, Tenant, alone
 from .traces import Access, access_size, trace, trace_step
+from .works import Work, work
 
 __all__ = [
     "ABORT", "ACCESS_READ", "ACCESS_READ_TAG", "ACCESS_WRITE", "ACCESS_WRITE_TAG", "ALIGNMENT",
@@ -171,10 +172,10 @@ __all__ = [
     "STATUS_RUNNING", "STOPPED", "STORE", "SVC", "SYNTAX", "ScriptError", "ScriptFault", "Session",
     "Stop", "TAGGED", "TAG_CHECK", "TOO_MANY_EVENTS", "TRANSLATION", "TRESPASSES", "Tenant",
     "TenantStatus", "TracedAccess", "Trespass", "UNMAPPED", "USABLE_SIZE", "VERSION", "WRITE",
-    "access_size", "alone", "build_info", "comparison_name", "disassemble", "example", "explain",
+    "Work", "access_size", "alone", "build_info", "comparison_name", "disassemble", "example", "explain",
     "fault_kind_name", "heap_abort_name", "heap_calls", "hook_block", "hook_code", "hook_mem",
     "profile", "refusal_name", "run", "script_fault_name", "session", "step", "tenant_status_name",
-    "text", "trace", "trace_step", "trespass_name", "why",
+    "text", "trace", "trace_step", "trespass_name", "why", "work",
 ]
 # Their names in tracebacks and in what is pickled.
 for _it in (Fault, MappingError, Refused, ScriptError, Memory, Region, Regs, Session, Answer,

@@ -53,6 +53,27 @@ class Tenant:
     calls: tuple[HeapCall, ...]
 
 
+@dataclass(frozen=True)
+class TenantTerms:
+    """The terms of a tenant as they are lent, and what keeps their bytes alive."""
+
+    lent: _Terms
+    held: tuple[object, ...]
+
+
+def terms_of(image: bytes, input: bytes, slices: Sequence[int], seed: int, pages: int, room: int,
+             asynchronous: bool) -> TenantTerms:
+    """The terms of a tenant, with its slices; a ValueError for a number out of its range."""
+    cuts = (c_uint32 * max(len(slices), 1))(*all_in_bits("slices", slices, 32))
+    held = as_bytes("image", image), as_bytes("input", input)
+    program, given = map(_lend, held)
+    return TenantTerms(_Terms(
+        program.bytes, program.length, given.bytes, given.length, ctypes.addressof(cuts),
+        len(slices), in_bits("seed", seed, 64), in_bits("pages", pages, 32),
+        in_bits("room", room, 32), asynchronous, 0,
+    ), (*held, program, given, cuts))
+
+
 def alone(
     image: bytes,
     input: bytes = b"",
@@ -63,16 +84,9 @@ def alone(
     asynchronous: bool = False,
 ) -> Tenant:
     """Runs a tenant alone for its slices; Refused tells why it is not admitted."""
-    cuts = (c_uint32 * max(len(slices), 1))(*all_in_bits("slices", slices, 32))
-    held = as_bytes("image", image), as_bytes("input", input)
-    program, given = map(_lend, held)
-    terms = _Terms(
-        program.bytes, program.length, given.bytes, given.length, ctypes.addressof(cuts),
-        len(slices), in_bits("seed", seed, 64), in_bits("pages", pages, 32),
-        in_bits("room", room, 32), asynchronous, 0,
-    )
+    terms = terms_of(image, input, slices, seed, pages, room, asynchronous)
     output, calls, end = ctypes.create_string_buffer(65536), (_KeptCall * 64)(), _AloneEnd()
-    code = _library.tb_alone(byref(terms), output, 65536, calls, 64, byref(end))
+    code = _library.tb_alone(byref(terms.lent), output, 65536, calls, 64, byref(end))
     if code == OUT_OF_MEMORY:
         raise MemoryError
     if code == REFUSED:
