@@ -156,8 +156,9 @@ def model_work(end: list[Any]) -> tuple[int, int, int]:
     """Steps, bytes and work of a tenant by what is told of it."""
     steps, written, calls, heap, _ = end
     assert heap == len(calls)
-    sizes = {"malloc": lambda a, b: a, "calloc": lambda a, b: a * b, "realloc": lambda a, b: b,
-             "memalign": lambda a, b: a + b}
+    sizes: dict[str, Callable[[int, int], int]] = {
+        "malloc": lambda a, b: a, "calloc": lambda a, b: a * b, "realloc": lambda a, b: b,
+        "memalign": lambda a, b: a + b}
     touched = written + sum(sizes[service](first, second)
                             for service, first, second, answer in calls
                             if service in sizes and answer)

@@ -121,7 +121,8 @@ def parser_of_all() -> Parser:
         help="a command like mte_host, as `ssh other mte_host`")
     add("--got", action="store_true", help="write got.out, got.err and got.status beside `args`")
     add("--reports", type=pathlib.Path, metavar="FOLDER",
-        help="write them there, as NAME.out, NAME.err and NAME.status; with --steps or --work NAME.script")
+        help="write them there, as NAME.out, NAME.err and NAME.status; with --steps or --work "
+        "NAME.script")
     add("--json", type=pathlib.Path, metavar="FILE", help="write what came of each as JSON")
     add("--junit", type=pathlib.Path, metavar="FILE", help="write it as JUnit's XML")
     return parser
