@@ -108,6 +108,12 @@ pub extern "C" fn tb_work(alloc: Global, terms: &WorkTerms<'_>, most: u64, end: 
     end.code
 }
 
+/// Runs a slice, whose services are counted.
+fn run_slice(machine: &mut Lone, watch: &mut ServiceBytes, steps: u32) {
+    let (parts, memory) = (&mut machine.parts, &mut machine.memory);
+    slice_noted(&mut machine.words, watch, parts, memory, steps, 0);
+}
+
 /// The work of a machine's slices.
 fn work_of(machine: Lone, slices: &[u32], most: u64) -> WorkEnd {
     let mut machine = machine;
@@ -117,8 +123,7 @@ fn work_of(machine: Lone, slices: &[u32], most: u64) -> WorkEnd {
         if end.work >= most || !machine.parts.is_running() {
             break;
         }
-        let (parts, memory) = (&mut machine.parts, &mut machine.memory);
-        slice_noted(&mut machine.words, &mut watch, parts, memory, *steps, 0);
+        run_slice(&mut machine, &mut watch, *steps);
         end.slices = end.slices.saturating_add(1);
         end.before = end.work;
         end.steps = machine.parts.history.steps;
