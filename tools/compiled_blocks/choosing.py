@@ -10,6 +10,8 @@ from tombolopan_profile.counts import BYTES, Counts
 from compiled_blocks.types import JUMPS, form_of
 
 LONGEST = 48  # the most instructions of a block
+# So many instructions pay for a way to a block from one that has no type, which is a step alone.
+SHORTEST = 8
 DIRECT = {"Jump", "Call"}  # the jumps that lead to one address
 
 
@@ -97,6 +99,8 @@ class Profile:
             after, share = start + BYTES, count * self.goes_on(start)
             if block is not None:
                 after, share = block.behind, block.goes_on
+                if start not in self.entered and block.steps < SHORTEST * count:
+                    found[start] = None
             if share >= 1 and after not in found:
                 waiting[after] += round(share)
         return [it for it in found.values() if it is not None]
