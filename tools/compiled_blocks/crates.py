@@ -8,7 +8,7 @@ from compiled_blocks.choosing import Block
 from compiled_blocks.types import form_of, read_tables, written
 
 PART = 6  # the most instructions of a type: the prover's time grows with the depth of types
-LEVELS = 4  # of a type's tree of blocks, for the same reason
+GROUP = 16  # blocks of a type, for the same reason
 MOST = 1000  # blocks: a run has a place for as many (a64_blocks)
 PLACES = 65_536  # of the table from addresses to numbers
 
@@ -161,46 +161,20 @@ def place_of(block: Block) -> int:
     return block.start // BYTES % PLACES
 
 
-def tree(numbers: Sequence[int], level: int) -> str:
-    """The type from numbers to blocks, of those whose last bits led to a level."""
-    if len(numbers) < 2:
-        return f"Alone<B{numbers[0]}>" if numbers else "Nothing"
-    if level and level % LEVELS == 0:
-        return group_name(numbers, level)
-    halves = ([it for it in numbers if it >> level & 1 == bit] for bit in (0, 1))
-    return f"Fork<{', '.join(tree(it, level + 1) for it in halves)}>"
-
-
-def group_name(numbers: Sequence[int], level: int) -> str:
-    """The name of the type of numbers with the same last bits."""
-    return f"Of{level}Bits{numbers[0] % (1 << level)}"
-
-
 def group_types(blocks: Sequence[Block]) -> str:
-    """The types from numbers to blocks, the last first. No block has the number 0."""
+    """The types from numbers to blocks, the last first."""
     places = [(place_of(block), number) for number, block in enumerate(blocks, start=1)]
-    texts = []
-    for level in reversed(range(0, LEVELS * LEVELS, LEVELS)):
-        groups: dict[int, list[int]] = {}
-        for number in range(len(blocks) + 1):
-            groups.setdefault(number % (1 << level), []).append(number)
-        for group in groups.values():
-            if len(group) > 1 or level == 0:
-                texts.append(group_type(group, level, places))
+    texts, after = [], "Nothing"
+    for first in reversed(range(0, len(blocks), GROUP)):
+        kind = after
+        for at in reversed(range(first, min(first + GROUP, len(blocks)))):
+            kind = f"Blocks<B{at + 1}, {kind}>"
+        after = f"From{first + 1}" if first else "Images"
+        texts.append(IMAGE.format(
+            name=after, type=kind, said=f"The blocks from number {first + 1} on.",
+            pc="_pc" if first else "pc",
+            numbers="0" if first else match(f"pc / {BYTES} % {PLACES}", places)))
     return "".join(texts)
-
-
-def group_type(numbers: Sequence[int], level: int, places: Iterable[tuple[int, int]]) -> str:
-    """The type of the numbers that some last bits lead to."""
-    first, *others = numbers
-    halves = ([it for it in numbers if it >> level & 1 == bit] for bit in (0, 1))
-    kind = f"Fork<{', '.join(tree(it, level + 1) for it in halves)}>"
-    kind = kind.replace("Alone<B0>", "Nothing")
-    return IMAGE.format(
-        name=group_name(numbers, level) if level else "Images", type=kind,
-        said=f"The blocks of the numbers {first}, .. {others[-1] if others else first}.",
-        pc="_pc" if level else "pc",
-        numbers="0" if level else match(f"pc / {BYTES} % {PLACES}", places))
 
 
 def form_imports(words: Iterable[int]) -> str:
@@ -221,7 +195,7 @@ def texts_of(blocks: Sequence[Block]) -> dict[str, str]:
     parts = HEAD.format(said="The parts of blocks: instructions in a row.",
                         used="Code, Last, Seq", more=forms)
     types = HEAD.format(said="Blocks and their numbers.",
-                        used="Again, Alone, Cat, Code, Fork, Image, Nothing",
+                        used="Again, Blocks, Cat, Code, Image, Nothing",
                         more=f"use crate::parts::{{{', '.join(names)}}};\n")
     return {"lib.rt": ROOT,
             "parts.rt": parts + "".join(part_types(*it) for it in counted),
