@@ -2,7 +2,7 @@
 """Compiles the hottest blocks of images for the machine of the host, and builds a program with
 them.
 
-    translate.py [--blocks N] [--input FILE].. [--program NAME] [--proved] --out FOLDER FILE...
+    translate.py [--blocks N] [--input FILE].. [--program NAME] --out FOLDER FILE...
 
 FILE is an image, which this checkout's mte_run runs with each input and counts, or what
 `mte_run --profile` wrote of other runs; several files may be of one image or of several. The N
@@ -13,9 +13,10 @@ $XDG_CACHE_HOME/tombolopan (~/.cache/tombolopan) for the next time that the same
 in the same sources.
 
 Reports are those of the program without blocks, for any image: a run takes a block only where its
-words are in memory, on pages without WRITE. a64_blocks proves that for all blocks. --proved proves
-the types and the program too, which was not tried yet; no proof is written for an image. What such
-a program is worth is in docs/SPEED.md.
+words are in memory, on pages without WRITE. a64_blocks proves that for all blocks, and no proof is
+written for an image. The program is built without proof: that the types of an image meet what
+a64_blocks asks of them the prover cannot be told yet, since the law of a part has no name in the
+block that it is in. What such a program is worth is in docs/SPEED.md.
 """
 import argparse
 import hashlib
@@ -104,9 +105,9 @@ def listed_files() -> list[str]:
     return [name for name in listed.rstrip("\0").split("\0") if (ROOT / name).is_file()]
 
 
-def kept_place(texts: Mapping[str, str], words: Sequence[str]) -> pathlib.Path:
+def kept_place(texts: Mapping[str, str], program: str) -> pathlib.Path:
     """Where the program with some blocks is kept that these sources and this toolchain make."""
-    total = hashlib.sha256(repr([sorted(texts.items()), words]).encode())
+    total = hashlib.sha256(repr([sorted(texts.items()), program]).encode())
     total.update(subprocess.run(["rt", "version"], stdout=subprocess.PIPE, check=True).stdout)
     for name in listed_files():
         if name.startswith(("crates", "tools", "VERSION")):
@@ -140,15 +141,15 @@ def put_crate(folder: pathlib.Path, texts: Mapping[str, str], user: str) -> None
     listed.write_text("\n".join(lines) + "\n")
 
 
-def build(texts: Mapping[str, str], program: str, proved: bool, folder: pathlib.Path) -> bool:
+def build(texts: Mapping[str, str], program: str, folder: pathlib.Path) -> bool:
     """Puts the program with some blocks into a folder, and says whether it was built."""
-    words = [] if proved else ["--unproved"]
-    kept = kept_place(texts, [program, *words])
+    kept = kept_place(texts, program)
     if not kept.exists():
         copy = folder / "checkout"
         copy_checkout(copy)
         put_crate(copy, texts, PROGRAMS[program])
-        if subprocess.run([copy / "tools" / "build.sh", *words, "--only", program]).returncode:
+        command = [str(copy / "tools" / "build.sh"), "--unproved", "--only", program]
+        if subprocess.run(command).returncode:
             return False
         crate = program.removeprefix("lib").removesuffix(".a")
         kept.parent.mkdir(parents=True, exist_ok=True)
@@ -168,7 +169,6 @@ def read_command() -> argparse.Namespace:
     add("--input", metavar="FILE", type=pathlib.Path, action="append", default=[],
         help="an input of the images' runs; none: one run without input")
     add("--program", choices=PROGRAMS, default="mte_host")
-    add("--proved", action="store_true", help="prove the types and the program")
     add("--out", metavar="FOLDER", type=pathlib.Path, required=True,
         help="a folder that is not there")
     add("files", metavar="FILE", type=pathlib.Path, nargs="+", help="an image, or counts")
@@ -190,7 +190,7 @@ def main() -> int:
     steps = sum(it.steps for it in profiles)
     print(f"{len(blocks)} blocks of {sum(len(it.addresses) for it in blocks)} instructions, about "
           f"{min(1, sum(it.steps for it in blocks) / steps):.0%} of {steps} steps", flush=True)
-    if not build(crates.texts_of(blocks), options.program, options.proved, options.out):
+    if not build(crates.texts_of(blocks), options.program, options.out):
         return leave("the program was not built")
     return 0
 
