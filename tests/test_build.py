@@ -33,6 +33,22 @@ echo '2 of 4, takes the checks out'
 echo "unproved.py $(basename "$2") $3" >>"$TRIED"
 echo unproved >"$2"
 """
+# Proves the library over what a gate has proved, where one has; joins what `rt lib` has built.
+OVER_GATE = """#!/usr/bin/env bash
+[[ $1 == --join ]] || set -- proves "$1"
+echo "static_library.py $1 $(basename "$2")" >>"$TRIED"
+top=$(dirname "$0")/..
+mkdir -p "$(dirname "$2")"
+if [[ $1 == --join ]]; then
+    cat "$top"/crates/{tombolopan,explain}_c/out/lib*.a >"$2.new"
+    mv "$2.new" "$2"
+elif [[ -e $top/gate ]]; then
+    echo "over a gate" >"$2"
+else
+    echo "run rt ci first"
+    exit 1
+fi
+"""
 MARK = """#!/usr/bin/env bash
 [[ $1 == --unproved ]] || set -- proved "$1"
 echo "mark.py $1 $(basename "$2")" >>"$TRIED"
@@ -76,12 +92,13 @@ class Clone:
 
     def __init__(self, folder: pathlib.Path) -> None:
         self.top = copy_files(folder / "clone", "crates/mte_host/",
-                              "crates/mte_run/", "crates/tombolopan_c/", "crates.txt",
-                              "tools/build.sh", "tools/sources.sh", "examples/libc/",
-                              "examples/rust/")
+                              "crates/mte_run/", "crates/tombolopan_c/", "crates/explain_c/",
+                              "crates.txt", "tools/build.sh", "tools/sources.sh",
+                              "examples/libc/", "examples/rust/")
         self.tried, self.compiler = folder / "tried", folder / "rustc"
         for path, text in ((self.top / "tools/unproved.py", UNPROVED), (self.compiler, COMPILER),
                            (self.top / "tools/mark.py", MARK),
+                           (self.top / "tools/static_library.py", OVER_GATE),
                            (self.top / "tools/install.sh", INSTALL),
                            (self.top / "tools/arm64/command.py", FOR_ARM64),
                            (self.top / "examples/libc/build.py", LIBC),
@@ -120,7 +137,9 @@ def clone(tmp_path: pathlib.Path) -> Clone:
 
 
 PROOFS = [*(f"mark.py proved {it}" for it in (*PROGRAMS, LIBRARY)),
-          *(f"{it}: run -- --help" for it in PROGRAMS), "tombolopan_c: lib --jobs 1"]
+          *(f"{it}: run -- --help" for it in PROGRAMS),
+          *(f"{it}_c: lib --jobs 1" for it in ("tombolopan", "explain")),
+          *(f"static_library.py {it} {LIBRARY}" for it in ("proves", "--join"))]
 
 
 FOR_TENANTS = ["build.py", "rust "]
@@ -171,6 +190,23 @@ def test_by_proof(clone: Clone) -> None:
     ran, tried = clone.build("--unproved")
     assert (ran.status, tried) == (0, [])
     assert "build.sh: mte_run: was there\n" in ran.errors
+
+
+def test_the_library_of_two_crates(clone: Clone) -> None:
+    """It has both crates, and is not there where one is not proved; over what a gate has proved
+    nothing below it is proved once more."""
+    words = ("--only", LIBRARY)
+    ran, tried = clone.build(*words, refused="explain_c")
+    assert ran.status == 1 and f"did not prove\nbuild.sh: {LIBRARY} failed\n" in ran.errors
+    assert f"mark.py proved {LIBRARY}" not in tried
+    clone.built(LIBRARY).unlink()
+    ran, tried = clone.build(*words)
+    assert (ran.status, clone.built(LIBRARY).read_text()) == (0, "proved\nproved\n")
+    clone.built(LIBRARY).unlink()
+    (clone.top / "gate").touch()
+    ran, tried = clone.build(*words)
+    assert (ran.status, clone.built(LIBRARY).read_text()) == (0, "over a gate\n")
+    assert tried == [f"mark.py proved {LIBRARY}", f"static_library.py proves {LIBRARY}"]
 
 
 @pytest.mark.parametrize("name", ["src/main.rt", "specs/main.antt", "proofs/main.antt"])

@@ -219,6 +219,7 @@ OBSTACLES = {
     "undated": r"the first heading of CHANGELOG\.md has no day of .*: .*, not released yet",
     "short": r"the log is not that of a whole gate: .*",
     "failed": r"the gate failed: 2 cases",
+    "stopped": r"the gate failed, and ended there: 1 failed, 6 passed in 70\.12s \(0:01:10\)",
     "other": r"the gate tried another commit: 0{40}",
     "changed": r"the gate tried files that differ from the commit",
     "another": r"mte_host is not the program that the gate proved",
@@ -277,7 +278,10 @@ class Checkout:
             sums[0] = f"{'1' * 64}  crates/mte_host/out/mte_host"
         failed = 2 if "failed" in self.obstacles else 0
         last = [] if "short" in self.obstacles else [f"7 passed, {failed} failed, 1 skipped"]
-        lines = [line, "logic=proved functions=21", "9 passed in 3 s", line, *sums, *last]
+        end = [line, *sums, *last]
+        if "stopped" in self.obstacles:
+            end = ["1 failed, 6 passed in 70.12s (0:01:10)"]
+        lines = [line, "logic=proved functions=21", "9 passed in 3 s", *end]
         self.log.write_text("\n".join([*lines, ""]), encoding="utf-8")
 
     def release(self, *words: str | pathlib.Path) -> Ran:
@@ -286,9 +290,11 @@ class Checkout:
 
 
 def said(obstacles: frozenset[str]) -> list[str]:
-    """What is said of obstacles: of a log with no counts, not that they have a failure."""
-    return [text for name, text in OBSTACLES.items() if name in obstacles
-            and not (name == "failed" and "short" in obstacles)]
+    """What is said of obstacles: of a log with no counts, not that they have a failure; of one that
+    ends where a case failed, only that."""
+    hidden = {"short": {"failed"}, "stopped": {"short", "failed", "another"}}
+    unsaid = {it for name in obstacles for it in hidden.get(name, ())}
+    return [text for name, text in OBSTACLES.items() if name in obstacles - unsaid]
 
 
 @pytest.mark.parametrize("number", range(DRAWN))

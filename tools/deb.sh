@@ -56,7 +56,7 @@ take_arm64() {
     done
     PYTHONPATH=$here python3 -m arm64.shared "$usr/lib/libtombolopan.a" \
         "$usr/lib/libtombolopan.so.2"
-    "$here/mark.py" --unproved "$usr/lib/libtombolopan.so.2" "$usr"/bin/mte_{host,split,run}
+    "$here/mark.py" --unproved "$usr/lib/libtombolopan.so.2" "$usr"/bin/mte_{host,run}
     (cd "$usr/share/tombolopan" && sha256sum "${marked[@]}" >unproved)
 }
 

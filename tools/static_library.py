@@ -3,12 +3,15 @@
 ci` has proved.
 
     tools/static_library.py OUT.a
+    tools/static_library.py --join OUT.a
 
 `rt ci` proves a static library and builds no archive, and `rt lib` would prove all crates below it
 once more, since it takes none of the gate's. This proves the two crates again, at the same time, in
 some four minutes, over crates/*/out/rlib as the gate left them, and builds the archive. It trusts
 what rt ci itself trusts between crates, the statements of the libraries below, and takes nothing
 else from an earlier run. A library that is older than its sources is refused.
+
+With --join it proves nothing, and joins the archives that `rt lib` has built of the two.
 """
 
 import importlib.machinery
@@ -87,11 +90,15 @@ def start(rtlib: ModuleType, folder: pathlib.Path, crate: Any,
     return subprocess.Popen(whole, cwd=crate.folder, stdin=subprocess.DEVNULL)
 
 
-def join(parts: list[pathlib.Path], more: pathlib.Path, out: pathlib.Path) -> None:
-    """One archive of the objects of several, and of one more."""
-    script = "".join([f"create {out}\n", *(f"addlib {part}\n" for part in parts),
+def join(parts: list[pathlib.Path], folder: pathlib.Path, room: pathlib.Path,
+         out: pathlib.Path) -> None:
+    """One archive of the objects of several, and of the toolchain's for `errno`."""
+    whole, more = room / "whole.a", take_errno(folder, room)
+    script = "".join([f"create {whole}\n", *(f"addlib {part}\n" for part in parts),
                       f"addmod {more}\n", "save\nend\n"])
     subprocess.run(["ar", "-M"], input=script, text=True, check=True)
+    out.parent.mkdir(parents=True, exist_ok=True)
+    shutil.copyfile(whole, out)
 
 
 def build_all(rtlib: ModuleType, folder: pathlib.Path, parts: list[pathlib.Path]) -> int:
@@ -111,21 +118,23 @@ def build_all(rtlib: ModuleType, folder: pathlib.Path, parts: list[pathlib.Path]
 
 def main() -> int:
     """The command line."""
-    if len(sys.argv) != 2:
+    words = sys.argv[1:]
+    is_built = words[:1] == ["--join"]
+    if len(words) != 1 + is_built:
         sys.exit(__doc__)
-    out = pathlib.Path(sys.argv[1]).absolute()
-    folder = kit()
-    rtlib = toolchain(folder)
-    os.chdir(ROOT)
-    with tempfile.TemporaryDirectory(prefix="static-library-") as room:
-        parts = [pathlib.Path(room) / f"{path.name}.a" for path in CRATES]
-        status = build_all(rtlib, folder, parts)
-        if status != 0:
-            return status
-        whole = pathlib.Path(room) / "whole.a"
-        join(parts, take_errno(folder, pathlib.Path(room)), whole)
-        out.parent.mkdir(parents=True, exist_ok=True)
-        shutil.copyfile(whole, out)
+    out, folder = pathlib.Path(words[-1]).absolute(), kit()
+    with tempfile.TemporaryDirectory(prefix="static-library-") as made:
+        room = pathlib.Path(made)
+        if is_built:
+            parts = [path / "out" / f"lib{path.name}.a" for path in CRATES]
+        else:
+            rtlib = toolchain(folder)
+            os.chdir(ROOT)
+            parts = [room / f"{path.name}.a" for path in CRATES]
+            status = build_all(rtlib, folder, parts)
+            if status != 0:
+                return status
+        join(parts, folder, room, out)
     return 0
 
 

@@ -39,15 +39,15 @@ def of_the_gate(gate: Optional[Gate]) -> list[str]:
 
 
 def of_programs(files: Mapping[str, pathlib.Path], gate: Optional[Gate]) -> list[str]:
-    """The programs that were built: proved, and those that the gate had. A library that is missing
-    is made."""
+    """The programs that were built: proved, and those that the gate had, where it came to the sums
+    of them. A library that is missing is made."""
     found = []
     for name, path in files.items():
         if not path.exists():
             found += [f"{name} is not built"] if name in PROGRAMS else []
         elif is_unproved(path):
             found.append(f"{name} is built without proof")
-        elif gate and name in PROGRAMS:
+        elif gate and (gate.sums or gate.is_whole) and name in PROGRAMS:
             total = hashlib.sha256(path.read_bytes()).hexdigest()
             if gate.sums.get(name) != total:
                 found.append(f"{name} is not the program that the gate proved")
