@@ -2,31 +2,31 @@
 """Compiles the hottest blocks of images for the machine of the host, and builds a program with
 them.
 
-    translate.py [--blocks N] [--input FILE].. [--program NAME] --out FOLDER FILE...
+    translate.py [--blocks N] [--input FILE].. [--program NAME] [--proved] --out FOLDER FILE...
 
 FILE is an image, which this checkout's mte_run runs with each input and counts, or what
 `mte_run --profile` wrote of other runs; several files may be of one image or of several. The N
 blocks (200) that take the most steps become types of a64_forms and a64_blocks in a copy of this
-checkout in FOLDER, and tools/build.sh of the copy builds the program: mte_host, or
+checkout in FOLDER, and the program of the copy is built without proof, or proved: mte_host, or
 libtombolopan_c.a, whose fuzzed runs take them (mte_host). It is in FOLDER then, and kept in
 $XDG_CACHE_HOME/tombolopan (~/.cache/tombolopan) for the next time that the same blocks are to be
 in the same sources.
 
 Reports are those of the program without blocks, for any image: a run takes a block only where its
-words are in memory, on pages without WRITE. a64_blocks proves that for all blocks, and no proof is
-written for an image. The program is built without proof: that the types of an image meet what
-a64_blocks asks of them the prover cannot be told yet, since the law of a part has no name in the
-block that it is in. What such a program is worth is in docs/SPEED.md.
+words are in memory, on pages without WRITE. a64_blocks proves that for all blocks, and nothing is
+proved for an image but that its types are blocks. What such a program is worth, and what proofs
+cost, is in docs/SPEED.md.
 """
 import argparse
 import hashlib
 import os
 import pathlib
+import re
 import shutil
 import subprocess
 import sys
 import tempfile
-from collections.abc import Iterable, Mapping, Sequence
+from collections.abc import Iterable, Sequence
 
 ROOT = pathlib.Path(__file__).resolve().parent.parent
 sys.path.insert(0, str(ROOT / "examples" / "embed"))
@@ -39,6 +39,7 @@ MTE_RUN = ROOT / "crates" / "mte_run" / "out" / "mte_run"
 STEPS = "1000000000"
 CRATE = "compiled_image"
 USES = "a64_forms a64_registers a64_run a64_step a64_blocks mte_tags"
+LISTED = re.compile(r"([a-z]\w*)[^:]*:(.*)")
 # The programs, and the crates that say which blocks their runs take.
 PROGRAMS = {"mte_host": "mte_host", "libtombolopan_c.a": "tombolopan_c"}
 ALIAS = """\
@@ -105,9 +106,9 @@ def listed_files() -> list[str]:
     return [name for name in listed.rstrip("\0").split("\0") if (ROOT / name).is_file()]
 
 
-def kept_place(texts: Mapping[str, str], program: str) -> pathlib.Path:
+def kept_place(text: str, program: str, proved: bool) -> pathlib.Path:
     """Where the program with some blocks is kept that these sources and this toolchain make."""
-    total = hashlib.sha256(repr([sorted(texts.items()), program]).encode())
+    total = hashlib.sha256(repr([text, program, proved]).encode())
     total.update(subprocess.run(["rt", "version"], stdout=subprocess.PIPE, check=True).stdout)
     for name in listed_files():
         if name.startswith(("crates", "tools", "VERSION")):
@@ -124,12 +125,11 @@ def copy_checkout(folder: pathlib.Path) -> None:
         shutil.copy2(ROOT / name, place)
 
 
-def put_crate(folder: pathlib.Path, texts: Mapping[str, str], user: str) -> None:
+def put_crate(folder: pathlib.Path, text: str, user: str) -> None:
     """Puts the crate of types into a checkout, and lets a crate use it."""
     sources = folder / "crates" / CRATE / "src"
     sources.mkdir(parents=True)
-    for name, text in texts.items():
-        (sources / name).write_text(text)
+    (sources / "lib.rt").write_text(text)
     (folder / "crates" / user / "src" / "blocks.rt").write_text(ALIAS)
     listed = folder / "crates.txt"
     lines = []
@@ -141,17 +141,40 @@ def put_crate(folder: pathlib.Path, texts: Mapping[str, str], user: str) -> None
     listed.write_text("\n".join(lines) + "\n")
 
 
-def build(texts: Mapping[str, str], program: str, folder: pathlib.Path) -> bool:
+def leave_what_is_below(folder: pathlib.Path, crate: str) -> None:
+    """Takes all out of a checkout but the sources of a crate and of those below it."""
+    needed, lines = {crate}, []
+    for line in reversed((folder / "crates.txt").read_text().splitlines()):
+        found = LISTED.match(line)
+        if found and found[1] in needed:
+            needed.update(found[2].split())
+            lines.append(line)
+    (folder / "crates.txt").write_text("".join(f"{line}\n" for line in reversed(lines)))
+    for place in (folder / "crates").iterdir():
+        if place.name not in needed:
+            shutil.rmtree(place)
+
+
+def run_build(copy: pathlib.Path, program: str, crate: str, proved: bool) -> bool:
+    """Builds the program of a copy of this checkout, and says whether that was done."""
+    if not proved:
+        command = [str(copy / "tools" / "build.sh"), "--unproved", "--only", program]
+        return not subprocess.run(command).returncode
+    leave_what_is_below(copy, crate)
+    return not (subprocess.run(["rt", "fmt"], cwd=copy / "crates" / CRATE).returncode
+                or subprocess.run(["rt", "ci"], cwd=copy).returncode)
+
+
+def build(text: str, program: str, folder: pathlib.Path, proved: bool) -> bool:
     """Puts the program with some blocks into a folder, and says whether it was built."""
-    kept = kept_place(texts, program)
+    kept = kept_place(text, program, proved)
     if not kept.exists():
         copy = folder / "checkout"
         copy_checkout(copy)
-        put_crate(copy, texts, PROGRAMS[program])
-        command = [str(copy / "tools" / "build.sh"), "--unproved", "--only", program]
-        if subprocess.run(command).returncode:
-            return False
+        put_crate(copy, text, PROGRAMS[program])
         crate = program.removeprefix("lib").removesuffix(".a")
+        if not run_build(copy, program, crate, proved):
+            return False
         kept.parent.mkdir(parents=True, exist_ok=True)
         part = kept.with_name(f"{kept.name}.{os.getpid()}")
         shutil.copy2(copy / "crates" / crate / "out" / program, part)
@@ -169,6 +192,7 @@ def read_command() -> argparse.Namespace:
     add("--input", metavar="FILE", type=pathlib.Path, action="append", default=[],
         help="an input of the images' runs; none: one run without input")
     add("--program", choices=PROGRAMS, default="mte_host")
+    add("--proved", action="store_true", help="prove the program with its blocks")
     add("--out", metavar="FOLDER", type=pathlib.Path, required=True,
         help="a folder that is not there")
     add("files", metavar="FILE", type=pathlib.Path, nargs="+", help="an image, or counts")
@@ -190,7 +214,7 @@ def main() -> int:
     steps = sum(it.steps for it in profiles)
     print(f"{len(blocks)} blocks of {sum(len(it.addresses) for it in blocks)} instructions, about "
           f"{min(1, sum(it.steps for it in blocks) / steps):.0%} of {steps} steps", flush=True)
-    if not build(crates.texts_of(blocks), options.program, options.out):
+    if not build(crates.text_of(blocks), options.program, options.out, options.proved):
         return leave("the program was not built")
     return 0
 

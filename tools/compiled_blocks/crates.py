@@ -7,26 +7,18 @@ from tombolopan_profile.counts import BYTES
 from compiled_blocks.choosing import Block
 from compiled_blocks.types import form_of, read_tables, written
 
-PART = 6  # the most instructions of a type: the prover's time grows with the depth of types
-GROUP = 16  # blocks of a type, for the same reason
+ROW = 6  # the most instructions in a row: the prover's time grows with the depth of types
+ROWS = 4  # the most rows of a type: the prover does not follow a function over too many types
+GROUP = 6  # blocks of a type
 MOST = 1000  # blocks: a run has a place for as many (a64_blocks)
 PLACES = 65_536  # of the table from addresses to numbers
 
-ROOT = """\
+HEAD = """\
 //! The hottest blocks of images. Written by tools/translate.py.
 #![tactic(auto)]
 
-mod blocks;
-mod parts;
-
-pub use blocks::Images;
-"""
-
-HEAD = """\
-//! {said}
-
-use a64_blocks::{{{used}}};
-{more}use a64_registers::Regs;
+use a64_blocks::{{Again, Blocks, Cat, Code, Image, Last, Nothing, Seq}};
+{forms}use a64_registers::Regs;
 use a64_run::Edges;
 use a64_step::Outcome;
 use mte_tags::Tagged;
@@ -35,15 +27,19 @@ use mte_tags::Tagged;
 CODE = """
 type {name}Code = {type};
 
-/// {said}
+/// Instructions at {start:#x}.
 pub struct {name};
 
 impl Code for {name} {{
     ghost START = {{ ⟦<{name}Code as Code>⟧.START }};
 
+    const START: u64 = {start};
+
     ghost COUNT = {{ ⟦<{name}Code as Code>⟧.COUNT }};
 
-    ghost holds = {{ ⟦<{name}Code as Code>⟧.holds }};
+    const COUNT: u64 = {count};
+
+    ghost PLACES = {{ ⟦<{name}Code as Code>⟧.PLACES }};
 
     #[inline({inline})]
     fn run<M: Tagged, E: Edges>(
@@ -56,32 +52,20 @@ impl Code for {name} {{
         <{name}Code as Code>::run(regs, memory, edges, outcome, left)
     }}
 
-    #[inline(always)]
-    fn start() -> u64 {{
-        <{name}Code as Code>::start()
-    }}
-
-    #[inline(always)]
-    fn count() -> u64 {{
-        <{name}Code as Code>::count()
-    }}
-
     fn is_there<M: Tagged>(memory: &mut M) -> bool {{
         <{name}Code as Code>::is_there(memory)
     }}
-
-    ghost stays = {{ ⟦<{name}Code as Code>⟧.stays }};
 }}
 """
 
 IMAGE = """
 type {name}Blocks = {type};
 
-/// {said}
+/// The blocks from number {first} on.
 pub struct {name};
 
 impl Image for {name} {{
-    ghost holds = {{ ⟦<{name}Blocks as Image>⟧.holds }};
+    ghost places = {{ ⟦<{name}Blocks as Image>⟧.places }};
 
     #[inline(always)]
     fn run_number<M: Tagged, E: Edges>(
@@ -103,8 +87,6 @@ impl Image for {name} {{
     fn number_at({pc}: u64) -> u16 {{
         {numbers}
     }}
-
-    ghost stays = {{ ⟦<{name}Blocks as Image>⟧.stays }};
 }}
 """
 
@@ -121,34 +103,38 @@ def chain(instructions: Sequence[tuple[int, int]]) -> str:
 
 
 def in_rows(block: Block) -> list[list[tuple[int, int]]]:
-    """The parts of a block: instructions in a row, at most so many."""
-    parts: list[list[tuple[int, int]]] = []
+    """A block's instructions in rows of so many."""
+    rows: list[list[tuple[int, int]]] = []
     for address, word in zip(block.addresses, block.words):
-        if not parts or len(parts[-1]) == PART or address != parts[-1][-1][0] + BYTES:
-            parts.append([])
-        parts[-1].append((address, word))
-    return parts
+        if not rows or len(rows[-1]) == ROW or address != rows[-1][-1][0] + BYTES:
+            rows.append([])
+        rows[-1].append((address, word))
+    return rows
 
 
-def part_types(number: int, block: Block) -> str:
-    """The types of a block's parts."""
-    return "".join(CODE.format(name=f"B{number}P{at}", type=chain(part), inline="always",
-                               said=f"{part[0][0]:#x} to {part[-1][0]:#x}.")
-                   for at, part in enumerate(in_rows(block)))
+def joined(types: Sequence[str]) -> str:
+    """The type of blocks that lead to one another, of the least depth."""
+    if len(types) == 1:
+        return types[0]
+    half = (len(types) + 1) // 2
+    return f"Cat<{joined(types[:half])}, {joined(types[half:])}>"
 
 
-def part_names(number: int, block: Block) -> list[str]:
-    return [f"B{number}P{at}" for at in range(len(in_rows(block)))]
-
-
-def block_type(number: int, block: Block) -> str:
-    """The type of a block."""
-    names = part_names(number, block)
-    kind = names[-1]
-    for name in reversed(names[:-1]):
-        kind = f"Cat<{name}, {kind}>"
-    return CODE.format(name=f"B{number}", type=f"Again<{kind}>" if block.again else kind,
-                       inline="never", said=f"The block at {block.start:#x}.")
+def block_types(number: int, block: Block) -> str:
+    """The type of a block, and those of its parts where it has too many rows for one."""
+    rows = in_rows(block)
+    parts = [rows[at:at + ROWS] for at in range(0, len(rows), ROWS)]
+    kinds = [joined([chain(row) for row in part]) for part in parts]
+    texts = []
+    if len(parts) > 1:
+        names = [f"B{number}Part{at}" for at in range(1, len(parts) + 1)]
+        texts = [CODE.format(name=name, type=kind, start=part[0][0][0], count=len(part[0]),
+                             inline="always")
+                 for name, kind, part in zip(names, kinds, parts)]
+        kinds = [joined(names)]
+    kind = f"Again<{kinds[0]}>" if block.again else kinds[0]
+    return "".join(texts) + CODE.format(name=f"B{number}", type=kind, start=block.start,
+                                        count=len(rows[0]), inline="never")
 
 
 def match(asked: str, answers: Iterable[tuple[int, int]]) -> str:
@@ -171,7 +157,7 @@ def group_types(blocks: Sequence[Block]) -> str:
             kind = f"Blocks<B{at + 1}, {kind}>"
         after = f"From{first + 1}" if first else "Images"
         texts.append(IMAGE.format(
-            name=after, type=kind, said=f"The blocks from number {first + 1} on.",
+            name=after, type=kind, first=first + 1,
             pc="_pc" if first else "pc",
             numbers="0" if first else match(f"pc / {BYTES} % {PLACES}", places)))
     return "".join(texts)
@@ -186,18 +172,9 @@ def form_imports(words: Iterable[int]) -> str:
                    if found)
 
 
-def texts_of(blocks: Sequence[Block]) -> dict[str, str]:
-    """The sources of the crate, by their names. Of blocks at one place the first is there."""
+def text_of(blocks: Sequence[Block]) -> str:
+    """The source of the crate. Of blocks at one place the first is there."""
     blocks = list({place_of(block): block for block in reversed(blocks)}.values())[::-1]
-    counted = list(enumerate(blocks, start=1))
-    names = [name for number, block in counted for name in part_names(number, block)]
     forms = form_imports(word for block in blocks for word in block.words)
-    parts = HEAD.format(said="The parts of blocks: instructions in a row.",
-                        used="Code, Last, Seq", more=forms)
-    types = HEAD.format(said="Blocks and their numbers.",
-                        used="Again, Blocks, Cat, Code, Image, Nothing",
-                        more=f"use crate::parts::{{{', '.join(names)}}};\n")
-    return {"lib.rt": ROOT,
-            "parts.rt": parts + "".join(part_types(*it) for it in counted),
-            "blocks.rt": types + "".join(block_type(*it) for it in counted)
-                         + group_types(blocks)}
+    return HEAD.format(forms=forms) + "".join(
+        block_types(*it) for it in enumerate(blocks, start=1)) + group_types(blocks)

@@ -27,6 +27,8 @@ type Test = Seq<SubsImm<1, 3, 3>, 0x10008, 0xF1000463, Last<JumpNe<-3>, 0x1000C,
 
 type Turn = Seq<Load<0, 1, 2>, 0x10000, 0xF9400022, Seq<Add<0, 2, 0>, 0x10004, 0x8B000040, Test>>;
 
+type Gap = Seq<Load<0, 1, 2>, 0x10000, 0xF9400022, Test>;
+
 type Whole = Cat<Again<Turn>, Last<Store<0, 1, 0>, 0x10010, 0xF9000020>>;
 
 type Sum = Blocks<Whole, Blocks<Turn, Nothing>>;
@@ -154,19 +156,32 @@ fn numbers_have_blocks(rt: HostRuntime) -> Result<(), Fail> {
     }
     assert!(rt; !Sum::is_there(0, &mut memory) && !Sum::is_there(3, &mut memory));
     assert!(rt; Sum::number_at(CODE) == 1 && Sum::number_at(CODE + 4) == 0);
-    assert!(rt; Turn::start() == CODE && Turn::count() == 4 && Whole::count() == 4);
+    assert!(rt; Turn::START == CODE && Turn::COUNT == 4 && Whole::COUNT == 4);
     Ok(())
 }
 
-/// A block with another field, another address, a word of another form or a gap is not there.
+/// A block with another field, another address or a word of another form is not there.
 #[test]
 fn other_blocks_are_not_there(rt: HostRuntime) -> Result<(), Fail> {
     let mut memory = memory_of(&rt, &SUM)?;
     let field = Last::<Load<0, 1, 3>, 0x10000, 0xF9400022>::is_there(&mut memory);
     let address = Last::<Load<0, 1, 2>, 0x10004, 0xF9400022>::is_there(&mut memory);
     let form = Last::<Load<0, 1, 2>, 0x10004, 0x8B000040>::is_there(&mut memory);
-    let gap = Seq::<Load<0, 1, 2>, 0x10000, 0xF9400022, Test>::is_there(&mut memory);
-    assert!(rt; !field && !address && !form && !gap && Turn::is_there(&mut memory));
+    assert!(rt; !field && !address && !form && Turn::is_there(&mut memory));
+    Ok(())
+}
+
+/// A block ends where what follows does not begin behind an instruction.
+#[test]
+fn blocks_end_at_gaps(rt: HostRuntime) -> Result<(), Fail> {
+    let mut memory = memory_of(&rt, &SUM)?;
+    let _ = memory.write(0x3FFF_F000, &7u64.to_le_bytes(), false);
+    let mut regs = before_sum();
+    let mut told = NoEdges;
+    let mut outcome = Outcome::Next;
+    assert!(rt; Gap::is_there(&mut memory));
+    let left = Gap::run(&mut regs, &mut memory, &mut told, &mut outcome, 100);
+    assert!(rt; left == 99 && regs.pc == CODE + 4 && regs.x[2] == 7);
     Ok(())
 }
 
