@@ -7,13 +7,14 @@ are stubs that say how they were called.
 import os
 import pathlib
 import re
+import shutil
 import time
 
 import pytest
 
 from tests.support.checkout import copy_files, make_stub
 from tests.support.places import ROOT
-from tests.support.running import Ran, run
+from tests.support.running import Ran, Word, run
 
 PROGRAMS = ("mte_host", "mte_run")
 LIBRARY = "libtombolopan_c.a"
@@ -304,6 +305,20 @@ def test_for_arm64(clone: Clone) -> None:
     (clone.top / "crates" / "mte_host" / "src" / "main.rt").write_text("other")
     ran, tried = clone.build("--arm64", "--unproved", "--only", "mte_host")
     assert tried == ["arm64 mte_host.new mte_host --unproved", "mark.py --unproved mte_host.new"]
+
+
+def test_what_is_missing(clone: Clone) -> None:
+    """The toolchain, and what marks a program, are asked for before anything is built."""
+    few = clone.tried.parent / "few"
+    few.mkdir()
+    for name in ("bash", "dirname", "env"):
+        (few / name).symlink_to(shutil.which(name) or "")
+    words: list[Word] = [clone.top / "tools" / "build.sh", "--unproved"]
+    ran = run(words, extra={"PATH": str(few)})
+    assert ran == Ran(2, b"", b"build.sh: rt, the toolchain, is not there\n")
+    (few / "rt").symlink_to("/bin/true")
+    ran = run(words, extra={"PATH": str(few)})
+    assert ran == Ran(2, b"", b"build.sh: missing: binutils (Debian)\n")
 
 
 def test_words(clone: Clone) -> None:

@@ -7,19 +7,21 @@ import pathlib
 import random
 import re
 import shutil
+import sys
 
 import pytest
 
+from mark import ARM64
 from packing import fields
 from packing.parts import PYTHON, Place, place_of
 from packing.release import Release
-from tests.support import debian, debugger, installed, rust_tenants
+from tests.support import debian, debugger, foreign, installed, rust_tenants
 from tests.support.debian import NAMES, Root, files_of
 from tests.support.host_sessions import HI_REPORT
 from tests.support.notes import noted
 from tests.support.pages import named_code
 from tests.support.places import EXAMPLES, ROOT
-from tests.support.running import Ran, run, succeed
+from tests.support.running import Ran, Word, run, succeed
 from tests.support.tools import need
 
 PACKER = ROOT / "tools" / "deb.sh"
@@ -247,6 +249,79 @@ def test_unproved(alone: pathlib.Path, tmp_path: pathlib.Path) -> None:
     proved = version.removesuffix("~unproved")
     for lower, higher in ((version, proved), (proved, VERSION)):
         assert lower == higher or succeed(["dpkg", "--compare-versions", lower, "lt", higher])
+
+
+@pytest.fixture
+def built_for_both(to_pack: pathlib.Path, tmp_path: pathlib.Path) -> pathlib.Path:
+    """A folder with what is packed of this machine, and files in place of those for arm64, and of
+    the libraries of tenants, which take long to pack."""
+    folder = tmp_path / "built"
+    (folder / "libc/lib").mkdir(parents=True)
+    (folder / "libc/lib/libc.a").write_bytes(b"!<arch>\n")
+    for path in to_pack.iterdir():
+        if path.is_file():
+            (folder / path.name).symlink_to(path.resolve())
+    foreign.build(folder / "arm64")
+    return folder
+
+
+def machine_files(package: pathlib.Path, machine: str) -> dict[str, str]:
+    """The files of a package, but for the libraries of tenants and the mark of what is not proved,
+    with MACHINE in place of a machine's name."""
+    left_out = ("usr/lib/tombolopan/libc/", "usr/share/tombolopan/unproved")
+    return {name.replace(machine, "MACHINE"): mode for name, mode in files_of(package).items()
+            if not name.startswith(left_out)}
+
+
+def test_for_arm64(packages: dict[str, pathlib.Path], built_for_both: pathlib.Path,
+                   tmp_path: pathlib.Path) -> None:
+    """With --arm64 the packages that have programs or libraries are packed, of that machine's: with
+    the files that they have here, all calls of the headers, and marks that nothing is proved."""
+    need("aarch64-linux-gnu-nm", "aarch64-linux-gnu-strip", "readelf", "dpkg-architecture")
+    out = tmp_path / "out"
+    paths = succeed([PACKER, "--arm64", out, built_for_both]).output.splitlines()
+    made = {pathlib.Path(it).name.partition("_")[0]: pathlib.Path(it) for it in paths}
+    assert set(made) == {"tombolopan", "libtombolopan2", "libtombolopan-dev"}
+    assert sorted(made.values()) == sorted(out.iterdir())
+    here = succeed(["dpkg-architecture", "-qDEB_HOST_MULTIARCH"]).output.strip()
+    for name, path in made.items():
+        field = succeed(["dpkg-deb", "--field", path, "Version", "Architecture"]).output
+        assert re.search(r"^Version: .*~unproved\nArchitecture: arm64$", field, re.M), field
+        own = machine_files(packages[name], here)
+        assert machine_files(path, "aarch64-linux-gnu") == own and own
+        succeed(["dpkg-deb", "--extract", path, tmp_path])
+    usr = tmp_path / "usr"
+    library = usr / "lib/aarch64-linux-gnu/libtombolopan.so.2"
+    for path in (usr / "bin/mte_host", usr / "bin/mte_run", library):
+        assert path.read_bytes()[18:20] == ARM64, path
+        assert re.search(r"^commit: +[0-9a-f]{40}$.*^build: +unproved$", noted(path), re.M | re.S)
+    succeed(["sha256sum", "--check", "unproved"], cwd=usr / "share/tombolopan")
+    wanted = sorted(it for names in foreign.calls().values() for it in names)
+    for option, path in (("-D", library), ("-g", library.with_name("libtombolopan.a"))):
+        ran = succeed(["aarch64-linux-gnu-nm", option, "--defined-only", path])
+        assert sorted(re.findall(r" T (tb_\w+)$", ran.output, re.M)) == wanted
+
+
+def test_a_library_without_a_call(tmp_path: pathlib.Path) -> None:
+    """A library for arm64 that lacks a call of the headers is not packed."""
+    folder = foreign.build(tmp_path / "arm64")
+    succeed(["aarch64-linux-gnu-ar", "d", "libtombolopan_c.a", "tombolopan_explain.o"], cwd=folder)
+    words: list[Word] = [sys.executable, "-m", "arm64.shared", folder / "libtombolopan_c.a"]
+    ran = run([*words, tmp_path / "library.so"], extra={"PYTHONPATH": str(ROOT / "tools")})
+    lacking = " ".join(sorted(foreign.calls()["tombolopan_explain"]))
+    said = f"arm64.shared: libtombolopan_c.a has no {lacking}\n"
+    assert lacking and ran == Ran(1, b"", said.encode())
+
+
+@pytest.mark.parametrize("name", ["mte_run", "libtombolopan_c.a"])
+def test_not_built_for_arm64(tmp_path: pathlib.Path, name: str) -> None:
+    """Where a program or the library is not built for arm64, it is named and nothing is packed."""
+    need("dpkg-deb", "dpkg-shlibdeps", "strip", "git")
+    (foreign.build(tmp_path / "arm64") / name).unlink()
+    ran = run([PACKER, "--arm64", tmp_path / "out", tmp_path])
+    said = f"deb.sh: not built for arm64: {name} (tools/build.sh --arm64)\n"
+    assert ran == Ran(2, b"", said.encode())
+    assert not (tmp_path / "out").exists()
 
 
 def test_words(tmp_path: pathlib.Path) -> None:

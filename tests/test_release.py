@@ -3,11 +3,13 @@ same bytes in another folder. A release is made where nothing stands in its way,
 with each thing that does. The scripts of single files are stubs in the second part."""
 
 import base64
+import functools
 import hashlib
 import json
 import pathlib
 import random
 import re
+import shutil
 import sys
 import tarfile
 from collections.abc import Callable
@@ -22,7 +24,7 @@ from tests.support.checkout import commit_all, copy_files
 from tests.support.debian import Root, files_of
 from tests.support.host_sessions import HI_REPORT
 from tests.support.places import EXAMPLES, ROOT
-from tests.support.running import Ran, run, succeed
+from tests.support.running import Ran, Word, run, succeed
 from tests.support.samples import tenant
 from tests.support.tools import give_up, git, need
 
@@ -36,7 +38,7 @@ FILES = (rf"tombolopan_{NUMBER}\.tar\.gz", rf"tombolopan_{BUILT}\.spdx\.json",
 # What a trial has where it is built.
 PAGE, ARM64 = rf"tombolopan_{BUILT}\.html", rf"\w+(-dev)?_{BUILT}_arm64\.deb"
 ROW = re.compile(r" *(\d+)  ([0-9a-f]{12})  (\S+)(  unproved)?")
-DRAWN = 12
+DRAWN = 14
 
 
 def sum_of(data: bytes) -> str:
@@ -192,6 +194,10 @@ def test_in_a_root(machine: str, shared: pathlib.Path, to_pack: pathlib.Path,
 # In place of the scripts that make single files: small files, the same each time.
 DEB = """#!/usr/bin/env bash
 folder=$(mktemp -d) version=$(cat "$(dirname "$0")/../VERSION")
+if [[ $1 == --arm64 ]]; then
+    cat "$3"/arm64/* >"$2/tombolopan_$version~unproved_arm64.deb"
+    exit
+fi
 mkdir -p "$folder/DEBIAN" "$folder/usr/share/doc/tombolopan" "$1"
 printf 'Package: tombolopan-doc\\nVersion: %s\\nArchitecture: all\\nMaintainer: n\\n%s\\n' \\
     "$version" 'Description: n' >"$folder/DEBIAN/control"
@@ -211,6 +217,7 @@ STUBS = {
                "echo \"page: 5 bytes, of a proved build\"\n",
 }
 PROGRAMS = ("mte_host", "mte_run")
+FOR_ARM64 = (*PROGRAMS, "libtombolopan_c.a")
 LIBRARIES = ("lib/libc.a", "lib/libc++.a", "rust/version")
 # Each thing that stands in the way of a release, and what is said of it.
 OBSTACLES = {
@@ -226,7 +233,15 @@ OBSTACLES = {
     "absent": r"mte_run is not built",
     "unproved": r"mte_run is built without proof",
     "libraries": r"the libraries of tenants are not built: no lib/libc\+\+\.a in .*",
+    "arm64": r"mte_host is not built for arm64 of the proved build of these sources .*",
+    "of_unproved": r"libtombolopan_c\.a is not built for arm64 of the proved build of .*",
 }
+
+
+@functools.cache
+def toolchain() -> dict[str, str]:
+    """The toolchain, as files say it of themselves."""
+    return mark.toolchain()
 
 
 class Checkout:
@@ -266,6 +281,20 @@ class Checkout:
             path = self.top / "examples" / "libc" / "out" / name
             path.parent.mkdir(parents=True, exist_ok=True)
             path.touch()
+        for name in FOR_ARM64[1:] if "arm64" in self.obstacles else FOR_ARM64:
+            is_proved = name in PROGRAMS or "of_unproved" not in self.obstacles
+            self.build_arm64(name, "the proved build" if is_proved else "a build without proof",
+                             self.commit)
+
+    def build_arm64(self, name: str, kind: str, commit: str) -> None:
+        """Puts what is built for arm64 of some kind of build there, with the lines of a commit."""
+        crate = name.removeprefix("lib").removesuffix(".a")
+        path = self.top / "crates" / crate / "out" / "arm64" / name
+        path.parent.mkdir(parents=True, exist_ok=True)
+        path.write_bytes(mark.text_of({"commit": commit, "changes": "none", **toolchain(),
+                                       "build": "unproved"}) + name.encode())
+        note = f"# For arm64, of the LLVM module of {kind}.\n{sum_of(path.read_bytes())}  {name}\n"
+        path.with_name(f"{name}.unproved").write_text(note, encoding="utf-8")
 
     def write_log(self) -> None:
         """Writes the log of a gate."""
@@ -336,8 +365,8 @@ def test_made(tmp_path: pathlib.Path) -> None:
     assert every[0] == every[1]
     assert {it.name for it in checkout.out.iterdir()} == {
         "SHA256SUMS", "a.whl", "steps.xz", f"tombolopan-doc_{VERSION}_all.deb",
-        f"tombolopan-gate_{VERSION}.log", *(f"tombolopan_{VERSION}.{it}" for it in (
-            "html", "intoto.json", "spdx.json", "tar.gz"))}
+        f"tombolopan_{VERSION}~unproved_arm64.deb", f"tombolopan-gate_{VERSION}.log",
+        *(f"tombolopan_{VERSION}.{it}" for it in ("html", "intoto.json", "spdx.json", "tar.gz"))}
     made, body, signatures = statement_of(checkout.out)
     (tmp_path / "body").write_bytes(b"DSSEv1 28 application/vnd.in-toto+json %d %s"
                                     % (len(body), body))
@@ -356,6 +385,11 @@ def with_other_lines(checkout: Checkout) -> None:
     checkout.write_log()
 
 
+def with_other_lines_for_arm64(checkout: Checkout) -> None:
+    """A program for arm64 that says that it is of another commit."""
+    checkout.build_arm64("mte_host", "the proved build", "2" * 40)
+
+
 def with_wrong_key(checkout: Checkout) -> None:
     """A key that is none."""
     (checkout.out.parent / "key").write_text("no key")
@@ -369,6 +403,7 @@ def with_files(checkout: Checkout) -> None:
 
 @pytest.mark.parametrize("act, words, text", [
     (with_other_lines, (), r"mte_run says of itself: .*commit:    2{40}.*"),
+    (with_other_lines_for_arm64, (), r"mte_host says of itself: .*commit:    2{40}.*unproved"),
     (with_wrong_key, ("--key", "../key"), r"\.\./key has no key of this kind.*"),
     (with_files, (), r".*/out is there, and is not empty")])
 def test_not_made(tmp_path: pathlib.Path, act: Callable[[Checkout], None], words: tuple[str, ...],
@@ -383,6 +418,26 @@ def test_not_made(tmp_path: pathlib.Path, act: Callable[[Checkout], None], words
     left = [it for it in sorted(tmp_path.rglob("*")) if "__pycache__" not in str(it)
             and "/.git/" not in str(it)]
     assert left == [it for it in before if "/.git/" not in str(it)]
+
+
+def test_missing_tools(tmp_path: pathlib.Path) -> None:
+    """What packs for arm64 and makes the page is asked for before anything is made; a trial does
+    without."""
+    checkout = Checkout(tmp_path, frozenset())
+    folder = tmp_path / "bin"
+    folder.mkdir()
+    for name in ("bash", "dirname", "rt", "cc", "git", "dpkg-deb", "dpkg-shlibdeps", "strip",
+                 "objcopy", "aarch64-linux-gnu-gcc", "ld.lld"):
+        found = shutil.which(name)
+        assert found or name == "aarch64-linux-gnu-gcc", name
+        (folder / name).symlink_to(found or "/bin/true")
+    (folder / "python3").write_text("#!/bin/sh\necho goes on\n")
+    (folder / "python3").chmod(0o755)
+    words: list[Word] = [checkout.top / "tools" / "release.sh", "--gate", checkout.log]
+    words.append(checkout.out)
+    ran = run(words, extra={"PATH": str(folder)})
+    assert ran == Ran(2, b"", b"release.sh: missing: clang\n")
+    assert run([*words, "--dry-run"], extra={"PATH": str(folder)}).output == "goes on\n"
 
 
 def test_words() -> None:

@@ -52,7 +52,10 @@ if [[ -n $machine ]]; then
     [[ -n $only ]] || only=programs
     command -v aarch64-linux-gnu-gcc >/dev/null || leave "missing: gcc-aarch64-linux-gnu (Debian)"
 fi
-command -v rt >/dev/null || [[ $only == tenants ]] || leave "rt, the toolchain, is not there"
+if [[ $only != tenants ]]; then
+    command -v rt >/dev/null || leave "rt, the toolchain, is not there"
+    command -v objcopy >/dev/null || leave "missing: binutils (Debian)"
+fi
 
 # The place of a program or of the library.
 place() {

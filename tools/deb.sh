@@ -36,22 +36,27 @@ fi
 for tool in "${needed[@]}"; do
     command -v "$tool" >/dev/null || { echo "deb.sh: missing: $tool" >&2; exit 2; }
 done
-# Puts what is built for arm64 in place of what is built for this machine, and marks it.
-take_arm64() {
-    local name file usr=$work/usr marked=()
+# Where what is built for arm64 is, in FOLDER or in the checkout.
+find_arm64() {
+    local name file
     for name in mte_host mte_run libtombolopan_c.a; do
-        file=${1:+$1/arm64/$name}
-        if [[ -z $file ]]; then
-            file=${name#lib}
-            file=$here/../crates/${file%.a}/out/arm64/$name
-        fi
+        file=${name#lib}
+        file=${1:-$here/../crates/${file%.a}/out}/arm64/$name
         if [[ ! -e $file ]]; then
             echo "deb.sh: not built for arm64: $name (tools/build.sh --arm64)" >&2
             exit 2
         fi
-        case $name in
+        foreign+=("$file")
+    done
+}
+
+# Puts it in place of what is built for this machine, and marks it.
+take_arm64() {
+    local file usr=$work/usr marked=()
+    for file in "${foreign[@]}"; do
+        case $file in
             *.a) cp "$file" "$usr/lib/libtombolopan.a" ;;
-            *) cp "$file" "$usr/bin/$name"; marked+=("../../bin/$name") ;;
+            *) cp "$file" "$usr/bin/${file##*/}"; marked+=("../../bin/${file##*/}") ;;
         esac
     done
     PYTHONPATH=$here python3 -m arm64.shared "$usr/lib/libtombolopan.a" \
@@ -60,11 +65,15 @@ take_arm64() {
     (cd "$usr/share/tombolopan" && sha256sum "${marked[@]}" >unproved)
 }
 
-out=$1
+out=$1 foreign=()
 shift
+[[ ${#machine[@]} -eq 0 ]] || find_arm64 "$@"
 work=$(mktemp -d)
 trap 'rm -rf "$work"' EXIT
 DESTDIR=$work "$here/install.sh" /usr "$@" >/dev/null
-"$here/believe.py" --all >"$work/usr/share/doc/tombolopan/THEOREMS.md"
-[[ ${#machine[@]} -eq 0 ]] || take_arm64 "$@"
+if [[ ${#foreign[@]} -gt 0 ]]; then
+    take_arm64
+else
+    "$here/believe.py" --all >"$work/usr/share/doc/tombolopan/THEOREMS.md"
+fi
 "$here/pack.py" "${machine[@]}" "$work/usr" "$out"

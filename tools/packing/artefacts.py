@@ -72,13 +72,13 @@ def make_packages(made: Made, _: Request) -> None:
         shutil.copy(pathlib.Path(folder, DOCUMENT), made.name("tombolopan_{}.spdx.json"))
 
 
-def make_arm64(made: Made, request: Request) -> None:
-    """The packages for arm64, where programs and library are built for it."""
-    if built.take_arm64(request.folder, made.built, is_dry=request.is_dry):
+def make_arm64(made: Made, _: Request) -> None:
+    """The packages for arm64. A trial has them where programs and library are built for it."""
+    if (made.built / built.ARM64).exists():
         run(TOOLS / "deb.sh", "--arm64", made.out, made.built)
     else:
         made.missing[made.name("tombolopan_{}_arm64.deb").name] = (
-            "not built of these sources (tools/build.sh --arm64)")
+            "not built (tools/build.sh --arm64)")
 
 
 def make_wheel(made: Made, _: Request) -> None:
@@ -156,7 +156,16 @@ def obstacles(request: Request, files: dict[str, pathlib.Path],
               tenants: pathlib.Path) -> Sequence[str]:
     """All that stands in the way of a release."""
     return [*ready.of_the_tree(), *ready.of_the_gate(request.gate),
-            *ready.of_programs(files, request.gate), *ready.of_libraries(tenants)]
+            *ready.of_programs(files, request.gate), *ready.of_libraries(tenants),
+            *ready.of_arm64(built.places(request.folder, built.ARM64))]
+
+
+def look_at_marks(work: pathlib.Path) -> None:
+    """There is no release where a file says of itself that it is another build."""
+    wrong = [*ready.of_marks(work, built.FILES),
+             *ready.of_marks(work / built.ARM64, built.FILES, "unproved")]
+    if wrong:
+        raise NotMade("\n".join(wrong))
 
 
 def make_all(request: Request, out: pathlib.Path) -> Made:
@@ -170,11 +179,11 @@ def make_all(request: Request, out: pathlib.Path) -> Made:
         if absent:
             raise NotMade(f"not built: {' '.join(absent)} (tools/build.sh)")
         is_unproved = built.take(files, tenants, work)
+        built.take_arm64(request.folder, work)
         os.environ["SOURCE_DATE_EPOCH"] = str(find_release(is_unproved).seconds)
         made = Made(out, work, find_release(is_unproved))
-        wrong = ready.of_marks(work, built.FILES)
-        if wrong and not request.is_dry:
-            raise NotMade("\n".join(wrong))
+        if not request.is_dry:
+            look_at_marks(work)
         for title, make in STEPS:
             say(title)
             make(made, request)

@@ -44,16 +44,16 @@ def tenants_of(folder: Optional[pathlib.Path]) -> pathlib.Path:
 
 
 def is_of_proved(path: pathlib.Path) -> bool:
-    """Whether a file for arm64 is of the proved build of the sources that are there."""
+    """Whether a file for arm64 is there, of the proved build of the sources that are there."""
     note = path.with_name(f"{path.name}.unproved")
-    return is_current(ROOT, path) and "the proved build" in note.read_text(encoding="utf-8")
+    return (path.exists() and note.exists() and is_current(ROOT, path)
+            and "the proved build" in note.read_text(encoding="utf-8"))
 
 
-def take_arm64(folder: Optional[pathlib.Path], to: pathlib.Path, *, is_dry: bool) -> bool:
-    """Puts links to what is built for arm64 into a folder; whether all of it is, for a release of
-    the proved build."""
+def take_arm64(folder: Optional[pathlib.Path], to: pathlib.Path) -> bool:
+    """Puts links to what is built for arm64 into a folder; whether all of it is."""
     files = places(folder, ARM64)
-    if not all(it.exists() and (is_dry or is_of_proved(it)) for it in files.values()):
+    if not all(it.exists() for it in files.values()):
         return False
     (to / ARM64).mkdir()
     for name, path in files.items():

@@ -8,7 +8,7 @@ from typing import Optional
 
 import mark
 from packing import gate_log
-from packing.built import PROGRAMS, is_unproved
+from packing.built import PROGRAMS, is_of_proved, is_unproved
 from packing.gate_log import Gate
 from packing.release import ROOT, git, is_tagged, read_version
 
@@ -60,9 +60,15 @@ def of_libraries(folder: pathlib.Path) -> list[str]:
             for name in LIBRARIES if not (folder / name).exists()]
 
 
-def of_marks(folder: pathlib.Path, names: tuple[str, ...]) -> list[str]:
-    """What the files say of themselves: this version, this commit, this toolchain, proved."""
-    values = {**mark.commit_and_changes(), **mark.toolchain(), "build": "proved"}
+def of_arm64(files: Mapping[str, pathlib.Path]) -> list[str]:
+    """What is compiled for arm64."""
+    return [f"{name} is not built for arm64 of the proved build of these sources (tools/build.sh "
+            "--arm64)" for name, path in files.items() if not is_of_proved(path)]
+
+
+def of_marks(folder: pathlib.Path, names: tuple[str, ...], build: str = "proved") -> list[str]:
+    """What the files say of themselves: this version, this commit, this toolchain, this build."""
+    values = {**mark.commit_and_changes(), **mark.toolchain(), "build": build}
     wanted, found = mark.text_of(values), []
     for name in names:
         held = mark.HELD.search((folder / name).read_bytes())
