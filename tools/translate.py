@@ -6,11 +6,12 @@ them.
 
 FILE is an image, which this checkout's mte_run runs with each input and counts, or what
 `mte_run --profile` wrote of other runs; several files may be of one image or of several. The N
-blocks (200) that take the most steps become types of a64_forms and a64_blocks in a copy of this
-checkout in FOLDER, and the program of the copy is built without proof, or proved: mte_host, or
-libtombolopan_c.a, whose fuzzed runs take them (mte_host). It is in FOLDER then, and kept in
-$XDG_CACHE_HOME/tombolopan (~/.cache/tombolopan) for the next time that the same blocks are to be
-in the same sources.
+blocks (300) that take the most steps become types of a64_forms and a64_blocks in a copy of this
+checkout in FOLDER, and the program of the copy is built without proof: mte_host, or
+libtombolopan_c.a, whose fuzzed runs take them (mte_host). With --proved it is proved, mte_host
+alone: what `rt ci` proved of the same crates on this machine is not proved once more. The program
+is in FOLDER then, and kept in $XDG_CACHE_HOME/tombolopan (~/.cache/tombolopan) for the next time
+that the same blocks are to be in the same sources.
 
 Reports are those of the program without blocks, for any image: a run takes a block only where its
 words are in memory, on pages without WRITE. a64_blocks proves that for all blocks, and nothing is
@@ -26,7 +27,7 @@ import shutil
 import subprocess
 import sys
 import tempfile
-from collections.abc import Iterable, Sequence
+from collections.abc import Iterable, Mapping, Sequence
 
 ROOT = pathlib.Path(__file__).resolve().parent.parent
 sys.path.insert(0, str(ROOT / "examples" / "embed"))
@@ -106,9 +107,9 @@ def listed_files() -> list[str]:
     return [name for name in listed.rstrip("\0").split("\0") if (ROOT / name).is_file()]
 
 
-def kept_place(text: str, program: str, proved: bool) -> pathlib.Path:
+def kept_place(texts: Mapping[str, str], program: str, proved: bool) -> pathlib.Path:
     """Where the program with some blocks is kept that these sources and this toolchain make."""
-    total = hashlib.sha256(repr([text, program, proved]).encode())
+    total = hashlib.sha256(repr([sorted(texts.items()), program, proved]).encode())
     total.update(subprocess.run(["rt", "version"], stdout=subprocess.PIPE, check=True).stdout)
     for name in listed_files():
         if name.startswith(("crates", "tools", "VERSION")):
@@ -125,11 +126,12 @@ def copy_checkout(folder: pathlib.Path) -> None:
         shutil.copy2(ROOT / name, place)
 
 
-def put_crate(folder: pathlib.Path, text: str, user: str) -> None:
+def put_crate(folder: pathlib.Path, texts: Mapping[str, str], user: str) -> None:
     """Puts the crate of types into a checkout, and lets a crate use it."""
     sources = folder / "crates" / CRATE / "src"
     sources.mkdir(parents=True)
-    (sources / "lib.rt").write_text(text)
+    for name, text in texts.items():
+        (sources / name).write_text(text)
     (folder / "crates" / user / "src" / "blocks.rt").write_text(ALIAS)
     listed = folder / "crates.txt"
     lines = []
@@ -142,7 +144,8 @@ def put_crate(folder: pathlib.Path, text: str, user: str) -> None:
 
 
 def leave_what_is_below(folder: pathlib.Path, crate: str) -> None:
-    """Takes all out of a checkout but the sources of a crate and of those below it."""
+    """Takes all out of a checkout but the sources of a crate and of those below it. Wrong bodies
+    are the gate's."""
     needed, lines = {crate}, []
     for line in reversed((folder / "crates.txt").read_text().splitlines()):
         found = LISTED.match(line)
@@ -151,8 +154,8 @@ def leave_what_is_below(folder: pathlib.Path, crate: str) -> None:
             lines.append(line)
     (folder / "crates.txt").write_text("".join(f"{line}\n" for line in reversed(lines)))
     for place in (folder / "crates").iterdir():
-        if place.name not in needed:
-            shutil.rmtree(place)
+        if place.is_dir():
+            shutil.rmtree(place / "must-fail" if place.name in needed else place, True)
 
 
 def run_build(copy: pathlib.Path, program: str, crate: str, proved: bool) -> bool:
@@ -165,13 +168,13 @@ def run_build(copy: pathlib.Path, program: str, crate: str, proved: bool) -> boo
                 or subprocess.run(["rt", "ci"], cwd=copy).returncode)
 
 
-def build(text: str, program: str, folder: pathlib.Path, proved: bool) -> bool:
+def build(texts: Mapping[str, str], program: str, folder: pathlib.Path, proved: bool) -> bool:
     """Puts the program with some blocks into a folder, and says whether it was built."""
-    kept = kept_place(text, program, proved)
+    kept = kept_place(texts, program, proved)
     if not kept.exists():
         copy = folder / "checkout"
         copy_checkout(copy)
-        put_crate(copy, text, PROGRAMS[program])
+        put_crate(copy, texts, PROGRAMS[program])
         crate = program.removeprefix("lib").removesuffix(".a")
         if not run_build(copy, program, crate, proved):
             return False
@@ -187,12 +190,12 @@ def read_command() -> argparse.Namespace:
     parser = argparse.ArgumentParser(description=__doc__,
                                      formatter_class=argparse.RawDescriptionHelpFormatter)
     add = parser.add_argument
-    add("--blocks", metavar="N", type=int, default=200,
-        help="how many blocks, at most %d (200)" % crates.MOST)
+    add("--blocks", metavar="N", type=int, default=300,
+        help="how many blocks, at most %d (300)" % crates.MOST)
     add("--input", metavar="FILE", type=pathlib.Path, action="append", default=[],
         help="an input of the images' runs; none: one run without input")
     add("--program", choices=PROGRAMS, default="mte_host")
-    add("--proved", action="store_true", help="prove the program with its blocks")
+    add("--proved", action="store_true", help="prove mte_host with its blocks")
     add("--out", metavar="FOLDER", type=pathlib.Path, required=True,
         help="a folder that is not there")
     add("files", metavar="FILE", type=pathlib.Path, nargs="+", help="an image, or counts")
@@ -203,6 +206,8 @@ def main() -> int:
     options = read_command()
     if not 0 < options.blocks <= crates.MOST:
         return leave(f"--blocks takes 1 to {crates.MOST}")
+    if options.proved and options.program != "mte_host":
+        return leave("--proved is of mte_host alone")
     try:
         with tempfile.TemporaryDirectory() as made:
             counts = counts_of(options.files, options.input, pathlib.Path(made))
@@ -214,7 +219,7 @@ def main() -> int:
     steps = sum(it.steps for it in profiles)
     print(f"{len(blocks)} blocks of {sum(len(it.addresses) for it in blocks)} instructions, about "
           f"{min(1, sum(it.steps for it in blocks) / steps):.0%} of {steps} steps", flush=True)
-    if not build(crates.text_of(blocks), options.program, options.out, options.proved):
+    if not build(crates.texts_of(blocks), options.program, options.out, options.proved):
         return leave("the program was not built")
     return 0
 

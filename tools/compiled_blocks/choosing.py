@@ -5,13 +5,18 @@ from __future__ import annotations
 from collections import Counter, defaultdict
 from collections.abc import Iterable, Mapping
 from dataclasses import dataclass
+from itertools import accumulate
 
 from tombolopan_profile.counts import BYTES, Counts
 from compiled_blocks.types import JUMPS, form_of
 
 LONGEST = 48  # the most instructions of a block
 # So many instructions pay for a way to a block from one that has no type, which is a step alone.
-SHORTEST = 8
+SHORTEST = 4
+LEAST = 0.1  # of the executions of a block's first instruction, those of any other one of it
+# The most instructions of all blocks: the toolchain makes no more than 65,536 copies of generic
+# functions, some nine for each.
+INSTRUCTIONS = 6500
 DIRECT = {"Jump", "Call"}  # the jumps that lead to one address
 
 
@@ -59,6 +64,17 @@ class Profile:
             form = form_of(words.get(source, 0))
             if form is None or form[0] not in DIRECT:
                 self.entered[target] += count
+        for address in self.executed:
+            self.note_next(address)
+
+    def note_next(self, address: int) -> None:
+        """Notes how often a jump that a block does not follow led to the next instruction in
+        memory, which the counts have as no branch."""
+        form = form_of(self.words.get(address, 0))
+        count = round(self.executed[address] * self.goes_on(address))
+        if form is not None and form[0] in JUMPS - DIRECT and count:
+            self.taken[address][address + BYTES] += count
+            self.entered[address + BYTES] += count
 
     def goes_on(self, address: int) -> float:
         """The share of the executions after which the next instruction in memory came."""
@@ -72,7 +88,7 @@ class Profile:
         steps, share, address = 0.0, float(entered), start
         while len(found) < LONGEST and address in self.words and address not in found:
             form = form_of(self.words[address])
-            if form is None or share < 1:
+            if form is None or share < max(1, LEAST * entered):
                 break
             found.append(address)
             steps += share
@@ -107,9 +123,13 @@ class Profile:
 
 
 def choose(profiles: Iterable[Profile], most: int) -> list[Block]:
-    """The blocks that take the most steps, each once."""
+    """The blocks that take the most steps for each of their instructions, each once; those of the
+    most steps first, since the first numbers are found in the fewest instructions."""
     steps: Counter[Block] = Counter()
     for profile in profiles:
         for block in profile.blocks():
             steps[block] += 1
-    return sorted(steps, key=lambda it: -it.steps)[:most]
+    found = sorted(steps, key=lambda it: -it.steps / len(it.addresses))[:most]
+    counts = accumulate(len(it.addresses) for it in found)
+    taken = [it for it, count in zip(found, counts) if count <= INSTRUCTIONS]
+    return sorted(taken, key=lambda it: -it.steps)

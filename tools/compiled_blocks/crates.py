@@ -4,6 +4,7 @@ from collections.abc import Iterable, Sequence
 
 from a64.form_types import PARTS, in_part
 from tombolopan_profile.counts import BYTES
+from compiled_blocks import numbers
 from compiled_blocks.choosing import Block
 from compiled_blocks.types import form_of, read_tables, written
 
@@ -11,14 +12,22 @@ ROW = 6  # the most instructions in a row: the prover's time grows with the dept
 ROWS = 4  # the most rows of a type: the prover does not follow a function over too many types
 GROUP = 6  # blocks of a type
 MOST = 1000  # blocks: a run has a place for as many (a64_blocks)
-PLACES = 65_536  # of the table from addresses to numbers
 
-HEAD = """\
+ROOT = """\
 //! The hottest blocks of images. Written by tools/translate.py.
 #![tactic(auto)]
 
-use a64_blocks::{{Again, Blocks, Cat, Code, Image, Last, Nothing, Seq}};
-{forms}use a64_registers::Regs;
+mod blocks;
+mod parts;
+
+pub use blocks::Images;
+"""
+
+HEAD = """\
+//! {said}
+
+use a64_blocks::{{{used}}};
+{more}use a64_registers::Regs;
 use a64_run::Edges;
 use a64_step::Outcome;
 use mte_tags::Tagged;
@@ -120,37 +129,48 @@ def joined(types: Sequence[str]) -> str:
     return f"Cat<{joined(types[:half])}, {joined(types[half:])}>"
 
 
-def block_types(number: int, block: Block) -> str:
-    """The type of a block, and those of its parts where it has too many rows for one."""
+def in_parts(block: Block) -> list[list[list[tuple[int, int]]]]:
+    """The rows of a block, so many together."""
     rows = in_rows(block)
-    parts = [rows[at:at + ROWS] for at in range(0, len(rows), ROWS)]
-    kinds = [joined([chain(row) for row in part]) for part in parts]
-    texts = []
-    if len(parts) > 1:
-        names = [f"B{number}Part{at}" for at in range(1, len(parts) + 1)]
-        texts = [CODE.format(name=name, type=kind, start=part[0][0][0], count=len(part[0]),
-                             inline="always")
-                 for name, kind, part in zip(names, kinds, parts)]
-        kinds = [joined(names)]
-    kind = f"Again<{kinds[0]}>" if block.again else kinds[0]
-    return "".join(texts) + CODE.format(name=f"B{number}", type=kind, start=block.start,
-                                        count=len(rows[0]), inline="never")
+    return [rows[at:at + ROWS] for at in range(0, len(rows), ROWS)]
 
 
-def match(asked: str, answers: Iterable[tuple[int, int]]) -> str:
-    arms = "".join(f"            {value} => {number},\n" for value, number in sorted(answers))
-    return f"match {asked} {{\n{arms}            _ => 0,\n        }}" if arms else "0"
+def kind_of(part: Sequence[Sequence[tuple[int, int]]]) -> str:
+    """The type of rows."""
+    return joined([chain(row) for row in part])
+
+
+def part_names(number: int, block: Block) -> list[str]:
+    """The names of a block's parts, where it has more than one."""
+    count = len(in_parts(block))
+    return [f"B{number}Part{at}" for at in range(1, count + 1)] if count > 1 else []
+
+
+def part_types(number: int, block: Block) -> str:
+    """The types of a block's parts. They are in another file than blocks, since what builds
+    programs without proof knows functions of a file by their names, and these are in line."""
+    return "".join(CODE.format(name=name, type=kind_of(part), start=part[0][0][0],
+                               count=len(part[0]), inline="always")
+                   for name, part in zip(part_names(number, block), in_parts(block)))
+
+
+def block_type(number: int, block: Block) -> str:
+    """The type of a block."""
+    names, parts = part_names(number, block), in_parts(block)
+    kind = joined(names) if names else kind_of(parts[0])
+    return CODE.format(name=f"B{number}", type=f"Again<{kind}>" if block.again else kind,
+                       start=block.start, count=len(parts[0][0]), inline="never")
 
 
 def place_of(block: Block) -> int:
     """Where the number of a block is looked up."""
-    return block.start // BYTES % PLACES
+    return block.start // BYTES % numbers.PLACES
 
 
 def group_types(blocks: Sequence[Block]) -> str:
     """The types from numbers to blocks, the last first."""
-    places = [(place_of(block), number) for number, block in enumerate(blocks, start=1)]
-    texts, after = [], "Nothing"
+    places = {place_of(block): number for number, block in enumerate(blocks, start=1)}
+    texts, after = [numbers.text_of(places, BYTES)], "Nothing"
     for first in reversed(range(0, len(blocks), GROUP)):
         kind = after
         for at in reversed(range(first, min(first + GROUP, len(blocks)))):
@@ -159,7 +179,7 @@ def group_types(blocks: Sequence[Block]) -> str:
         texts.append(IMAGE.format(
             name=after, type=kind, first=first + 1,
             pc="_pc" if first else "pc",
-            numbers="0" if first else match(f"pc / {BYTES} % {PLACES}", places)))
+            numbers="0" if first else "number_of(pc)"))
     return "".join(texts)
 
 
@@ -172,9 +192,18 @@ def form_imports(words: Iterable[int]) -> str:
                    if found)
 
 
-def text_of(blocks: Sequence[Block]) -> str:
-    """The source of the crate. Of blocks at one place the first is there."""
+def texts_of(blocks: Sequence[Block]) -> dict[str, str]:
+    """The sources of the crate, by their names. Of blocks at one place the first is there."""
     blocks = list({place_of(block): block for block in reversed(blocks)}.values())[::-1]
+    counted = list(enumerate(blocks, start=1))
+    names = [name for it in counted for name in part_names(*it)]
     forms = form_imports(word for block in blocks for word in block.words)
-    return HEAD.format(forms=forms) + "".join(
-        block_types(*it) for it in enumerate(blocks, start=1)) + group_types(blocks)
+    parts = HEAD.format(said="Parts of blocks.", used="Cat, Code, Last, Seq", more=forms)
+    types = HEAD.format(
+        said="Blocks and their numbers.",
+        used="Again, Blocks, Cat, Code, Image, Last, Nothing, Seq",
+        more=forms + (f"use crate::parts::{{{', '.join(names)}}};\n" if names else ""))
+    return {"lib.rt": ROOT,
+            "parts.rt": parts + "".join(part_types(*it) for it in counted),
+            "blocks.rt": types + "".join(block_type(*it) for it in counted)
+                         + group_types(blocks)}
