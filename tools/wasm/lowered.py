@@ -12,7 +12,7 @@ import unproved
 
 PROGRAM, SESSION = "mte_run", "session_frames"
 # What the page has beside mte_run is no crate of the gate: it is proved where a page is made.
-OWN = {SESSION: ["common", "mte_sched", "mte_session"]}
+OWN = {SESSION: ["common", "a64_run", "mte_sched", "mte_session"]}
 HERE = pathlib.Path(__file__).resolve().parent
 X86 = "x86_64-unknown-linux-gnu"
 # In place of clang: keeps the module that it is asked to compile, and stops.
