@@ -12,7 +12,8 @@ import time
 from collections.abc import Iterator, Sequence
 
 import pytest
-from wasm import archive, command, page as html_page, sources, table
+import unproved
+from wasm import archive, command, lowered, page as html_page, sources, table
 
 from tests.support import host_frames, page_speed, places, playground
 from tests.support.acts import EVERY_IMAGE
@@ -643,6 +644,18 @@ def test_sizes_and_sums(whole: pathlib.Path) -> None:
     _, parts = archive.split(gzip.decompress(archive.from_letters(kept[1])))
     module, session = (dict(parts)[name] for name in ("module.wasm", "session.wasm"))
     assert html_page.make_page(module, session, b'"no-proof" hidden' in text) == text.decode()
+
+
+@pytest.mark.skipif(not (ROOT / "crates/mte_session/out/rlib/mte_session.rlib").exists(),
+                    reason="the libraries are not proved here")
+def test_the_program_of_sessions_fits_the_libraries(tmp_path: pathlib.Path) -> None:
+    """The page's own program has the types that the proved libraries ask for. It is proved where
+    a page is made."""
+    kit = unproved.find_kit()
+    words = lowered.words_over_libraries(ROOT, kit, lowered.SESSION, "check")
+    checked = run([kit / "bin" / "rattle", *words[1:], "--only", ""],
+                  cwd=lowered.folder_of(ROOT, tmp_path, lowered.SESSION))
+    assert checked.status == 0, checked.output + checked.errors
 
 
 def test_each_name_is_declared_once() -> None:

@@ -68,22 +68,27 @@ def library(checkout: pathlib.Path, kit: pathlib.Path, crate: str) -> pathlib.Pa
     return own if own.is_dir() else kit / "rlibs" / f"{crate}.rlib"
 
 
-def build_words(checkout: pathlib.Path, kit: pathlib.Path, work: pathlib.Path,
-                name: str) -> list[str]:
-    """The command that proves a program, or a library for C, over proved libraries and compiles
-    it."""
+def words_over_libraries(checkout: pathlib.Path, kit: pathlib.Path, name: str,
+                         command: str) -> list[str]:
+    """A command of rattle on a program, or on a library for C, over proved libraries."""
     kind = ["src/main.rt"]
     if name in unproved.LIBRARY:
         kind = ["src/lib.rt", "--crate-type", "staticlib"]
-    words = ["rattle", "build", "--crate-name", name, *kind, "-L", f"dependency={kit}/rlibs"]
+    words = ["rattle", command, "--crate-name", name, *kind, "-L", f"dependency={kit}/rlibs"]
     for crate in dependencies(checkout, name):
         words += ["--extern", f"{crate}={library(checkout, kit, crate)}"]
     for folder in sorted((checkout / "crates").glob("*/out/rlib")):
         words += ["-L", f"dependency={folder}"]
+    return [*words, "--antt-project", f"{kit}/rattle/logic/antt-project.json", "--logic-built",
+            f"{kit}/logic_built", "--jobs", "1"]
+
+
+def build_words(checkout: pathlib.Path, kit: pathlib.Path, work: pathlib.Path,
+                name: str) -> list[str]:
+    """The command that proves it and compiles it."""
     return [
-        *words, "--antt-project", f"{kit}/rattle/logic/antt-project.json", "--logic-built",
-        f"{kit}/logic_built", "--jobs", "1", "--links", f"{name}=", "--target", X86,
-        "--toolchain", f"{work}/toolchain", "--backend", "llvm", "--incremental",
+        *words_over_libraries(checkout, kit, name, "build"), "--links", f"{name}=", "--target",
+        X86, "--toolchain", f"{work}/toolchain", "--backend", "llvm", "--incremental",
         f"{work}/incremental", "-o", f"{work}/{name}.o"]
 
 
