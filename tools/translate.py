@@ -6,12 +6,13 @@ them.
 
 FILE is an image, which this checkout's mte_run runs with each input and counts, or what
 `mte_run --profile` wrote of other runs; several files may be of one image or of several. The N
-blocks (300) that take the most steps become types of a64_forms and a64_blocks in a copy of this
-checkout in FOLDER, and the program of the copy is built without proof: mte_host, or
-libtombolopan_c.a, whose fuzzed runs take them (mte_host). With --proved it is proved, mte_host
-alone: what `rt ci` proved of the same crates on this machine is not proved once more. The program
-is in FOLDER then, and kept in $XDG_CACHE_HOME/tombolopan (~/.cache/tombolopan) for the next time
-that the same blocks are to be in the same sources.
+blocks (300) that take the most steps, 40 times or more in a run, become types of a64_forms and
+a64_blocks in a copy of this checkout in FOLDER, and the program of the copy is built without proof:
+mte_host, or libtombolopan_c.a, whose fuzzed runs take them (mte_host), so that only what is behind
+the first slice counts, where a yield ends that. With --proved it is proved, mte_host alone: what
+`rt ci` proved of the same crates on this machine is not proved once more. The program is in FOLDER
+then, and kept in $XDG_CACHE_HOME/tombolopan (~/.cache/tombolopan) for the next time that the same
+blocks are to be in the same sources.
 
 Reports are those of the program without blocks, for any image: a run takes a block only where its
 words are in memory, on pages without WRITE. a64_blocks proves that for all blocks, and nothing is
@@ -37,12 +38,14 @@ from tombolopan_profile import forms  # noqa: E402
 from compiled_blocks import choosing, crates  # noqa: E402
 
 MTE_RUN = ROOT / "crates" / "mte_run" / "out" / "mte_run"
-STEPS = "1000000000"
+STEPS, SLICE = "1000000000", "1048576"
 CRATE = "compiled_image"
 USES = "a64_forms a64_registers a64_run a64_step a64_blocks mte_tags"
 LISTED = re.compile(r"([a-z]\w*)[^:]*:(.*)")
 # The programs, and the crates that say which blocks their runs take.
 PROGRAMS = {"mte_host": "mte_host", "libtombolopan_c.a": "tombolopan_c"}
+# Of these the runs that take blocks are fuzzed.
+FUZZED = {"libtombolopan_c.a"}
 ALIAS = """\
 //! The blocks that runs take before their tables of decoded instructions.
 
@@ -63,41 +66,57 @@ class NotCounted(Exception):
     """A run of an image that was not counted, and why."""
 
 
-def count_runs(image: pathlib.Path, inputs: Sequence[pathlib.Path],
-               folder: pathlib.Path) -> list[pathlib.Path]:
-    """What mte_run counts of an image's runs with some inputs, or of one without input."""
+def count_run(image: pathlib.Path, words: Sequence[str], folder: pathlib.Path) -> pathlib.Path:
+    """What mte_run counts of a run of an image."""
     if not MTE_RUN.exists():
         raise NotCounted(f"there is no {MTE_RUN.relative_to(ROOT)} (tools/build.sh)")
-    found = []
-    for words in [["--input", str(it)] for it in inputs] or [[]]:
-        found.append(folder / f"{len(os.listdir(folder))}.counts")
-        ran = subprocess.run([MTE_RUN, "--profile", found[-1], "--steps", STEPS, *words,
-                              image.resolve()], stdout=subprocess.DEVNULL, stderr=subprocess.PIPE,
-                             text=True, errors="replace")
-        if not found[-1].exists():
-            raise NotCounted(f"{image}: {ran.stderr.strip()}")
+    found = folder / f"{len(os.listdir(folder))}.counts"
+    ran = subprocess.run([MTE_RUN, "--profile", found, *words, image.resolve()],
+                         stdout=subprocess.DEVNULL, stderr=subprocess.PIPE, text=True,
+                         errors="replace")
+    if not found.exists():
+        raise NotCounted(f"{image}: {ran.stderr.strip()}")
     return found
+
+
+def count_setup(image: pathlib.Path, folder: pathlib.Path) -> run_counts.Counts:
+    """The counts of an image's first slice, where a yield ends it: fuzzed runs begin behind it.
+    Nothing where no yield does."""
+    counts = run_counts.read_files([count_run(image, ["--slices", SLICE], folder)])
+    has_yielded = counts.events and counts.events[-1].what == "yield"
+    return counts if has_yielded else run_counts.Counts()
 
 
 def counts_of(files: Iterable[pathlib.Path], inputs: Sequence[pathlib.Path],
               folder: pathlib.Path) -> list[pathlib.Path]:
-    """The counts of runs: those of files, and of images as they run here."""
+    """The counts of runs: those of files, and of images as they run here with each input, or once
+    without."""
     found = []
     for file in files:
         with open(file, "rb") as opened:
             is_image = opened.read(4) == b"\x7fELF"
-        found += count_runs(file, inputs, folder) if is_image else [file]
+        found += [count_run(file, ["--steps", STEPS, *words], folder)
+                  for words in [["--input", str(it)] for it in inputs] or [[]]
+                  ] if is_image else [file]
     return found
 
 
-def read_profiles(files: Iterable[pathlib.Path]) -> list[choosing.Profile]:
-    """The images of some counts, with all that were counted of each."""
-    groups: dict[str, list[pathlib.Path]] = {}
+def read_profiles(files: Iterable[pathlib.Path], folder: pathlib.Path | None = None,
+                  ) -> list[choosing.Profile]:
+    """The images of some counts, with all that were counted of each; where a folder for more
+    counts is given, behind their setups."""
+    groups: dict[str, list[run_counts.Counts]] = {}
     for file in files:
-        groups.setdefault(run_counts.read_files([file]).image, []).append(file)
-    return [choosing.Profile(run_counts.read_files(group),
-                             forms.words_of(pathlib.Path(image).read_bytes()))
-            for image, group in groups.items()]
+        counts = run_counts.read_files([file])
+        groups.setdefault(counts.image, []).append(counts)
+    found = []
+    for name, group in groups.items():
+        if any(it.image_told() != group[0].image_told() for it in group):
+            raise run_counts.WrongCounts(f"there are counts of several images called {name}")
+        image = pathlib.Path(name)
+        setup = run_counts.Counts() if folder is None else count_setup(image, folder)
+        found.append(choosing.Profile(group, forms.words_of(image.read_bytes()), setup))
+    return found
 
 
 def listed_files() -> list[str]:
@@ -210,12 +229,18 @@ def main() -> int:
         return leave("--proved is of mte_host alone")
     try:
         with tempfile.TemporaryDirectory() as made:
-            counts = counts_of(options.files, options.input, pathlib.Path(made))
-            profiles = read_profiles(counts)
-        options.out.mkdir(parents=True)
+            folder = pathlib.Path(made)
+            counts = counts_of(options.files, options.input, folder)
+            profiles = read_profiles(counts, folder if options.program in FUZZED else None)
     except (OSError, NotCounted, run_counts.WrongCounts) as error:
         return leave(str(error))
     blocks = choosing.choose(profiles, options.blocks)
+    if not blocks:
+        return leave(f"no block is executed {choosing.EXECUTIONS} times in a run that has it")
+    try:
+        options.out.mkdir(parents=True)
+    except OSError as error:
+        return leave(str(error))
     steps = sum(it.steps for it in profiles)
     print(f"{len(blocks)} blocks of {sum(len(it.addresses) for it in blocks)} instructions, about "
           f"{min(1, sum(it.steps for it in blocks) / steps):.0%} of {steps} steps", flush=True)

@@ -3,9 +3,10 @@
 from __future__ import annotations
 
 from collections import Counter, defaultdict
-from collections.abc import Iterable, Mapping
+from collections.abc import Iterable, Mapping, Sequence
 from dataclasses import dataclass
 from itertools import accumulate
+from typing import TypeVar
 
 from tombolopan_profile.counts import BYTES, Counts
 from compiled_blocks.types import JUMPS, form_of
@@ -14,10 +15,14 @@ LONGEST = 48  # the most instructions of a block
 # So many instructions pay for a way to a block from one that has no type, which is a step alone.
 SHORTEST = 4
 LEAST = 0.1  # of the executions of a block's first instruction, those of any other one of it
+# So many executions in a run pay for the look at whether a block's words are there, and for its
+# code, which is some 25 times as long as the block.
+EXECUTIONS = 40
 # The most instructions of all blocks: the toolchain makes no more than 65,536 copies of generic
 # functions, some nine for each.
 INSTRUCTIONS = 6500
 DIRECT = {"Jump", "Call"}  # the jumps that lead to one address
+T = TypeVar("T")
 
 
 @dataclass(frozen=True)
@@ -42,6 +47,12 @@ class Block:
         return following(self.addresses[-1], self.words[-1])
 
 
+def less(counts: Mapping[T, int], others: Mapping[T, int]) -> Counter[T]:
+    """Counts less others, where something is left."""
+    return Counter({it: left for it, count in counts.items()
+                    if (left := count - others.get(it, 0)) > 0})
+
+
 def following(address: int, word: int) -> int:
     """The address after an instruction that does not branch on a condition."""
     form = form_of(word)
@@ -51,21 +62,37 @@ def following(address: int, word: int) -> int:
 
 
 class Profile:
-    """An image: its words, and how often control comes to an address over a jump that a block does
-    not follow, and goes from an address to others than the next."""
+    """An image: its words, in how many runs each instruction was executed and how often in all, how
+    often control comes to an address over a jump that a block does not follow, and goes from an
+    address to others than the next. Where the counts of a setup are given, with which each run
+    begins, what is behind it counts alone."""
 
-    def __init__(self, counts: Counts, words: Mapping[int, int]) -> None:
-        self.words, self.steps = words, counts.steps
-        self.executed = counts.executions()
+    def __init__(self, runs: Sequence[Counts], words: Mapping[int, int],
+                 setup: Counts = Counts()) -> None:
+        self.words, self.steps = words, sum(it.steps - setup.steps for it in runs)
+        self.executed: Counter[int] = Counter()
+        self.runs: Counter[int] = Counter()
         self.taken: dict[int, Counter[int]] = defaultdict(Counter)
-        self.entered: Counter[int] = Counter(first for first, _, _ in counts.runs)
-        for (source, target), count in counts.branches.items():
-            self.taken[source][target] += count
-            form = form_of(words.get(source, 0))
-            if form is None or form[0] not in DIRECT:
-                self.entered[target] += count
+        self.entered: Counter[int] = Counter()
+        before = setup.executions()
+        for run in runs:
+            found = less(run.executions(), before)
+            self.executed.update(found)
+            self.runs.update(found.keys())
+            self.enter(less(Counter(first for first, _, _ in run.runs),
+                            Counter(first for first, _, _ in setup.runs)),
+                       less(run.branches, setup.branches))
         for address in self.executed:
             self.note_next(address)
+
+    def enter(self, firsts: Counter[int], branches: Counter[tuple[int, int]]) -> None:
+        """Notes where a run begins, and its branches."""
+        self.entered.update(firsts)
+        for (source, target), count in branches.items():
+            self.taken[source][target] += count
+            form = form_of(self.words.get(source, 0))
+            if form is None or form[0] not in DIRECT:
+                self.entered[target] += count
 
     def note_next(self, address: int) -> None:
         """Notes how often a jump that a block does not follow led to the next instruction in
@@ -119,7 +146,11 @@ class Profile:
                     found[start] = None
             if share >= 1 and after not in found:
                 waiting[after] += round(share)
-        return [it for it in found.values() if it is not None]
+        return [it for it in found.values() if it is not None and self.pays(it)]
+
+    def pays(self, block: Block) -> bool:
+        """Whether runs that execute a block do so often enough."""
+        return self.executed[block.start] >= EXECUTIONS * self.runs[block.start]
 
 
 def choose(profiles: Iterable[Profile], most: int) -> list[Block]:
