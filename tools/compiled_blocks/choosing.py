@@ -16,7 +16,7 @@ LONGEST = 48  # the most instructions of a block
 SHORTEST = 4
 LEAST = 0.1  # of the executions of a block's first instruction, those of any other one of it
 # So many executions in a run pay for the look at whether a block's words are there, and for its
-# code, which is some 25 times as long as the block.
+# code, some 300 bytes for an instruction.
 EXECUTIONS = 40
 # The most instructions of all blocks: the toolchain makes no more than 65,536 copies of generic
 # functions, some nine for each.
