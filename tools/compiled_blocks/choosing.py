@@ -69,7 +69,7 @@ class Profile:
 
     def __init__(self, runs: Sequence[Counts], words: Mapping[int, int],
                  setup: Counts = Counts()) -> None:
-        self.words, self.steps = words, sum(it.steps - setup.steps for it in runs)
+        self.words = words
         self.executed: Counter[int] = Counter()
         self.runs: Counter[int] = Counter()
         self.taken: dict[int, Counter[int]] = defaultdict(Counter)
@@ -82,6 +82,7 @@ class Profile:
             self.enter(less(Counter(first for first, _, _ in run.runs),
                             Counter(first for first, _, _ in setup.runs)),
                        less(run.branches, setup.branches))
+        self.steps = sum(self.executed.values())
         for address in self.executed:
             self.note_next(address)
 
