@@ -1,5 +1,5 @@
 /* Runs an image from its snapshot over some inputs, each in one slice and in short ones, and writes
-   how each run ended and a sum of its counts of edges.
+   how each run ended, a sum of all that is told of that, and one of its counts of edges.
 
        edges IMAGE SETUP EDGES CUT INPUT... */
 #include <stdio.h>
@@ -24,19 +24,22 @@ static size_t read_file(const char *name, uint8_t *bytes, size_t room) {
     return length;
 }
 
+static unsigned long long sum_of(const void *bytes, size_t length) {
+    unsigned long long sum = 0xcbf29ce484222325;
+    for (size_t i = 0; i < length; i++)
+        sum = (sum ^ ((const uint8_t *)bytes)[i]) * 0x100000001b3;
+    return sum;
+}
+
 static void run(size_t length, size_t first, size_t edges) {
     tb_fuzz_input input = {given, length, cuts + first, CUTS + 1 - first, 1, 0};
     tb_alone_end end;
-    unsigned long long sum = 0xcbf29ce484222325;
     uint32_t code;
     memset(&end, 0, sizeof end);
     memset(counts, 0, sizeof counts);
     code = tb_fuzz_run(&fuzz, &input, counts, edges, &end);
-    for (size_t i = 0; i < edges; i++)
-        sum = (sum ^ counts[i]) * 0x100000001b3;
-    printf("%u %u %u %llx %llu %llx\n", (unsigned)code, (unsigned)end.status.status,
-           (unsigned)end.status.number, (unsigned long long)end.status.pc,
-           (unsigned long long)end.steps, sum);
+    printf("%u %u %llu %llx %llx\n", (unsigned)code, (unsigned)end.status.status,
+           (unsigned long long)end.steps, sum_of(&end, sizeof end), sum_of(counts, edges));
 }
 
 int main(int count, char **words) {
